@@ -1,0 +1,50 @@
+-- A refusal is known by its number and place, so `refusedBy` loses nothing. Assumes nothing.
+use Prim.Native.Nat.{ℕ}
+use mathlib.Core.Path.{_≡_, refl, sym, _∙_, ap}
+use lib.Dec.{eqb}
+use Rattle.refusal.specs.Pick.{pick}
+use Rattle.refusal.specs.Said.{numberOf, placeOf}
+use Rattle.refusal.specs.declared.Refusal.{Refusal}
+use Rattle.refusal.specs.declared.Refusal.the-variants.{UnexpectedEof, BadMagic, BadLeb128, BadUtf8, MalformedSection, Directive, BadDefault, BadDomain}
+use Rattle.refusal.specs.declared.Refusal.the-variants.{PackageInWorld, NoName, Unmatched, Outside, Full, TooLong, BadTable, NoRoom}
+
+-- the refusal that has a number and a place
+abbrev pub refusalOf : ℕ → ℕ → Refusal
+refusalOf n p =
+    pick (eqb n 1) (UnexpectedEof p)
+    (pick (eqb n 2) (BadMagic p)
+    (pick (eqb n 3) (BadLeb128 p)
+    (pick (eqb n 4) (BadUtf8 p)
+    (pick (eqb n 5) (MalformedSection p)
+    (pick (eqb n 6) (Directive p)
+    (pick (eqb n 7) (BadDefault p)
+    (pick (eqb n 8) (BadDomain p)
+    (pick (eqb n 9) (PackageInWorld p)
+    (pick (eqb n 10) (NoName p)
+    (pick (eqb n 11) (Unmatched p)
+    (pick (eqb n 12) (Outside p)
+    (pick (eqb n 13) (Full p)
+    (pick (eqb n 14) TooLong
+    (pick (eqb n 15) (BadTable p)
+    (NoRoom p)))))))))))))))
+
+pub known : (w : Refusal) → refusalOf (numberOf w) (placeOf w) ≡ w
+known (UnexpectedEof p) = refl
+known (BadMagic p) = refl
+known (BadLeb128 p) = refl
+known (BadUtf8 p) = refl
+known (MalformedSection p) = refl
+known (Directive p) = refl
+known (BadDefault p) = refl
+known (BadDomain p) = refl
+known (PackageInWorld p) = refl
+known (NoName p) = refl
+known (Unmatched p) = refl
+known (Outside p) = refl
+known (Full p) = refl
+known TooLong = refl
+known (BadTable p) = refl
+known (NoRoom p) = refl
+
+pub same-refusal : (v w : Refusal) → numberOf v ≡ numberOf w → placeOf v ≡ placeOf w → v ≡ w
+same-refusal v w n p = sym (known v) ∙ ap (λ (k : ℕ). refusalOf k (placeOf v)) n ∙ ap (refusalOf (numberOf w)) p ∙ known w

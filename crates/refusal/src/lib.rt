@@ -1,0 +1,81 @@
+// The numbered answers of docs/RULES.md, and the small values that every crate hands around.
+ghost use mathlib.Core.Path.{_≡_};
+ghost use Rattle.refusal.specs.Said.{numberOf, placeOf};
+
+// Why a call gave no answer, and where: a case for each number, 1 to 16 in this order.
+pub enum Refusal {
+    UnexpectedEof(usize),
+    BadMagic(usize),
+    BadLeb128(usize),
+    BadUtf8(usize),
+    MalformedSection(usize),
+    Directive(usize),
+    BadDefault(usize),
+    BadDomain(usize),
+    PackageInWorld(usize),
+    NoName(usize),
+    Unmatched(usize),
+    Outside(usize),
+    Full(usize),
+    TooLong,
+    BadTable(usize),
+    NoRoom(usize),
+}
+
+// A range of bytes.
+pub struct Part {
+    pub from: usize,
+    pub len: usize,
+}
+
+// A short word by value: its bytes, then zeros.
+pub struct Slug {
+    pub bytes: [u8; 10],
+    pub len: usize,
+}
+
+pub fn number(r: Refusal) -> u32
+    ensures { λ n. ⌜ n ≡ numberOf r ⌝ }
+{
+    match r {
+        Refusal::UnexpectedEof(_) => 1,
+        Refusal::BadMagic(_) => 2,
+        Refusal::BadLeb128(_) => 3,
+        Refusal::BadUtf8(_) => 4,
+        Refusal::MalformedSection(_) => 5,
+        Refusal::Directive(_) => 6,
+        Refusal::BadDefault(_) => 7,
+        Refusal::BadDomain(_) => 8,
+        Refusal::PackageInWorld(_) => 9,
+        Refusal::NoName(_) => 10,
+        Refusal::Unmatched(_) => 11,
+        Refusal::Outside(_) => 12,
+        Refusal::Full(_) => 13,
+        Refusal::TooLong => 14,
+        Refusal::BadTable(_) => 15,
+        Refusal::NoRoom(_) => 16,
+    }
+}
+
+pub fn place(r: Refusal) -> usize
+    ensures { λ p. ⌜ p ≡ placeOf r ⌝ }
+{
+    match r {
+        Refusal::UnexpectedEof(at) => at,
+        Refusal::BadMagic(at) => at,
+        Refusal::BadLeb128(at) => at,
+        Refusal::BadUtf8(at) => at,
+        Refusal::MalformedSection(at) => at,
+        Refusal::Directive(line) => line,
+        Refusal::BadDefault(line) => line,
+        Refusal::BadDomain(line) => line,
+        Refusal::PackageInWorld(line) => line,
+        Refusal::NoName(line) => line,
+        Refusal::Unmatched(line) => line,
+        Refusal::Outside(line) => line,
+        Refusal::Full(table) => table,
+        Refusal::TooLong => 0,
+        Refusal::BadTable(row) => row,
+        Refusal::NoRoom(needed) => needed,
+    }
+}
