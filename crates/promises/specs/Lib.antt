@@ -1,0 +1,5 @@
+pub mod Decides
+pub mod OfRefusal
+pub mod OfLeb
+pub mod Examples
+pub mod Rejected
