@@ -5,18 +5,16 @@ use mathlib.Core.Bool.{Bool, true, false}
 use mathlib.Core.List.{List, [], _∷_, _++_, map}
 use Prim.Native.Nat.{ℕ, suc, _+_, _-_, _*_, _/_, _%_, _≤_, _<_}
 use native.Mathlib.Omega.{arith}
-use lib.Dec.{ltb, eqb}
+use lib.Dec.{ltb}
 use lib.ListN.{length, drop, length-append}
 use lib.Seq.{drop-append-seam}
-use borrow.Author.Tests.{lt-ltb, le-ltb, le-leb, ltb-true, ltb-false, ne-eqb}
-use Rattle.refusal.specs.Pick.{pick, both, within}
+use borrow.Author.Tests.{lt-ltb, le-ltb, le-leb, ltb-true, ltb-false}
+use Rattle.refusal.specs.Pick.{pick, within}
 use Rattle.text.specs.Utf8.{follow, followIn, after, covers, seqLen, upTo}
 use Rattle.text.specs.Steps.{ranges}
 use Rattle.text.specs.Chars.{more, codeBy, codeOf, Char, char, charsFrom, chars}
 use Rattle.text.specs.Scan.{scan}
-use Rattle.text.specs.White.{isWhite}
-use Rattle.text.specs.Trim.{startLen, endLen, trimStart, trimEnd}
-use Rattle.text.specs.Encode.{Scalar, encode, encodeAll, keep, dropEnd, takeWhile}
+use Rattle.text.specs.Encode.{Scalar, encode, encodeAll, Scalars, empty, point}
 use Rattle.text.proofs.Laws.{scan-cons}
 use Rattle.text.proofs.Utf8Laws.{leads}
 use Rattle.text.proofs.CharLaws.{chars-next, more-of}
@@ -145,7 +143,7 @@ module _ (c : ℕ) (s : List ℕ) where
           enc-4 p (⊎-elim (λ w. omega arith) (λ w. w .1) sc)
 
 -- ---- the characters of a text made of code points are those code points
-nonempty : (c : ℕ) → 0 < length (encode c)
+pub nonempty : (c : ℕ) → 0 < length (encode c)
 unfolding encode
 nonempty c = by (ltb c 0x80) (ltb c 0x800) (ltb c 0x10000)
   where
@@ -165,24 +163,19 @@ chars-encode c s sc =
     let h : 0 < length (encode c ++ s) = omega (arith, length-append (encode c) s) in
     chars-next (encode c ++ s) 0 h ∙ rw (w .code, m, p, drop-append-seam (encode c) s)
 
--- every code point of the text is a scalar value
-pub data Scalars : List ℕ → Type 0 where
-  none : Scalars []
-  one : {c : ℕ} {cs : List ℕ} → Scalar c → Scalars cs → Scalars (c ∷ cs)
-
 abbrev pub charOf : ℕ → Char
 charOf c = char c (length (encode c) - 1)
 
 pub chars-all : {cs : List ℕ} → Scalars cs → chars (encodeAll cs) ≡ map charOf cs
 unfolding encodeAll chars charsFrom
-chars-all none = refl
-chars-all (one {c = c} {cs = cs} h hs) = chars-encode c (encodeAll cs) h ∙ ap (λ (l : List Char). charOf c ∷ l) (chars-all hs)
+chars-all empty = refl
+chars-all (point {c = c} {cs = cs} h hs) = chars-encode c (encodeAll cs) h ∙ ap (λ (l : List Char). charOf c ∷ l) (chars-all hs)
 
 -- ---- a text of scalar values is well formed
 pub well-formed : {cs : List ℕ} → Scalars cs → upTo (encodeAll cs) ≡ length (encodeAll cs)
 unfolding upTo encodeAll scan
-well-formed none = refl
-well-formed (one {c = c} {cs = cs} h hs) =
+well-formed empty = refl
+well-formed (point {c = c} {cs = cs} h hs) =
     let n = nonempty c in
     let w = encoded c (encodeAll cs) h in
     let k : length (encode c) ≡ suc (length (encode c) - 1) = omega arith in
@@ -190,35 +183,3 @@ well-formed (one {c = c} {cs = cs} h hs) =
     let e = scan-cons seqLen (encode c ++ encodeAll cs) (length (encode c) - 1) (w .long ∙ k) (omega (arith, l)) in
     let d : scan seqLen 0 (drop (suc (length (encode c) - 1)) (encode c ++ encodeAll cs)) ≡ scan seqLen 0 (encodeAll cs) = rw (← k, drop-append-seam (encode c) (encodeAll cs)) in
     omega (arith, e, d, l, well-formed hs)
-
--- ---- White_Space is removed by code points
-size : (c : ℕ) → suc (length (encode c) - 1) ≡ length (encode c)
-size c = omega (arith, nonempty c)
-
-start-map : (cs : List ℕ) → startLen (map charOf cs) ≡ length (encodeAll (takeWhile isWhite cs))
-unfolding startLen takeWhile encodeAll
-start-map [] = refl
-start-map (c ∷ cs) = by (isWhite c) (start-map cs)
-  where
-    by : (t : Bool) → startLen (map charOf cs) ≡ length (encodeAll (takeWhile isWhite cs)) → pick t (suc (length (encode c) - 1) + startLen (map charOf cs)) 0 ≡ length (encodeAll (pick t (c ∷ takeWhile isWhite cs) []))
-    by true ih = omega (arith, size c, ih, length-append (encode c) (encodeAll (takeWhile isWhite cs)))
-    by false ih = refl
-
-end-map : (cs : List ℕ) → endLen (map charOf cs) ≡ length (encodeAll (dropEnd isWhite cs))
-unfolding endLen dropEnd encodeAll keep
-end-map [] = refl
-end-map (c ∷ cs) = by (isWhite c) (endLen (map charOf cs)) (dropEnd isWhite cs) (end-map cs)
-  where
-    by : (t : Bool) (n : ℕ) (ds : List ℕ) → n ≡ length (encodeAll ds) → pick (both t (eqb n 0)) 0 (suc (length (encode c) - 1) + n) ≡ length (encodeAll (keep t c ds))
-    by true n [] ih = rw ih
-    by true n (d ∷ ds) ih = rw (ne-eqb n 0 (λ z. omega (arith, z, ih, nonempty d, length-append (encode d) (encodeAll ds)))) (omega (arith, size c, ih, length-append (encode c) (encodeAll (d ∷ ds))))
-    by false n [] ih = omega (arith, size c, ih, length-append (encode c) [])
-    by false n (d ∷ ds) ih = omega (arith, size c, ih, length-append (encode c) (encodeAll (d ∷ ds)))
-
-pub start-encode : {cs : List ℕ} → Scalars cs → trimStart (encodeAll cs) ≡ length (encodeAll (takeWhile isWhite cs))
-unfolding trimStart
-start-encode {cs} h = rw (chars-all h) (start-map cs)
-
-pub end-encode : {cs : List ℕ} → Scalars cs → trimEnd (encodeAll cs) ≡ length (encodeAll (dropEnd isWhite cs))
-unfolding trimEnd
-end-encode {cs} h = rw (chars-all h) (end-map cs)

@@ -10,6 +10,12 @@ use Rattle.refusal.specs.Pick.{pick}
 abbrev pub Scalar : ℕ → Type 0
 Scalar c = (c < 0xD800) ⊎ ((0xE000 ≤ c) × (c < 0x110000))
 
+-- a list of them
+pub data Scalars : List ℕ → Type 0 where
+  empty : Scalars []
+  point : {c : ℕ} {cs : List ℕ} → Scalar c → Scalars cs → Scalars (c ∷ cs)
+
+-- the bytes of a code point
 unfoldable pub encode : ℕ → List ℕ
 encode c =
     pick (ltb c 0x80) (c ∷ [])
@@ -22,6 +28,7 @@ unfoldable pub encodeAll : List ℕ → List ℕ
 encodeAll [] = []
 encodeAll (c ∷ cs) = encode c ++ encodeAll cs
 
+-- ---- code points at the ends of a text
 -- c before cs, unless it is to go and nothing stands after it
 unfoldable pub keep : Bool → ℕ → List ℕ → List ℕ
 keep true c [] = []
@@ -38,3 +45,8 @@ dropEnd p (c ∷ cs) = keep (p c) c (dropEnd p cs)
 unfoldable pub takeWhile : (ℕ → Bool) → List ℕ → List ℕ
 takeWhile p [] = []
 takeWhile p (c ∷ cs) = pick (p c) (c ∷ takeWhile p cs) []
+
+-- without them
+unfoldable pub dropStart : (ℕ → Bool) → List ℕ → List ℕ
+dropStart p [] = []
+dropStart p (c ∷ cs) = pick (p c) (dropStart p cs) (c ∷ cs)
