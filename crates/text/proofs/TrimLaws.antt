@@ -5,17 +5,17 @@ use mathlib.Core.List.{List, [], _∷_, _++_}
 use Prim.Native.Nat.{ℕ, suc, _+_, _-_, _<_, _≤_}
 use native.Mathlib.Omega.{arith}
 use native.Mathlib.Nat.{zero-add}
-use lib.ListN.{length-drop, length, length-append, take, drop}
-use lib.Seq.{take-length}
+use lib.ListN.{length-drop, length, length-append, take, drop, getD}
+use lib.Seq.{length-take-le, take-suc, take-length}
 use lib.Dec.{eqb}
 use borrow.Author.Tests.{ne-eqb}
 use Rattle.refusal.specs.Pick.{pick, both}
-use Rattle.text.specs.Chars.{Char, char, chars}
+use Rattle.text.specs.Chars.{charsFrom, Char, char, chars}
 use Rattle.text.specs.White.{isWhite}
 use Rattle.text.specs.Trim.{startLen, endLen, trimStart, trimEnd, trimOf, started, trimmed}
 use Rattle.text.proofs.CharLaws.{bytes-of, end-long, start-long}
 use Rattle.text.proofs.Laws.{both-one, both-two}
-use Rattle.text.proofs.SplitLaws.{Cut, chars-cut, bytes-all, allProper, proper-append, well, chars-ascii}
+use Rattle.text.proofs.SplitLaws.{ascii-one, Cut, chars-cut, bytes-all, allProper, proper-append, well, chars-ascii}
 
 -- ---- the characters that stay and that go, at the end and at the start
 unfoldable kept : List Char → List Char
@@ -170,3 +170,35 @@ pub end-after : (w : List ℕ) (x : ℕ) (t : List ℕ) → x < 0x80 → trimEnd
 unfolding trimEnd
 end-after w x t h e =
     rw (chars-ascii w x t h) (end-append (chars w) (chars (x ∷ t)) (omega arith) ∙ rw (bytes-all w, e) (sym (length-append w (x ∷ t))))
+
+-- ---- the end of a text by its last byte, if that is ASCII
+blank-append : (cs : List Char) (x : ℕ) → isWhite x ≡ true → endLen (cs ++ char x 0 ∷ []) ≡ endLen cs
+unfolding endLen
+blank-append [] x e = rw e
+blank-append (char c m ∷ cs) x e = rw (blank-append cs x e)
+
+module _ (s : List ℕ) (e : ℕ) (some : 0 < e) (inside : e ≤ length s) (ascii : getD s (e - 1) 0 < 0x80) where
+  last-char : chars (take e s) ≡ chars (take (e - 1) s) ++ char (getD s (e - 1) 0) 0 ∷ []
+  unfolding chars charsFrom
+  last-char =
+      let w = take (e - 1) s in
+      let x = getD s (e - 1) 0 in
+      let p : e ≡ suc (e - 1) = omega arith in
+      let q : take e s ≡ w ++ x ∷ [] = ap (λ (k : ℕ). take k s) p ∙ take-suc s (e - 1) 0 (omega arith) in
+      rw q (chars-ascii w x [] ascii ∙ ap (λ (cs : List Char). chars w ++ cs) (ascii-one x [] ascii))
+
+  -- White_Space goes
+  pub end-goes : isWhite (getD s (e - 1) 0) ≡ true → trimEnd (take e s) ≡ trimEnd (take (e - 1) s)
+  unfolding trimEnd
+  end-goes y = ap endLen last-char ∙ blank-append (chars (take (e - 1) s)) (getD s (e - 1) 0) y
+
+  -- any other byte stays, and all before it
+  pub end-stays : isWhite (getD s (e - 1) 0) ≡ false → trimEnd (take e s) ≡ e
+  unfolding trimEnd endLen
+  end-stays n =
+      let w = take (e - 1) s in
+      let x = getD s (e - 1) 0 in
+      let one : endLen (char x 0 ∷ []) ≡ 1 = rw n in
+      let a = end-append (chars w) (char x 0 ∷ []) (omega (arith, one)) in
+      let l = length-take-le (e - 1) s (omega arith) in
+      ap endLen last-char ∙ omega (arith, a, one, bytes-all w, l)

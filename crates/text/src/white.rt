@@ -122,8 +122,27 @@ pub fn trim_start(s: &[u8]) -> usize
     at
 }
 
-// How many bytes stay when the White_Space at the end is removed.
+// How many bytes stay when the White_Space at the end is removed. An ASCII byte at the end is a character whatever stands before it,
+// so that a text is read from its front only where another byte stands there.
 pub fn trim_end(s: &[u8]) -> usize
+    ensures { λ r. ⌜ r ≡ trimEnd (now (s .entry)) ⌝ }
+{
+    let mut end = s.len();
+    while 0 < end {
+        let last = s[end - 1];
+        if 0x80 <= last {
+            return scan_end(&s[..end]);
+        }
+        if !is_white(last as u32) {
+            return end;
+        }
+        end -= 1;
+    }
+    end
+}
+
+// The same, character by character from the front: where the last that is not White_Space ends.
+fn scan_end(s: &[u8]) -> usize
     ensures { λ r. ⌜ r ≡ trimEnd (now (s .entry)) ⌝ }
 {
     let mut last = 0;

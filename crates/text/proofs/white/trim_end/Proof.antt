@@ -1,101 +1,51 @@
--- `trim_end` meets its contract. Assumes nothing.
+-- `trim_end` meets its contract: what stays of the text stays of its first `end` bytes. Assumes nothing.
 use mathlib.Core.Path.{_≡_, sym, ap, _∙_}
-use mathlib.Core.Bool.{true, false}
-use Prim.Native.Nat.{_-_, _≤_}
+use Prim.Native.Nat.{_≤_}
 use native.Mathlib.Omega.{arith}
-use lib.ListN.{length, drop}
+use lib.ListN.{length, take}
+use lib.Seq.{length-take-le, take-length}
 use borrow.Author.Needs.{needs}
 use borrow.Author.Tests.{not-true, not-false}
-use Rattle.text.specs.White.{isWhite}
-use Rattle.text.specs.Chars.{codeOf, chars}
-use Rattle.text.specs.Trim.{endLen, trimEnd}
-use Rattle.text.specs.Lines.{before}
-use Rattle.text.proofs.CharLaws.{more-long, chars-end, ends, ends-start, end-white, end-other}
+use Rattle.text.specs.Trim.{trimEnd}
+use Rattle.text.proofs.CharLaws.{end-long}
+use Rattle.text.proofs.TrimLaws.{end-goes, end-stays}
 use Rattle.text.proofs.white.trim_end.Statement.{statement}
 use Rattle.text.proofs.white.trim_end.Tie as tie
 
 abbrev Inv-loop : tie.InvT-loop
-Inv-loop s last₀ at₀ last at = (at ≤ length s) × (trimEnd s ≡ ends last at (endLen (chars (drop at s))))
+Inv-loop s end₀ end = (end ≤ length s) × (trimEnd s ≡ trimEnd (take end s))
 
 abbrev μ-loop : tie.MeasureT-loop
-μ-loop s last₀ at₀ last at = length s - at
+μ-loop s end₀ end = end
 
 loop-holds : tie.Need-loop-holds Inv-loop μ-loop
-unfolding trimEnd
-loop-holds c = (omega arith, ends-start _)
+loop-holds c = (omega arith, ap trimEnd (sym (take-length (c .before .args .s .now))))
 
-char-at-requires : tie.Need-char-at-requires Inv-loop μ-loop
-char-at-requires c κs = omega arith
+part : tie.Need-slice-aggregate-scan-end Inv-loop μ-loop
+part c = let l = c .before .before .before .before in sym (length-take-le (l .loop .end) (l .before .before .args .s .now) (omega arith))
 
-add-at : tie.Need-add-at Inv-loop μ-loop
-add-at c =
-    let l = c .before .before in
-    let m = more-long (l .before .before .args .s .now) (l .loop .at) (omega arith) in
-    let n = c .char-at .ensures .1 in
-    omega (arith, m, n)
+returns : tie.Need-returns Inv-loop μ-loop
+returns c = c .scan-end .ensures ∙ sym (c .before .before .before .before .before .loop .inv .1)
 
-add-at-2 : tie.Need-add-at-2 Inv-loop μ-loop
-add-at-2 c =
-    let l = c .before .before in
-    let m = more-long (l .before .before .args .s .now) (l .loop .at) (omega arith) in
-    let n = c .char-at .ensures .1 in
-    omega (arith, m, n)
-
-is-white-requires : tie.Need-is-white-requires Inv-loop μ-loop
-is-white-requires c κs = search needs
-
-loop-less : tie.Need-loop-less Inv-loop μ-loop
-loop-less c =
-    let w = c .before in
-    let g = w .before .char-at in
-    let l = w .before .before .before in
-    let s = l .before .before .args .s .now in
-    let m = more-long s (l .loop .at) (omega arith) in
-    let n = g .ensures .1 in
-    let t : isWhite (codeOf (drop (l .loop .at) s)) ≡ false = ap isWhite (sym (g .ensures .0)) ∙ sym (w .is-white .ensures) ∙ not-true _ (c .if1 .taken) in
-    omega (arith, m, n)
+returns-2 : tie.Need-returns-2 Inv-loop μ-loop
+returns-2 c =
+    let l = c .before .before .before .before .before in
+    let no = sym (c .before .is-white .ensures) ∙ not-true _ (c .if2 .taken) in
+    sym (l .loop .inv .1 ∙ end-stays (l .before .before .args .s .now) (l .loop .end) (omega arith) (omega arith) (omega arith) no)
 
 loop-again : tie.Need-loop-again Inv-loop μ-loop
 loop-again c =
-    let w = c .before in
-    let g = w .before .char-at in
-    let l = w .before .before .before in
-    let s = l .before .before .args .s .now in
-    let m = more-long s (l .loop .at) (omega arith) in
-    let n = g .ensures .1 in
-    let t : isWhite (codeOf (drop (l .loop .at) s)) ≡ false = ap isWhite (sym (g .ensures .0)) ∙ sym (w .is-white .ensures) ∙ not-true _ (c .if1 .taken) in
-    let q = end-other s (l .loop .last) (l .loop .at) (omega arith) t in
-    rw n (omega (arith, m), l .loop .inv .1 ∙ q)
+    let l = c .before .before .before .before .before in
+    let yes = sym (c .before .is-white .ensures) ∙ not-false _ (c .if2 .left) in
+    let e = end-goes (l .before .before .args .s .now) (l .loop .end) (omega arith) (omega arith) (omega arith) yes in
+    (omega arith, l .loop .inv .1 ∙ e)
 
-loop-less-2 : tie.Need-loop-less-2 Inv-loop μ-loop
-loop-less-2 c =
-    let w = c .before in
-    let g = w .before .char-at in
-    let l = w .before .before .before in
-    let s = l .before .before .args .s .now in
-    let m = more-long s (l .loop .at) (omega arith) in
-    let n = g .ensures .1 in
-    let t : isWhite (codeOf (drop (l .loop .at) s)) ≡ true = ap isWhite (sym (g .ensures .0)) ∙ sym (w .is-white .ensures) ∙ not-false _ (c .if1 .left) in
-    omega (arith, m, n)
-
-loop-again-2 : tie.Need-loop-again-2 Inv-loop μ-loop
-loop-again-2 c =
-    let w = c .before in
-    let g = w .before .char-at in
-    let l = w .before .before .before in
-    let s = l .before .before .args .s .now in
-    let m = more-long s (l .loop .at) (omega arith) in
-    let n = g .ensures .1 in
-    let t : isWhite (codeOf (drop (l .loop .at) s)) ≡ true = ap isWhite (sym (g .ensures .0)) ∙ sym (w .is-white .ensures) ∙ not-false _ (c .if1 .left) in
-    let q = end-white s (l .loop .last) (l .loop .at) (omega arith) t in
-    rw n (omega (arith, m), l .loop .inv .1 ∙ q)
-
-returns : tie.Need-returns Inv-loop μ-loop
-unfolding endLen
-returns c =
+returns-3 : tie.Need-returns-3 Inv-loop μ-loop
+returns-3 c =
     let l = c .before in
     let s = l .before .before .args .s .now in
-    sym (l .loop .inv .1 ∙ rw (chars-end s (l .loop .at) (omega arith)))
+    let none = end-long (take (l .loop .end) s) in
+    omega (arith, none, length-take-le (l .loop .end) s (omega arith))
 
 pub trim-end-spec : {M : Type 1} → statement M
 trim-end-spec =
@@ -104,12 +54,15 @@ trim-end-spec =
     Inv-loop
     μ-loop
     loop-holds
-    char-at-requires
-    add-at
-    add-at-2
-    is-white-requires
-    loop-less
+    (λ c. omega arith)
+    (λ c. omega arith)
+    part
+    (λ c κs. search needs)
+    returns
+    (λ c. omega arith)
+    (λ c κs. search needs)
+    returns-2
+    (λ c. omega arith)
+    (λ c. omega arith)
     loop-again
-    loop-less-2
-    loop-again-2
-    returns)
+    returns-3)
