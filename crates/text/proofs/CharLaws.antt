@@ -171,6 +171,18 @@ pub chars-end : (s : List ℕ) (at : ℕ) → length s ≤ at → chars (drop at
 unfolding chars charsFrom
 chars-end s at h = rw (left-none s at h)
 
+-- ---- a turn of a loop over characters: the character at a place, and whether it is White_Space
+pub record Here (s : List ℕ) (at m : ℕ) (w : Bool) : Type 0 where
+  pub inside : at + 1 + m ≤ length s
+  pub next : m ≡ more (drop at s)
+  pub test : isWhite (codeOf (drop at s)) ≡ w
+
+pub turned : (s : List ℕ) (at : ℕ) {c m : ℕ} {w : Bool} → at < length s
+    → (c ≡ codeOf (drop at s)) × (m ≡ more (drop at s)) → w ≡ isWhite c → Here s at m w
+turned s at h g e =
+    let b = more-long s at h in
+    record { inside = omega (arith, b, g .1); next = g .1; test = ap isWhite (sym (g .0)) ∙ sym e }
+
 -- ---- White_Space at the front
 module _ (s : List ℕ) (at : ℕ) (h : at < length s) where
   pub start-white : isWhite (codeOf (drop at s)) ≡ true → startLen (chars (drop at s)) ≡ suc (more (drop at s)) + startLen (chars (drop (at + 1 + more (drop at s)) s))
@@ -180,6 +192,10 @@ module _ (s : List ℕ) (at : ℕ) (h : at < length s) where
   pub start-other : isWhite (codeOf (drop at s)) ≡ false → startLen (chars (drop at s)) ≡ 0
   unfolding startLen
   start-other e = rw (chars-next s at h, e)
+
+pub start-end : (s : List ℕ) (at : ℕ) → length s ≤ at → startLen (chars (drop at s)) ≡ 0
+unfolding startLen
+start-end s at h = rw (chars-end s at h)
 
 -- ---- White_Space at the end: `last` if all that is left is White_Space, else where the last other character ends
 abbrev pub ends : ℕ → ℕ → ℕ → ℕ
@@ -206,6 +222,10 @@ module _ (s : List ℕ) (last at : ℕ) (h : at < length s) where
   pub end-other : isWhite (codeOf (drop at s)) ≡ false → ends last at (endLen (chars (drop at s))) ≡ ends (at + 1 + more (drop at s)) (at + 1 + more (drop at s)) (endLen (chars (drop (at + 1 + more (drop at s)) s)))
   unfolding endLen
   end-other e = rw (chars-next s at h, e) (ends-other last at (more (drop at s)) (endLen (chars (drop (at + 1 + more (drop at s)) s))))
+
+pub end-end : (s : List ℕ) (last at : ℕ) → length s ≤ at → ends last at (endLen (chars (drop at s))) ≡ last
+unfolding endLen
+end-end s last at h = rw (chars-end s at h)
 
 -- ---- what is trimmed is part of the text
 unfoldable pub bytes-of : List Char → ℕ

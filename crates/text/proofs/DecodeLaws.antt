@@ -94,7 +94,7 @@ seq-2 a b s h i j k =
     let q : 0x80 + (b - 0x80) ≡ b = omega arith in
     record {
       scalar = rw (x, y) (inl (omega arith));
-      bytes = rw (x, y) (rw (le-ltb c 0x80 (omega arith), lt-ltb c 0x800 (omega arith), n .0, n .1, p, q))
+      bytes = rw (x, y) (rw (le-ltb c 0x80 (omega arith), lt-ltb c 0x800 (omega arith), n .0, n .1, p, q));
     }
 
 -- three bytes: no overlong form, no surrogate
@@ -115,7 +115,7 @@ seq-3 a b d s h i j k l m long sur =
     record {
       scalar = rw (x, y, z) (⊎-elim (λ u. inl (omega arith)) (λ u. inr (omega arith, omega arith)) sur);
       bytes = rw (x, y, z)
-        (rw (le-ltb c 0x80 (omega arith), le-ltb c 0x800 (omega arith), lt-ltb c 0x10000 (omega arith), n .high, n .mid, n .low, p, q, r))
+          (rw (le-ltb c 0x80 (omega arith), le-ltb c 0x800 (omega arith), lt-ltb c 0x10000 (omega arith), n .high, n .mid, n .low, p, q, r));
     }
 
 -- four bytes: no overlong form, none above 10FFFF
@@ -138,7 +138,7 @@ seq-4 a b d e s h i j k l m f g long short =
     let t₃ = le-ltb c 0x10000 (omega arith) in
     record {
       scalar = rw (x, y, z, w) (inr (omega arith, omega arith));
-      bytes = rw (x, y, z, w) (rw (t₁, t₂, t₃, n .high, n .rest, n .mid, n .low, o, p, q, r))
+      bytes = rw (x, y, z, w) (rw (t₁, t₂, t₃, n .high, n .rest, n .mid, n .low, o, p, q, r));
     }
 
 -- by the rows of the table
@@ -205,7 +205,7 @@ decode-from zero (x ∷ s) e = by (seqLen (x ∷ s)) refl (λ (k : ℕ). decode-
         record {
           points = codeOf (x ∷ s) ∷ d .points;
           scalars = point (f .scalar) (d .scalars);
-          bytes = rw (d .bytes, f .bytes) w
+          bytes = rw (d .bytes, f .bytes) w;
         }
 
 pub decoded : (s : List ℕ) → upTo s ≡ length s → Decoded s

@@ -8,7 +8,7 @@ use Rattle.text.specs.Find.{seek, begins, indexOf2}
 use Rattle.text.specs.Trim.{trimStart, trimEnd, startLen, endLen}
 use Rattle.text.specs.Chars.{chars, charsFrom, codeOf, codeBy, moreBy, more}
 use Rattle.text.specs.White.{isWhite}
-use Rattle.text.specs.Ranges.{inSome, _to_}
+use Rattle.text.specs.Ranges.{inSome}
 use Rattle.text.specs.Lines.{lines, before, onto}
 use Rattle.text.specs.Order.{cmpBytes}
 use Rattle.text.specs.declared.order.Order.the-variants.{Less}

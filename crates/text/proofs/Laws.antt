@@ -6,12 +6,11 @@ use Prim.Native.Nat.{ℕ, zero, suc, _+_, _-_, _≤_, _<_}
 use native.Mathlib.Numerals.{add-one}
 use native.Mathlib.Nat.{zero-add, add-zero, suc-add, le-of-suc-le-suc, not-suc-le-zero}
 use native.Mathlib.Omega.{arith}
-use lib.Dec.{T, eqb}
+use lib.Dec.{T}
 use lib.ListN.{length, getD, take, drop, drop-of-length-le, length-drop}
 use lib.Seq.{drop-cons, drop-drop, take-all}
 use Rattle.refusal.specs.Pick.{both}
 use Rattle.text.specs.Scan.{scan}
-use Rattle.text.specs.Find.{seek, begins, same}
 use Rattle.text.specs.Ranges.{_to_}
 
 -- ---- the three laws of every loop that goes up over a slice
@@ -99,34 +98,3 @@ pub on-range : (p : ℕ → Bool) (lo n : ℕ) → T (every p lo n) → (a : ℕ
 on-range p lo n t a h k =
     let e : lo + (a - lo) ≡ a = omega arith in
     rw e at (from p lo n (a - lo) t (omega arith))
-
--- ---- seek: the first place
-module _ (p : List ℕ → Bool) where
-  pub seek-hit : (s : List ℕ) (i : ℕ) → i < length s → p (drop i s) ≡ true → seek p (drop i s) ≡ 0
-  unfolding seek
-  seek-hit s i h e =
-      let e′ = rw (left-next s i h) at e in
-      rw (left-next s i h, e′)
-
-  pub seek-miss : (s : List ℕ) (i : ℕ) → i < length s → p (drop i s) ≡ false → seek p (drop i s) ≡ suc (seek p (drop (i + 1) s))
-  unfolding seek
-  seek-miss s i h e =
-      let e′ = rw (left-next s i h) at e in
-      rw (left-next s i h, e′)
-
-  pub seek-end : (s : List ℕ) (i : ℕ) → length s ≤ i → seek p (drop i s) ≡ 0
-  unfolding seek
-  seek-end s i h = rw (left-none s i h)
-
--- ---- texts of different lengths are not the same
-pub same-long : (w s : List ℕ) → (length s ≡ length w → ⊥) → same w s ≡ false
-unfolding same
-same-long [] [] d = absurd (d refl)
-same-long [] (x ∷ s) d = refl
-same-long (c ∷ w) [] d = refl
-same-long (c ∷ w) (x ∷ s) d = rw (same-long w s (λ e. d (ap suc e))) (both-no (eqb x c))
-
--- ---- one byte
-pub begins-one : (b : ℕ) (s : List ℕ) (i : ℕ) → i < length s → begins (b ∷ []) (drop i s) ≡ eqb (getD s i 0) b
-unfolding begins
-begins-one b s i h = rw (left-next s i h) (both-yes _)

@@ -11,22 +11,8 @@ use borrow.Author.Tests.{eq-eqb, ne-eqb, lt-ltb, le-ltb, ltb-true, ltb-false}
 use Rattle.refusal.specs.Pick.{pick, both}
 use Rattle.text.specs.Find.{seek, begins, indexOf}
 use Rattle.text.specs.Lines.{onto, before, lines, endBy, crBefore, lineLen, lineStep}
-use Rattle.text.specs.Ranges.{_to_}
-use Rattle.text.proofs.Laws.{both-yes, both-no, left-none}
-
--- ---- the first LF
-pub index-le : (b : ℕ) (s : List ℕ) → indexOf b s ≤ length s
-unfolding indexOf seek
-index-le b [] = omega arith
-index-le b (x ∷ s) = by (begins (b ∷ []) (x ∷ s)) (index-le b s)
-  where
-    by : (t : Bool) → seek (begins (b ∷ [])) s ≤ length s → pick t 0 (suc (seek (begins (b ∷ [])) s)) ≤ suc (length s)
-    by true h = omega arith
-    by false h = omega arith
-
-pub index-cons : (b x : ℕ) (s : List ℕ) → indexOf b (x ∷ s) ≡ pick (eqb x b) 0 (suc (indexOf b s))
-unfolding indexOf seek begins
-index-cons b x s = rw both-yes
+use Rattle.text.proofs.Laws.{both-no, left-none}
+use Rattle.text.proofs.FindLaws.{index-le, index-cons}
 
 -- ---- the line at the front
 end-zero : (t : Bool) → endBy t 0 ≡ 0

@@ -2,12 +2,14 @@
 use mathlib.Core.Path.{_≡_, refl, sym}
 use mathlib.Core.Bool.{Bool, true, false}
 use mathlib.Core.List.{List, [], _∷_}
-use Prim.Native.Nat.{ℕ, _-_, _<_}
+use Prim.Native.Nat.{ℕ, _<_, _+_, _≤_}
 use native.Mathlib.Omega.{arith}
 use lib.Dec.{ltb}
+use lib.ListN.{length, getD, drop}
 use borrow.Author.Tests.{lt-ltb, le-ltb, ltb-true, ltb-false}
 use Rattle.text.specs.Order.{cmpNat, andThen, cmpBytes, flip}
 use Rattle.text.specs.declared.order.Order.the-variants.{Less, Equal, Greater}
+use Rattle.text.proofs.Laws.{left-next, left-none}
 
 -- ---- a number's order, by the three cases
 pub data Tri (x y : ℕ) : Type 0 where
@@ -79,3 +81,30 @@ cmp-trans (x ∷ s) (y ∷ t) (z ∷ u) e f = by (cmp-trans s t u) (tri x y) (tr
     by ih (at h p) (at k q) = rw (nat-same x z (omega arith), ih (rw p at e) (rw q at f))
     by ih (at h p) (above k q) = let f′ = rw q at f in absurd (let z : _≡_ {A = ℕ} 0 1 = cc in omega arith)
     by ih (above h p) k = let e′ = rw p at e in absurd (let z : _≡_ {A = ℕ} 0 1 = cc in omega arith)
+
+-- ---- two texts from i on
+module _ (a b : List ℕ) (i : ℕ) where
+  pub cmp-longer : i < length a → length b ≤ i → cmpBytes (drop i a) (drop i b) ≡ Greater
+  unfolding cmpBytes
+  cmp-longer h k = rw (left-next a i h, left-none b i k)
+
+  pub cmp-shorter : length a ≤ i → i < length b → cmpBytes (drop i a) (drop i b) ≡ Less
+  unfolding cmpBytes
+  cmp-shorter h k = rw (left-none a i h, left-next b i k)
+
+  pub cmp-ended : length a ≤ i → length b ≤ i → cmpBytes (drop i a) (drop i b) ≡ Equal
+  unfolding cmpBytes
+  cmp-ended h k = rw (left-none a i h, left-none b i k)
+
+  pub cmp-less : i < length a → i < length b → getD a i 0 < getD b i 0 → cmpBytes (drop i a) (drop i b) ≡ Less
+  unfolding cmpBytes
+  cmp-less h k l = rw (left-next a i h, left-next b i k, lt-ltb _ _ l)
+
+  pub cmp-greater : i < length a → i < length b → getD b i 0 < getD a i 0 → cmpBytes (drop i a) (drop i b) ≡ Greater
+  unfolding cmpBytes
+  cmp-greater h k g = rw (left-next a i h, left-next b i k, nat-greater _ _ g)
+
+  pub cmp-on : i < length a → i < length b → getD b i 0 ≤ getD a i 0 → getD a i 0 ≤ getD b i 0
+      → cmpBytes (drop i a) (drop i b) ≡ cmpBytes (drop (i + 1) a) (drop (i + 1) b)
+  unfolding cmpBytes
+  cmp-on h k l g = rw (left-next a i h, left-next b i k, le-ltb _ _ l, le-ltb _ _ g)

@@ -1,13 +1,12 @@
 -- The laws of a reader's loop: what is left answers as the whole does. Assumes nothing.
 use mathlib.Core.Path.{_≡_, _∙_}
 use mathlib.Core.List.{List, [], _∷_}
-use Prim.Native.Nat.{ℕ, zero, suc, _+_, _-_, _≤_, _<_}
+use Prim.Native.Nat.{ℕ, zero, suc, _+_, _≤_, _<_}
 use native.Mathlib.Nat.{add-zero, suc-add, add-suc, le-of-suc-le-suc, not-suc-le-zero}
 use native.Mathlib.Omega.{arith}
 use lib.ListN.{length, drop, length-drop}
 use lib.Seq.{drop-drop}
 use Rattle.text.specs.Walk.{Turn, stop, go, walk}
-use Rattle.text.specs.Ranges.{_to_}
 use Rattle.text.proofs.Laws.{left-next, left-none}
 
 module _ {S R : Type 0} (f : S → ℕ → List ℕ → Turn S R) (done : S → ℕ → R) where

@@ -1,7 +1,7 @@
 -- The characters of a text: the code points that the Unicode Standard's Table 3-6 reads from the sequences of Table 3-7.
 -- A byte that begins no well-formed sequence is a character alone, with no code point, so that every text has characters. Assumes nothing.
 use mathlib.Core.List.{List, [], _∷_}
-use Prim.Native.Nat.{ℕ, zero, suc, _+_, _-_, _*_, _%_}
+use Prim.Native.Nat.{ℕ, zero, suc, _+_, _*_, _%_}
 use lib.ListN.{getD}
 use Rattle.text.specs.Utf8.{seqLen}
 

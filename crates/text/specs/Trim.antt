@@ -1,6 +1,6 @@
 -- docs/RULES.md, "Texts": trimming removes Unicode's White_Space at both ends, the front first. Assumes nothing.
 use mathlib.Core.List.{List, [], _∷_}
-use Prim.Native.Nat.{ℕ, zero, suc, _+_, _-_}
+use Prim.Native.Nat.{ℕ, zero, suc, _+_}
 use lib.Dec.{eqb}
 use lib.ListN.{take, drop}
 use Rattle.refusal.specs.Pick.{pick, both}

@@ -1,7 +1,6 @@
 -- For the definitions: a reader that goes over a list in steps, with a state, to an answer. Assumes nothing.
 use mathlib.Core.List.{List, [], _∷_}
 use Prim.Native.Nat.{ℕ, zero, suc}
-use Rattle.text.specs.Ranges.{_to_}
 
 -- what a step does: it ends the whole with an answer, or it goes on with a state, past one element and so many more
 pub data Turn (S R : Type 0) : Type 0 where

@@ -5,8 +5,7 @@ use native.Mathlib.Omega.{arith}
 use lib.ListN.{length, drop}
 use borrow.Author.Tests.{eq-eqb, ne-eqb}
 use Rattle.text.specs.Find.{indexOf, seek, begins}
-use Rattle.text.specs.Lines.{before}
-use Rattle.text.proofs.Laws.{seek-hit, seek-miss, seek-end, begins-one}
+use Rattle.text.proofs.FindLaws.{seek-hit, seek-miss, seek-end, begins-one}
 use Rattle.text.proofs.find.find.Statement.{statement}
 use Rattle.text.proofs.find.find.Tie as tie
 
@@ -20,21 +19,12 @@ loop-holds : tie.Need-loop-holds Inv-loop μ-loop
 unfolding indexOf
 loop-holds c = omega arith
 
-shared-slice-read-if1 : tie.Need-shared-slice-read-if1 Inv-loop μ-loop
-shared-slice-read-if1 c = omega arith
-
 returns : tie.Need-returns Inv-loop μ-loop
 returns c =
     let l = c .before .before .before in
     let a = l .before .args in
     let e = begins-one (a .b) (a .s .now) (l .loop .i) (omega arith) ∙ eq-eqb _ _ (c .if1 .taken) in
     omega (arith, seek-hit (begins (a .b ∷ [])) (a .s .now) (l .loop .i) (omega arith) e)
-
-add-i : tie.Need-add-i Inv-loop μ-loop
-add-i c = omega arith
-
-loop-less : tie.Need-loop-less Inv-loop μ-loop
-loop-less c = omega arith
 
 loop-again : tie.Need-loop-again Inv-loop μ-loop
 loop-again c =
@@ -55,9 +45,9 @@ find-spec =
     Inv-loop
     μ-loop
     loop-holds
-    shared-slice-read-if1
+    (λ c. omega arith)
     returns
-    add-i
-    loop-less
+    (λ c. omega arith)
+    (λ c. omega arith)
     loop-again
     returns-2)

@@ -5,8 +5,7 @@ use Prim.Native.Nat.{_+_, _-_, _≤_}
 use native.Mathlib.Omega.{arith}
 use lib.ListN.{length, drop}
 use Rattle.text.specs.Find.{indexOf2, seek, begins}
-use Rattle.text.specs.Lines.{before}
-use Rattle.text.proofs.Laws.{seek-hit, seek-miss, seek-end}
+use Rattle.text.proofs.FindLaws.{seek-hit, seek-miss, seek-end}
 use Rattle.text.proofs.find.find_pair.Statement.{statement}
 use Rattle.text.proofs.find.find_pair.Tie as tie
 
@@ -20,20 +19,11 @@ loop-holds : tie.Need-loop-holds Inv-loop μ-loop
 unfolding indexOf2
 loop-holds c = omega arith
 
-pair-requires : tie.Need-pair-requires Inv-loop μ-loop
-pair-requires c κs = omega arith
-
 returns : tie.Need-returns Inv-loop μ-loop
 returns c =
     let l = c .before .before .before in
     let a = l .before .before .args in
     omega (arith, seek-hit (begins (a .a ∷ a .b ∷ [])) (a .s .now) (l .loop .i) (omega arith) (sym (c .before .pair .ensures) ∙ c .if1 .taken))
-
-add-i : tie.Need-add-i Inv-loop μ-loop
-add-i c = omega arith
-
-loop-less : tie.Need-loop-less Inv-loop μ-loop
-loop-less c = omega arith
 
 loop-again : tie.Need-loop-again Inv-loop μ-loop
 loop-again c =
@@ -54,9 +44,9 @@ find-pair-spec =
     Inv-loop
     μ-loop
     loop-holds
-    pair-requires
+    (λ c κs. omega arith)
     returns
-    add-i
-    loop-less
+    (λ c. omega arith)
+    (λ c. omega arith)
     loop-again
     returns-2)

@@ -1,22 +1,12 @@
 -- `pair` meets its contract. Assumes nothing.
-use Prim.Native.Nat.{_+_, _-_}
+use Prim.Native.Nat.{_+_}
 use native.Mathlib.Omega.{arith}
 use borrow.Author.Needs.{needs}
 use borrow.Author.Tests.{eq-eqb, ne-eqb}
 use Rattle.text.specs.Find.{begins}
-use Rattle.text.specs.Lines.{before}
 use Rattle.text.proofs.Laws.{left-next, left-none, both-yes}
 use Rattle.text.proofs.find.pair.Statement.{statement}
 use Rattle.text.proofs.find.pair.Tie as tie
-
-shared-slice-read-if1 : tie.Need-shared-slice-read-if1
-shared-slice-read-if1 c = search needs
-
-add-j : tie.Need-add-j
-add-j c = search needs
-
-shared-slice-read-result : tie.Need-shared-slice-read-result
-shared-slice-read-result c = search needs
 
 returns : tie.Need-returns
 unfolding begins
@@ -39,4 +29,4 @@ returns-3 c =
 pub pair-spec : {M : Type 1} → statement M
 pair-spec =
     tie.close
-    (tie.spec shared-slice-read-if1 add-j shared-slice-read-result returns returns-2 returns-3)
+    (tie.spec (λ c. search needs) (λ c. search needs) (λ c. search needs) returns returns-2 returns-3)

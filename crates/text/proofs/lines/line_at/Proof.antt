@@ -8,7 +8,8 @@ use borrow.Author.Needs.{needs}
 use Rattle.text.specs.Find.{indexOf}
 use Rattle.text.specs.Lines.{before}
 use Rattle.text.proofs.Laws.{left-part}
-use Rattle.text.proofs.LineLaws.{index-le, len-past, len-none, len-empty, len-cr, len-lf}
+use Rattle.text.proofs.FindLaws.{index-le}
+use Rattle.text.proofs.LineLaws.{len-past, len-none, len-empty, len-cr, len-lf}
 use Rattle.text.proofs.lines.line_at.Statement.{statement}
 use Rattle.text.proofs.lines.line_at.Tie as tie
 

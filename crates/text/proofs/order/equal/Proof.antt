@@ -3,10 +3,8 @@ use mathlib.Core.Path.{_≡_, refl, sym, _∙_}
 use Prim.Native.Nat.{_-_, _≤_}
 use native.Mathlib.Omega.{arith}
 use lib.ListN.{length, drop}
-use borrow.Author.Tests.{eq-eqb, ne-eqb}
 use Rattle.text.specs.Find.{same}
-use Rattle.text.specs.Lines.{before}
-use Rattle.text.proofs.Laws.{left-next, left-none, same-long}
+use Rattle.text.proofs.FindLaws.{same-long, same-other, same-on, same-all}
 use Rattle.text.proofs.order.equal.Statement.{statement}
 use Rattle.text.proofs.order.equal.Tie as tie
 
@@ -16,35 +14,24 @@ Inv-loop s w i₀ i = (i ≤ length w) × (length s ≡ length w) × (same w s �
 abbrev μ-loop : tie.MeasureT-loop
 μ-loop s w i₀ i = length w - i
 
-returns : tie.Need-returns Inv-loop μ-loop
-returns c = sym (same-long (c .before .args .w .now) (c .before .args .s .now) (c .if1 .taken))
-
 returns-2 : tie.Need-returns-2 Inv-loop μ-loop
-unfolding same
 returns-2 c =
     let l = c .before .before .before .before in
     let a = l .before .before .args in
-    let w = left-next (a .w .now) (l .loop .i) (omega arith) in
-    let s = left-next (a .s .now) (l .loop .i) (omega arith) in
-    sym (l .loop .inv .2 ∙ rw (w, s, ne-eqb _ _ (c .if2 .taken)))
+    sym (l .loop .inv .2 ∙ same-other (a .w .now) (a .s .now) (l .loop .i) (omega arith) (omega arith) (c .if2 .taken))
 
 loop-again : tie.Need-loop-again Inv-loop μ-loop
-unfolding same
 loop-again c =
     let l = c .before .before .before .before in
     let a = l .before .before .args in
-    let w = left-next (a .w .now) (l .loop .i) (omega arith) in
-    let s = left-next (a .s .now) (l .loop .i) (omega arith) in
-    (omega arith, l .loop .inv .1, l .loop .inv .2 ∙ rw (w, s, eq-eqb _ _ (c .if2 .left)))
+    let e = same-on (a .w .now) (a .s .now) (l .loop .i) (omega arith) (omega arith) (c .if2 .left) in
+    (omega arith, l .loop .inv .1, l .loop .inv .2 ∙ e)
 
 returns-3 : tie.Need-returns-3 Inv-loop μ-loop
-unfolding same
 returns-3 c =
     let l = c .before in
     let a = l .before .before .args in
-    let w = left-none (a .w .now) (l .loop .i) (omega arith) in
-    let s = left-none (a .s .now) (l .loop .i) (omega arith) in
-    sym (l .loop .inv .2 ∙ rw (w, s))
+    sym (l .loop .inv .2 ∙ same-all (a .w .now) (a .s .now) (l .loop .i) (omega arith) (omega arith))
 
 pub equal-spec : {M : Type 1} → statement M
 equal-spec =
@@ -52,7 +39,7 @@ equal-spec =
     (tie.spec
     Inv-loop
     μ-loop
-    returns
+    (λ c. sym (same-long (c .before .args .w .now) (c .before .args .s .now) (c .if1 .taken)))
     (λ c. (omega arith, omega arith, refl))
     (λ c. omega arith)
     (λ c. omega arith)

@@ -3,10 +3,8 @@ use mathlib.Core.Path.{_≡_, refl, sym, _∙_}
 use Prim.Native.Nat.{_-_, _≤_}
 use native.Mathlib.Omega.{arith}
 use lib.ListN.{length, drop}
-use borrow.Author.Tests.{eq-eqb, ne-eqb}
 use Rattle.text.specs.Find.{begins}
-use Rattle.text.specs.Lines.{before}
-use Rattle.text.proofs.Laws.{left-next, left-none}
+use Rattle.text.proofs.FindLaws.{begins-short, begins-other, begins-on, begins-all}
 use Rattle.text.proofs.order.starts.Statement.{statement}
 use Rattle.text.proofs.order.starts.Tie as tie
 
@@ -16,48 +14,30 @@ Inv-loop s w i₀ i = (i ≤ length w) × (i ≤ length s) × (begins w s ≡ be
 abbrev μ-loop : tie.MeasureT-loop
 μ-loop s w i₀ i = length w - i
 
-loop-holds : tie.Need-loop-holds Inv-loop μ-loop
-unfolding begins
-loop-holds c = (omega arith, omega arith, refl)
-
 returns : tie.Need-returns Inv-loop μ-loop
-unfolding begins
 returns c =
     let l = c .before .before in
     let a = l .before .args in
-    sym (l .loop .inv .2 ∙ rw (left-next (a .w .now) (l .loop .i) (omega arith), left-none (a .s .now) (l .loop .i) (omega arith)))
-
-shared-slice-read-if2 : tie.Need-shared-slice-read-if2 Inv-loop μ-loop
-shared-slice-read-if2 c = omega arith
-
-shared-slice-read-if2-2 : tie.Need-shared-slice-read-if2-2 Inv-loop μ-loop
-shared-slice-read-if2-2 c = omega arith
+    sym (l .loop .inv .2 ∙ begins-short (a .w .now) (a .s .now) (l .loop .i) (omega arith) (omega arith))
 
 returns-2 : tie.Need-returns-2 Inv-loop μ-loop
-unfolding begins
 returns-2 c =
     let l = c .before .before .before .before .before in
     let a = l .before .args in
-    sym (l .loop .inv .2 ∙ rw (left-next (a .w .now) (l .loop .i) (omega arith), left-next (a .s .now) (l .loop .i) (omega arith), ne-eqb _ _ (c .if2 .taken)))
-
-add-i : tie.Need-add-i Inv-loop μ-loop
-add-i c = omega arith
-
-loop-less : tie.Need-loop-less Inv-loop μ-loop
-loop-less c = omega arith
+    sym (l .loop .inv .2 ∙ begins-other (a .w .now) (a .s .now) (l .loop .i) (omega arith) (omega arith) (c .if2 .taken))
 
 loop-again : tie.Need-loop-again Inv-loop μ-loop
-unfolding begins
 loop-again c =
     let l = c .before .before .before .before .before in
     let a = l .before .args in
-    (omega arith, omega arith, l .loop .inv .2 ∙ rw (left-next (a .w .now) (l .loop .i) (omega arith), left-next (a .s .now) (l .loop .i) (omega arith), eq-eqb _ _ (c .if2 .left)))
+    let e = begins-on (a .w .now) (a .s .now) (l .loop .i) (omega arith) (omega arith) (c .if2 .left) in
+    (omega arith, omega arith, l .loop .inv .2 ∙ e)
 
 returns-3 : tie.Need-returns-3 Inv-loop μ-loop
-unfolding begins
 returns-3 c =
     let l = c .before in
-    sym (l .loop .inv .2 ∙ rw (left-none (l .before .args .w .now) (l .loop .i) (omega arith)))
+    let a = l .before .args in
+    sym (l .loop .inv .2 ∙ begins-all (a .w .now) (a .s .now) (l .loop .i) (omega arith))
 
 pub starts-spec : {M : Type 1} → statement M
 starts-spec =
@@ -65,12 +45,12 @@ starts-spec =
     (tie.spec
     Inv-loop
     μ-loop
-    loop-holds
+    (λ c. (omega arith, omega arith, refl))
     returns
-    shared-slice-read-if2
-    shared-slice-read-if2-2
+    (λ c. omega arith)
+    (λ c. omega arith)
     returns-2
-    add-i
-    loop-less
+    (λ c. omega arith)
+    (λ c. omega arith)
     loop-again
     returns-3)

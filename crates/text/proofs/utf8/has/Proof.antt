@@ -2,13 +2,9 @@ use native.Mathlib.Omega.{arith}
 use borrow.Author.Needs.{needs}
 use borrow.Author.Tests.{le-leb, lt-leb}
 use Rattle.text.specs.Steps.{headIn}
-use Rattle.text.specs.Lines.{before}
 use Rattle.text.proofs.Laws.{left-next, left-none}
 use Rattle.text.proofs.utf8.has.Statement.{statement}
 use Rattle.text.proofs.utf8.has.Tie as tie
-
-shared-slice-read-b : tie.Need-shared-slice-read-b
-shared-slice-read-b c = search needs
 
 returns : tie.Need-returns
 unfolding headIn
@@ -27,4 +23,4 @@ unfolding headIn
 returns-3 c = rw (left-none (c .before .args .s .now) (c .before .args .i) (omega arith))
 
 pub has-spec : {M : Type 1} → statement M
-has-spec = tie.close (tie.spec shared-slice-read-b returns returns-2 returns-3)
+has-spec = tie.close (tie.spec (λ c. search needs) returns returns-2 returns-3)

@@ -1,7 +1,6 @@
 -- `jump` meets its contract. Assumes nothing.
 use native.Mathlib.Omega.{arith}
 use borrow.Author.Needs.{needs}
-use Rattle.text.specs.Lines.{before}
 use Rattle.text.proofs.FastLaws.{jump-ascii, jump-step}
 use Rattle.text.proofs.utf8.jump.Statement.{statement}
 use Rattle.text.proofs.utf8.jump.Tie as tie

@@ -8,7 +8,6 @@ use borrow.Author.Tests.{not-true, not-false}
 use Rattle.text.specs.Ranges.{_to_}
 use Rattle.text.specs.Utf8.{tail, seqLen}
 use Rattle.text.specs.Steps.{headIn, stepAt, stepOf}
-use Rattle.text.specs.Lines.{before}
 use Rattle.text.proofs.Utf8Laws.{seq-parts, verdict, verdict-none, verdict-first, verdict-second}
 use Rattle.text.proofs.utf8.step.Statement.{statement}
 use Rattle.text.proofs.utf8.step.Tie as tie
@@ -23,15 +22,6 @@ parts c =
     let r = c .lead-of .result in
     seq-parts (a .s .now) (a .at) (r .more) (r .lo) (r .hi) (omega arith) (c .lead-of .ensures)
 
-shared-slice-read-lead-of : tie.Need-shared-slice-read-lead-of
-shared-slice-read-lead-of c = search needs
-
-lead-of-requires : tie.Need-lead-of-requires
-lead-of-requires c κs = search needs
-
-add-t10 : tie.Need-add-t10
-add-t10 c = search needs
-
 returns : tie.Need-returns
 unfolding stepAt stepOf
 returns c = rw (parts (c .before), c .if1 .taken)
@@ -40,12 +30,6 @@ returns-2 : tie.Need-returns-2
 unfolding stepAt stepOf
 returns-2 c = rw (parts (c .before .before), verdict-none _ _ _ _ (c .if2 .taken))
 
-add-has : tie.Need-add-has
-add-has c = search needs
-
-has-requires : tie.Need-has-requires
-has-requires c κs = search needs
-
 returns-3 : tie.Need-returns-3
 unfolding stepAt stepOf
 returns-3 c =
@@ -53,21 +37,12 @@ returns-3 c =
     let e₁ = sym (c .before .has .ensures) ∙ not-true _ (c .if3 .taken) in
     rw (parts l, e₁, verdict-first _ _ _ (c .before .before .before .if1 .left))
 
-add-t13 : tie.Need-add-t13
-add-t13 c = search needs
-
 returns-4 : tie.Need-returns-4
 unfolding stepAt stepOf
 returns-4 c =
     let l = c .before .before .before .before .before in
     let e₁ = sym (c .before .before .has .ensures) ∙ not-false _ (c .before .if3 .left) in
     rw (parts l, e₁, c .if4 .taken)
-
-add-has-2 : tie.Need-add-has-2
-add-has-2 c = search needs
-
-has-requires-2 : tie.Need-has-requires-2
-has-requires-2 c κs = search needs
 
 returns-5 : tie.Need-returns-5
 unfolding stepAt stepOf
@@ -77,9 +52,6 @@ returns-5 c =
     let e₂ = sym (c .before .has2 .ensures) ∙ not-true _ (c .if5 .taken) in
     rw (parts (h .before .before .before), e₁, e₂, verdict-second _ _ (h .before .before .if1 .left) (c .before .before .if4 .left))
 
-add-t14 : tie.Need-add-t14
-add-t14 c = search needs
-
 returns-6 : tie.Need-returns-6
 unfolding stepAt stepOf
 returns-6 c =
@@ -87,12 +59,6 @@ returns-6 c =
     let e₁ = sym (h .has .ensures) ∙ not-false _ (c .before .before .before .before .if3 .left) in
     let e₂ = sym (c .before .before .has2 .ensures) ∙ not-false _ (c .before .if5 .left) in
     rw (parts (h .before .before .before), e₁, e₂, c .if6 .taken)
-
-add-has-3 : tie.Need-add-has-3
-add-has-3 c = search needs
-
-has-requires-3 : tie.Need-has-requires-3
-has-requires-3 c κs = search needs
 
 returns-7 : tie.Need-returns-7
 unfolding stepAt stepOf
@@ -104,9 +70,6 @@ returns-7 c =
     let e₂ = sym (g .has2 .ensures) ∙ not-false _ (c .before .before .before .if5 .left) in
     let e₃ = sym (c .before .has3 .ensures) ∙ not-true _ (c .if7 .taken) in
     rw (parts (h .before .before .before), e₁, e₂, e₃, m)
-
-add-t11 : tie.Need-add-t11
-add-t11 c = search needs
 
 returns-8 : tie.Need-returns-8
 unfolding stepAt stepOf
@@ -123,23 +86,23 @@ pub step-spec : {M : Type 1} → statement M
 step-spec =
     tie.close
     (tie.spec
-    shared-slice-read-lead-of
-    lead-of-requires
-    add-t10
+    (λ c. search needs)
+    (λ c κs. search needs)
+    (λ c. search needs)
     returns
     returns-2
-    add-has
-    has-requires
+    (λ c. search needs)
+    (λ c κs. search needs)
     returns-3
-    add-t13
+    (λ c. search needs)
     returns-4
-    add-has-2
-    has-requires-2
+    (λ c. search needs)
+    (λ c κs. search needs)
     returns-5
-    add-t14
+    (λ c. search needs)
     returns-6
-    add-has-3
-    has-requires-3
+    (λ c. search needs)
+    (λ c κs. search needs)
     returns-7
-    add-t11
+    (λ c. search needs)
     returns-8)

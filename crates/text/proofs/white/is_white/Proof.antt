@@ -2,7 +2,6 @@
 use borrow.Author.Needs.{needs}
 use Rattle.text.specs.Ranges.{inSome}
 use Rattle.text.specs.White.{whites, isWhite}
-use Rattle.text.specs.Lines.{before}
 use Rattle.text.proofs.CharLaws.{white-in, missed, only}
 use Rattle.text.proofs.white.is_white.Statement.{statement}
 use Rattle.text.proofs.white.is_white.Tie as tie
@@ -10,17 +9,27 @@ use Rattle.text.proofs.white.is_white.Tie as tie
 last : tie.Need-returns-11
 unfolding isWhite whites inSome
 last c =
+    let e10 = c .before in
+    let e9 = e10 .before .before in
+    let e8 = e9 .before .before in
+    let e7 = e8 .before .before in
+    let e6 = e7 .before .before in
+    let e5 = e6 .before .before in
+    let e4 = e5 .before .before in
+    let e3 = e4 .before .before in
+    let e2 = e3 .before .before in
+    let e1 = e2 .before .before in
     rw (
-      missed (c .before .before .before .before .before .before .before .before .before .before .before .before .before .before .before .before .before .before .before .before .in-range .ensures) (c .before .before .before .before .before .before .before .before .before .before .before .before .before .before .before .before .before .before .before .if1 .left),
-      missed (c .before .before .before .before .before .before .before .before .before .before .before .before .before .before .before .before .before .before .in-range2 .ensures) (c .before .before .before .before .before .before .before .before .before .before .before .before .before .before .before .before .before .if2 .left),
-      missed (c .before .before .before .before .before .before .before .before .before .before .before .before .before .before .before .before .in-range3 .ensures) (c .before .before .before .before .before .before .before .before .before .before .before .before .before .before .before .if3 .left),
-      missed (c .before .before .before .before .before .before .before .before .before .before .before .before .before .before .in-range4 .ensures) (c .before .before .before .before .before .before .before .before .before .before .before .before .before .if4 .left),
-      missed (c .before .before .before .before .before .before .before .before .before .before .before .before .in-range5 .ensures) (c .before .before .before .before .before .before .before .before .before .before .before .if5 .left),
-      missed (c .before .before .before .before .before .before .before .before .before .before .in-range6 .ensures) (c .before .before .before .before .before .before .before .before .before .if6 .left),
-      missed (c .before .before .before .before .before .before .before .before .in-range7 .ensures) (c .before .before .before .before .before .before .before .if7 .left),
-      missed (c .before .before .before .before .before .before .in-range8 .ensures) (c .before .before .before .before .before .if8 .left),
-      missed (c .before .before .before .before .in-range9 .ensures) (c .before .before .before .if9 .left),
-      missed (c .before .before .in-range10 .ensures) (c .before .if10 .left),
+      missed (e1 .before .in-range .ensures) (e1 .if1 .left),
+      missed (e2 .before .in-range2 .ensures) (e2 .if2 .left),
+      missed (e3 .before .in-range3 .ensures) (e3 .if3 .left),
+      missed (e4 .before .in-range4 .ensures) (e4 .if4 .left),
+      missed (e5 .before .in-range5 .ensures) (e5 .if5 .left),
+      missed (e6 .before .in-range6 .ensures) (e6 .if6 .left),
+      missed (e7 .before .in-range7 .ensures) (e7 .if7 .left),
+      missed (e8 .before .in-range8 .ensures) (e8 .if8 .left),
+      missed (e9 .before .in-range9 .ensures) (e9 .if9 .left),
+      missed (e10 .before .in-range10 .ensures) (e10 .if10 .left),
     )
     (only (c .in-range11 .ensures))
 

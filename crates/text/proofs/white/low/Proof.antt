@@ -1,19 +1,11 @@
 -- `low` meets its contract. Assumes nothing.
 use mathlib.Core.Path.{refl, sym}
-use Prim.Native.Nat.{_-_}
 use native.Mathlib.Omega.{arith}
 use native.Mathlib.Nat.{mod-le, zero-mod}
 use lib.ListN.{getD, List·getD-eq-default}
 use borrow.Author.Needs.{needs}
-use Rattle.text.specs.Lines.{before}
 use Rattle.text.proofs.white.low.Statement.{statement}
 use Rattle.text.proofs.white.low.Tie as tie
-
-shared-slice-read-result : tie.Need-shared-slice-read-result
-shared-slice-read-result c = search needs
-
-rem-result : tie.Need-rem-result
-rem-result c = search needs
 
 cast-result : tie.Need-cast-result
 cast-result c =
@@ -31,4 +23,4 @@ returns-2 c =
     (sym (rw (List·getD-eq-default (a .s .now) 0 {n = a .i} (omega arith)) (zero-mod (a .m))), omega arith)
 
 pub low-spec : {M : Type 1} → statement M
-low-spec = tie.close (tie.spec shared-slice-read-result rem-result cast-result returns returns-2)
+low-spec = tie.close (tie.spec (λ c. search needs) (λ c. search needs) cast-result returns returns-2)

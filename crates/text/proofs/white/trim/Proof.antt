@@ -3,7 +3,6 @@ use mathlib.Core.Path.{ap, _∙_}
 use native.Mathlib.Omega.{arith}
 use borrow.Author.Needs.{needs}
 use Rattle.text.specs.Trim.{trimEnd, trimmed}
-use Rattle.text.specs.Lines.{before}
 use Rattle.text.proofs.Laws.{left-part}
 use Rattle.text.proofs.CharLaws.{start-long}
 use Rattle.text.proofs.white.trim.Statement.{statement}
