@@ -7,8 +7,8 @@ use native.Mathlib.Omega.{arith}
 use native.Mathlib.Nat.{add-zero, suc-add, not-suc-le-zero, le-of-suc-le-suc}
 use lib.ListN.{length, getD, drop, length-drop}
 use lib.Seq.{getD-drop, drop-drop}
-use lib.Dec.{T, eqb, eqb·suc-zero, ltb, leb, ltb→lt, leb→le}
-use borrow.Author.Tests.{leb-true, le-leb, lt-leb, ltb-true}
+use lib.Dec.{T, eqb, eqb·suc-zero, leb, leb→le}
+use borrow.Author.Tests.{leb-true, le-leb}
 use Rattle.refusal.specs.Pick.{pick, both, within}
 use Rattle.text.specs.Ranges.{Range, _to_, inRange, inSome}
 use Rattle.text.specs.Utf8.{seqLen}
@@ -20,42 +20,13 @@ use Rattle.text.specs.declared.utf8.Seq.the-variants.{Next, Bad}
 use Rattle.text.proofs.Utf8Laws.{seq-long}
 use Rattle.text.proofs.Laws.{both-one, both-two, both-left, both-right, left-next, left-none}
 
--- ---- a range against a table of ranges: outside all of them, or inside one
-abbrev pub apart : ℕ → ℕ → Range → Bool
-apart lo hi (a to b) = pick (ltb b lo) true (ltb hi a)
-
-abbrev pub gap : ℕ → ℕ → List Range → Bool
-gap lo hi [] = true
-gap lo hi (r ∷ rs) = both (apart lo hi r) (gap lo hi rs)
-
+-- ---- a range inside one of a table's ranges
 abbrev pub inside : ℕ → ℕ → Range → Bool
 inside lo hi (a to b) = both (leb a lo) (leb hi b)
 
 abbrev pub cover : ℕ → ℕ → List Range → Bool
 cover lo hi [] = false
 cover lo hi (r ∷ rs) = pick (inside lo hi r) true (cover lo hi rs)
-
-within-above : (a b c : ℕ) → b < c → within a b c ≡ false
-within-above a b c h = by (leb a c)
-  where
-    by : (t : Bool) → both t (leb c b) ≡ false
-    by true = lt-leb c b h
-    by false = refl
-
-within-below : (a b c : ℕ) → c < a → within a b c ≡ false
-within-below a b c h = rw (lt-leb a c h)
-
-apart-out : (lo hi : ℕ) (r : Range) (c : ℕ) → T (apart lo hi r) → lo ≤ c → c ≤ hi → inRange r c ≡ false
-apart-out lo hi (a to b) c t h k = by (ltb b lo) refl t
-  where
-    by : (u : Bool) → ltb b lo ≡ u → T (pick u true (ltb hi a)) → within a b c ≡ false
-    by true e t = within-above a b c (omega (arith, ltb-true b lo e))
-    by false e t = within-below a b c (omega (arith, ltb→lt hi a t))
-
-pub gap-out : (lo hi : ℕ) (rs : List Range) → T (gap lo hi rs) → (c : ℕ) → lo ≤ c → c ≤ hi → false ≡ inSome rs c
-unfolding inSome
-gap-out lo hi [] t c h k = refl
-gap-out lo hi (r ∷ rs) t c h k = rw (apart-out lo hi r c (both-left (apart lo hi r) (gap lo hi rs) t) h k) (gap-out lo hi rs (both-right (apart lo hi r) _ t) c h k)
 
 inside-in : (lo hi : ℕ) (r : Range) (c : ℕ) → T (inside lo hi r) → lo ≤ c → c ≤ hi → inRange r c ≡ true
 inside-in lo hi (a to b) c t h k =
@@ -68,7 +39,8 @@ unfolding inSome
 cover-in lo hi [] t c h k = absurd t
 cover-in lo hi (r ∷ rs) t c h k = by (inside lo hi r) refl t (λ u. cover-in lo hi rs u c h k)
   where
-    by : (u : Bool) → inside lo hi r ≡ u → T (pick u true (cover lo hi rs)) → (T (cover lo hi rs) → true ≡ inSome rs c) → true ≡ pick (inRange r c) true (inSome rs c)
+    by : (u : Bool) → inside lo hi r ≡ u → T (pick u true (cover lo hi rs)) → (T (cover lo hi rs) → true ≡ inSome rs c)
+        → true ≡ pick (inRange r c) true (inSome rs c)
     by true e t ih = rw (inside-in lo hi r c (rw e tt) h k)
     by false e t ih = either (inRange r c) (ih t)
       where
@@ -127,11 +99,14 @@ pub code-2 : (s : List ℕ) (at : ℕ) → seqLen (drop at s) ≡ 2 → codeOf (
 unfolding codeOf codeBy
 code-2 s at e = rw e (simp (getD-drop, add-zero))
 
-pub code-3 : (s : List ℕ) (at : ℕ) → seqLen (drop at s) ≡ 3 → codeOf (drop at s) ≡ (getD s at 0 % 16 * 64 + getD s (at + 1) 0 % 64) * 64 + getD s (at + 2) 0 % 64
+pub code-3 : (s : List ℕ) (at : ℕ) → seqLen (drop at s) ≡ 3
+    → codeOf (drop at s) ≡ (getD s at 0 % 16 * 64 + getD s (at + 1) 0 % 64) * 64 + getD s (at + 2) 0 % 64
 unfolding codeOf codeBy
 code-3 s at e = rw e (simp (getD-drop, add-zero))
 
-pub code-4 : (s : List ℕ) (at : ℕ) (k : ℕ) → seqLen (drop at s) ≡ suc (suc (suc (suc k))) → codeOf (drop at s) ≡ ((getD s at 0 % 8 * 64 + getD s (at + 1) 0 % 64) * 64 + getD s (at + 2) 0 % 64) * 64 + getD s (at + 3) 0 % 64
+pub code-4 : (s : List ℕ) (at : ℕ) (k : ℕ) → seqLen (drop at s) ≡ suc (suc (suc (suc k)))
+    → codeOf (drop at s)
+    ≡ ((getD s at 0 % 8 * 64 + getD s (at + 1) 0 % 64) * 64 + getD s (at + 2) 0 % 64) * 64 + getD s (at + 3) 0 % 64
 unfolding codeOf codeBy
 code-4 s at k e = rw e (simp (getD-drop, add-zero))
 
@@ -185,7 +160,8 @@ turned s at h g e =
 
 -- ---- White_Space at the front
 module _ (s : List ℕ) (at : ℕ) (h : at < length s) where
-  pub start-white : isWhite (codeOf (drop at s)) ≡ true → startLen (chars (drop at s)) ≡ suc (more (drop at s)) + startLen (chars (drop (at + 1 + more (drop at s)) s))
+  pub start-white : isWhite (codeOf (drop at s)) ≡ true
+      → startLen (chars (drop at s)) ≡ suc (more (drop at s)) + startLen (chars (drop (at + 1 + more (drop at s)) s))
   unfolding startLen
   start-white e = rw (chars-next s at h, e)
 
@@ -215,11 +191,15 @@ ends-other last at m zero = rw (suc-add m 0) (omega arith)
 ends-other last at m (suc k) = rw (suc-add m (suc k)) (omega arith)
 
 module _ (s : List ℕ) (last at : ℕ) (h : at < length s) where
-  pub end-white : isWhite (codeOf (drop at s)) ≡ true → ends last at (endLen (chars (drop at s))) ≡ ends last (at + 1 + more (drop at s)) (endLen (chars (drop (at + 1 + more (drop at s)) s)))
+  pub end-white : isWhite (codeOf (drop at s)) ≡ true
+      → ends last at (endLen (chars (drop at s)))
+      ≡ ends last (at + 1 + more (drop at s)) (endLen (chars (drop (at + 1 + more (drop at s)) s)))
   unfolding endLen
   end-white e = rw (chars-next s at h, e) (ends-white last at (more (drop at s)) (endLen (chars (drop (at + 1 + more (drop at s)) s))))
 
-  pub end-other : isWhite (codeOf (drop at s)) ≡ false → ends last at (endLen (chars (drop at s))) ≡ ends (at + 1 + more (drop at s)) (at + 1 + more (drop at s)) (endLen (chars (drop (at + 1 + more (drop at s)) s)))
+  pub end-other : isWhite (codeOf (drop at s)) ≡ false
+      → ends last at (endLen (chars (drop at s)))
+      ≡ ends (at + 1 + more (drop at s)) (at + 1 + more (drop at s)) (endLen (chars (drop (at + 1 + more (drop at s)) s)))
   unfolding endLen
   end-other e = rw (chars-next s at h, e) (ends-other last at (more (drop at s)) (endLen (chars (drop (at + 1 + more (drop at s)) s))))
 

@@ -115,7 +115,17 @@ seq-3 a b d s h i j k l m long sur =
     record {
       scalar = rw (x, y, z) (⊎-elim (λ u. inl (omega arith)) (λ u. inr (omega arith, omega arith)) sur);
       bytes = rw (x, y, z)
-          (rw (le-ltb c 0x80 (omega arith), le-ltb c 0x800 (omega arith), lt-ltb c 0x10000 (omega arith), n .high, n .mid, n .low, p, q, r));
+          (rw (
+            le-ltb c 0x80 (omega arith),
+            le-ltb c 0x800 (omega arith),
+            lt-ltb c 0x10000 (omega arith),
+            n .high,
+            n .mid,
+            n .low,
+            p,
+            q,
+            r,
+          ));
     }
 
 -- four bytes: no overlong form, none above 10FFFF

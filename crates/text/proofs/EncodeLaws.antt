@@ -30,11 +30,13 @@ two : (a b lo hi : ℕ) (s : List ℕ) → follow a ≡ ranges 1 lo hi → withi
 unfolding seqLen after covers ranges
 two a b lo hi s e p = rw (e, p)
 
-three : (a b d lo hi : ℕ) (s : List ℕ) → follow a ≡ ranges 2 lo hi → within lo hi b ≡ true → within 0x80 0xBF d ≡ true → seqLen (a ∷ b ∷ d ∷ s) ≡ 3
+three : (a b d lo hi : ℕ) (s : List ℕ) → follow a ≡ ranges 2 lo hi → within lo hi b ≡ true → within 0x80 0xBF d ≡ true
+    → seqLen (a ∷ b ∷ d ∷ s) ≡ 3
 unfolding seqLen after covers ranges
 three a b d lo hi s e p q = rw (e, p, q)
 
-four : (a b d f lo hi : ℕ) (s : List ℕ) → follow a ≡ ranges 3 lo hi → within lo hi b ≡ true → within 0x80 0xBF d ≡ true → within 0x80 0xBF f ≡ true → seqLen (a ∷ b ∷ d ∷ f ∷ s) ≡ 4
+four : (a b d f lo hi : ℕ) (s : List ℕ) → follow a ≡ ranges 3 lo hi → within lo hi b ≡ true → within 0x80 0xBF d ≡ true
+    → within 0x80 0xBF f ≡ true → seqLen (a ∷ b ∷ d ∷ f ∷ s) ≡ 4
 unfolding seqLen after covers ranges
 four a b d f lo hi s e p q r = rw (e, p, q, r)
 
@@ -54,7 +56,8 @@ up-2 c = omega arith
 up-3 : (c : ℕ) → c / 64 * 64 + c % 64 ≡ c
 up-3 c = omega arith
 
-code-of-4 : (c : ℕ) → c < 0x110000 → (((0xF0 + c / 262144) % 8 * 64 + (0x80 + c / 4096 % 64) % 64) * 64 + (0x80 + c / 64 % 64) % 64) * 64 + (0x80 + c % 64) % 64 ≡ c
+code-of-4 : (c : ℕ) → c < 0x110000
+    → (((0xF0 + c / 262144) % 8 * 64 + (0x80 + c / 4096 % 64) % 64) * 64 + (0x80 + c / 64 % 64) % 64) * 64 + (0x80 + c % 64) % 64 ≡ c
 code-of-4 c h = rw (low-lead (c / 262144) (omega arith), low-tail (c / 4096), low-tail (c / 64), low-tail c, up-1 c, up-2 c, up-3 c)
 
 -- ---- the two facts
@@ -79,18 +82,23 @@ module _ (c : ℕ) (s : List ℕ) where
       record { long = rw e l; code = rw e (rw l (omega arith)) }
 
   -- three bytes, by the row
-  in-3 : (lo hi : ℕ) → 0x800 ≤ c → c < 0x10000 → follow (0xE0 + c / 4096) ≡ ranges 2 lo hi → lo ≤ 0x80 + c / 64 % 64 → 0x80 + c / 64 % 64 ≤ hi → Encoded c s
+  in-3 : (lo hi : ℕ) → 0x800 ≤ c → c < 0x10000 → follow (0xE0 + c / 4096) ≡ ranges 2 lo hi → lo ≤ 0x80 + c / 64 % 64
+      → 0x80 + c / 64 % 64 ≤ hi → Encoded c s
   unfolding encode codeOf codeBy
   in-3 lo hi h k f p q =
-      let e : encode c ≡ (0xE0 + c / 4096) ∷ (0x80 + c / 64 % 64) ∷ (0x80 + c % 64) ∷ [] = rw (le-ltb c 0x80 (omega arith), le-ltb c 0x800 h, lt-ltb c 0x10000 k) in
+      let e : encode c ≡ (0xE0 + c / 4096) ∷ (0x80 + c / 64 % 64) ∷ (0x80 + c % 64) ∷ [] =
+      rw (le-ltb c 0x80 (omega arith), le-ltb c 0x800 h, lt-ltb c 0x10000 k) in
       let l = three (0xE0 + c / 4096) (0x80 + c / 64 % 64) (0x80 + c % 64) lo hi s f (in-range lo hi _ p q) (tail-in c) in
       record { long = rw e l; code = rw e (rw l (omega arith)) }
 
-  in-4 : (lo hi : ℕ) → 0x10000 ≤ c → c < 0x110000 → follow (0xF0 + c / 262144) ≡ ranges 3 lo hi → lo ≤ 0x80 + c / 4096 % 64 → 0x80 + c / 4096 % 64 ≤ hi → Encoded c s
+  in-4 : (lo hi : ℕ) → 0x10000 ≤ c → c < 0x110000 → follow (0xF0 + c / 262144) ≡ ranges 3 lo hi → lo ≤ 0x80 + c / 4096 % 64
+      → 0x80 + c / 4096 % 64 ≤ hi → Encoded c s
   unfolding encode codeOf codeBy
   in-4 lo hi h k f p q =
-      let e : encode c ≡ (0xF0 + c / 262144) ∷ (0x80 + c / 4096 % 64) ∷ (0x80 + c / 64 % 64) ∷ (0x80 + c % 64) ∷ [] = rw (le-ltb c 0x80 (omega arith), le-ltb c 0x800 (omega arith), le-ltb c 0x10000 h) in
-      let l = four (0xF0 + c / 262144) (0x80 + c / 4096 % 64) (0x80 + c / 64 % 64) (0x80 + c % 64) lo hi s f (in-range lo hi _ p q) (tail-in (c / 64)) (tail-in c) in
+      let e : encode c ≡ (0xF0 + c / 262144) ∷ (0x80 + c / 4096 % 64) ∷ (0x80 + c / 64 % 64) ∷ (0x80 + c % 64) ∷ [] =
+      rw (le-ltb c 0x80 (omega arith), le-ltb c 0x800 (omega arith), le-ltb c 0x10000 h) in
+      let l = four (0xF0 + c / 262144) (0x80 + c / 4096 % 64) (0x80 + c / 64 % 64) (0x80 + c % 64) lo hi s f (in-range lo hi _ p q)
+      (tail-in (c / 64)) (tail-in c) in
       record { long = rw e l; code = rw e (rw l (code-of-4 c k)) }
 
   enc-3 : 0x800 ≤ c → c < 0x10000 → Scalar c → Encoded c s
@@ -100,19 +108,23 @@ module _ (c : ℕ) (s : List ℕ) where
       by : (t : Bool) → ltb c 0x1000 ≡ t → (u : Bool) → ltb c 0xD000 ≡ u → (v : Bool) → ltb c 0xE000 ≡ v → Encoded c s
       by true e u f v g =
           let p = ltb-true c 0x1000 e in
-          in-3 0xA0 0xBF h k (leads (ranges 2 0xA0 0xBF) 0xE0 1 tt (0xE0 + c / 4096) (omega arith) (omega arith)) (omega arith) (omega arith)
+          let lead = leads (ranges 2 0xA0 0xBF) 0xE0 1 tt (0xE0 + c / 4096) (omega arith) (omega arith) in
+          in-3 0xA0 0xBF h k lead (omega arith) (omega arith)
       by false e true f v g =
           let p = ltb-false c 0x1000 e in
           let q = ltb-true c 0xD000 f in
-          in-3 0x80 0xBF h k (leads (ranges 2 0x80 0xBF) 0xE1 12 tt (0xE0 + c / 4096) (omega arith) (omega arith)) (omega arith) (omega arith)
+          let lead = leads (ranges 2 0x80 0xBF) 0xE1 12 tt (0xE0 + c / 4096) (omega arith) (omega arith) in
+          in-3 0x80 0xBF h k lead (omega arith) (omega arith)
       by false e false f true g =
           let p = ltb-false c 0xD000 f in
           let q = ltb-true c 0xE000 g in
           let r : c < 0xD800 = ⊎-elim (λ w. w) (λ w. omega arith) sc in
-          in-3 0x80 0x9F h k (leads (ranges 2 0x80 0x9F) 0xED 1 tt (0xE0 + c / 4096) (omega arith) (omega arith)) (omega arith) (omega arith)
+          let lead = leads (ranges 2 0x80 0x9F) 0xED 1 tt (0xE0 + c / 4096) (omega arith) (omega arith) in
+          in-3 0x80 0x9F h k lead (omega arith) (omega arith)
       by false e false f false g =
           let q = ltb-false c 0xE000 g in
-          in-3 0x80 0xBF h k (leads (ranges 2 0x80 0xBF) 0xEE 2 tt (0xE0 + c / 4096) (omega arith) (omega arith)) (omega arith) (omega arith)
+          let lead = leads (ranges 2 0x80 0xBF) 0xEE 2 tt (0xE0 + c / 4096) (omega arith) (omega arith) in
+          in-3 0x80 0xBF h k lead (omega arith) (omega arith)
 
   enc-4 : 0x10000 ≤ c → c < 0x110000 → Encoded c s
   unfolding follow followIn ranges
@@ -121,14 +133,17 @@ module _ (c : ℕ) (s : List ℕ) where
       by : (t : Bool) → ltb c 0x40000 ≡ t → (u : Bool) → ltb c 0x100000 ≡ u → Encoded c s
       by true e u f =
           let p = ltb-true c 0x40000 e in
-          in-4 0x90 0xBF h k (leads (ranges 3 0x90 0xBF) 0xF0 1 tt (0xF0 + c / 262144) (omega arith) (omega arith)) (omega arith) (omega arith)
+          let lead = leads (ranges 3 0x90 0xBF) 0xF0 1 tt (0xF0 + c / 262144) (omega arith) (omega arith) in
+          in-4 0x90 0xBF h k lead (omega arith) (omega arith)
       by false e true f =
           let p = ltb-false c 0x40000 e in
           let q = ltb-true c 0x100000 f in
-          in-4 0x80 0xBF h k (leads (ranges 3 0x80 0xBF) 0xF1 3 tt (0xF0 + c / 262144) (omega arith) (omega arith)) (omega arith) (omega arith)
+          let lead = leads (ranges 3 0x80 0xBF) 0xF1 3 tt (0xF0 + c / 262144) (omega arith) (omega arith) in
+          in-4 0x80 0xBF h k lead (omega arith) (omega arith)
       by false e false f =
           let p = ltb-false c 0x100000 f in
-          in-4 0x80 0x8F h k (leads (ranges 3 0x80 0x8F) 0xF4 1 tt (0xF0 + c / 262144) (omega arith) (omega arith)) (omega arith) (omega arith)
+          let lead = leads (ranges 3 0x80 0x8F) 0xF4 1 tt (0xF0 + c / 262144) (omega arith) (omega arith) in
+          in-4 0x80 0x8F h k lead (omega arith) (omega arith)
 
   -- THE LAW: every scalar value's bytes are one well-formed sequence, and its code point is the value
   pub encoded : Scalar c → Encoded c s
@@ -143,15 +158,21 @@ module _ (c : ℕ) (s : List ℕ) where
           enc-4 p (⊎-elim (λ w. omega arith) (λ w. w .1) sc)
 
 -- ---- the characters of a text made of code points are those code points
+some : (t u v : Bool) (a b d e : List ℕ) → 0 < length a → 0 < length b → 0 < length d → 0 < length e
+    → 0 < length (pick t a (pick u b (pick v d e)))
+some true u v a b d e h k l m = h
+some false true v a b d e h k l m = k
+some false false true a b d e h k l m = l
+some false false false a b d e h k l m = m
+
 pub nonempty : (c : ℕ) → 0 < length (encode c)
 unfolding encode
-nonempty c = by (ltb c 0x80) (ltb c 0x800) (ltb c 0x10000)
-  where
-    by : (t u v : Bool) → 0 < length (pick t (c ∷ []) (pick u ((0xC0 + c / 64) ∷ (0x80 + c % 64) ∷ []) (pick v ((0xE0 + c / 4096) ∷ (0x80 + c / 64 % 64) ∷ (0x80 + c % 64) ∷ []) ((0xF0 + c / 262144) ∷ (0x80 + c / 4096 % 64) ∷ (0x80 + c / 64 % 64) ∷ (0x80 + c % 64) ∷ []))))
-    by true u v = omega arith
-    by false true v = omega arith
-    by false false true = omega arith
-    by false false false = omega arith
+nonempty c =
+    let two : List ℕ = (0xC0 + c / 64) ∷ (0x80 + c % 64) ∷ [] in
+    let three : List ℕ = (0xE0 + c / 4096) ∷ (0x80 + c / 64 % 64) ∷ (0x80 + c % 64) ∷ [] in
+    let four : List ℕ = (0xF0 + c / 262144) ∷ (0x80 + c / 4096 % 64) ∷ (0x80 + c / 64 % 64) ∷ (0x80 + c % 64) ∷ [] in
+    let long = some (ltb c 0x80) (ltb c 0x800) (ltb c 0x10000) (c ∷ []) two three four in
+    long (omega arith) (omega arith) (omega arith) (omega arith)
 
 pub chars-encode : (c : ℕ) (s : List ℕ) → Scalar c → chars (encode c ++ s) ≡ char c (length (encode c) - 1) ∷ chars s
 chars-encode c s sc =
@@ -181,5 +202,6 @@ well-formed (point {c = c} {cs = cs} h hs) =
     let k : length (encode c) ≡ suc (length (encode c) - 1) = omega arith in
     let l = length-append (encode c) (encodeAll cs) in
     let e = scan-cons seqLen (encode c ++ encodeAll cs) (length (encode c) - 1) (w .long ∙ k) (omega (arith, l)) in
-    let d : scan seqLen 0 (drop (suc (length (encode c) - 1)) (encode c ++ encodeAll cs)) ≡ scan seqLen 0 (encodeAll cs) = rw (← k, drop-append-seam (encode c) (encodeAll cs)) in
+    let d : scan seqLen 0 (drop (suc (length (encode c) - 1)) (encode c ++ encodeAll cs)) ≡ scan seqLen 0 (encodeAll cs) =
+    rw (← k, drop-append-seam (encode c) (encodeAll cs)) in
     omega (arith, e, d, l, well-formed hs)

@@ -5,7 +5,7 @@ use lib.ListN.{replicate}
 use Rattle.text.specs.Scan.{scan}
 use Rattle.text.specs.Utf8.{upTo, seqLen, after, covers, follow, followIn}
 use Rattle.text.specs.Find.{seek, begins, indexOf2}
-use Rattle.text.specs.Trim.{trimStart, trimEnd, startLen, endLen}
+use Rattle.text.specs.Trim.{trimStart, trimEnd, startLen, endLen, trimmed}
 use Rattle.text.specs.Chars.{chars, charsFrom, codeOf, codeBy, moreBy, more}
 use Rattle.text.specs.White.{isWhite}
 use Rattle.text.specs.Ranges.{inSome}
@@ -26,16 +26,27 @@ pub utf8s : Utf8s
 unfolding upTo scan seqLen after covers follow followIn
 utf8s = (refl, refl, refl, refl, refl, refl)
 
--- U+3000 a U+0085 tab; lines; order; the first "//"
-abbrev pub Texts : Type 0
-Texts =
+-- U+3000 a U+0085 tab; White_Space alone
+abbrev pub Trims : Type 0
+Trims =
     (trimStart (0xE3 ∷ 0x80 ∷ 0x80 ∷ 0x61 ∷ 0xC2 ∷ 0x85 ∷ 0x09 ∷ []) ≡ 3)
     × (trimEnd (0xE3 ∷ 0x80 ∷ 0x80 ∷ 0x61 ∷ 0xC2 ∷ 0x85 ∷ 0x09 ∷ []) ≡ 4)
-    × (lines (97 ∷ 13 ∷ 10 ∷ 10 ∷ 98 ∷ 13 ∷ []) ≡ (97 ∷ []) ∷ [] ∷ (98 ∷ 13 ∷ []) ∷ [])
+    × (trimmed (0xE3 ∷ 0x80 ∷ 0x80 ∷ 0x61 ∷ 0xC2 ∷ 0x85 ∷ 0x09 ∷ []) ≡ record { from = 3; len = 1 })
+    × (trimmed (0x20 ∷ 0xC2 ∷ 0xA0 ∷ 0x0A ∷ []) ≡ record { from = 4; len = 0 })
+
+pub trims : Trims
+unfolding trimmed trimStart trimEnd startLen endLen chars charsFrom isWhite inSome codeOf
+    codeBy more moreBy seqLen after covers follow followIn
+trims = (refl, refl, refl, refl)
+
+-- lines; order; the first "//"
+abbrev pub Texts : Type 0
+Texts =
+    (lines (97 ∷ 13 ∷ 10 ∷ 10 ∷ 98 ∷ 13 ∷ []) ≡ (97 ∷ []) ∷ [] ∷ (98 ∷ 13 ∷ []) ∷ [])
     × (lines (97 ∷ 10 ∷ []) ≡ (97 ∷ []) ∷ [])
     × (cmpBytes (97 ∷ 98 ∷ []) (97 ∷ 98 ∷ 0 ∷ []) ≡ Less)
     × (indexOf2 47 47 (97 ∷ 47 ∷ 98 ∷ 47 ∷ 47 ∷ []) ≡ 3)
 
 pub texts : Texts
-unfolding trimStart trimEnd chars charsFrom startLen endLen isWhite inSome codeOf codeBy more moreBy seqLen after covers follow followIn lines before onto cmpBytes indexOf2 seek begins
-texts = (refl, refl, refl, refl, refl, refl)
+unfolding lines before onto cmpBytes indexOf2 seek begins
+texts = (refl, refl, refl, refl)

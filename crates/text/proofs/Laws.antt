@@ -45,8 +45,10 @@ module _ (f : List ℕ → ℕ) where
   scan-zero [] e = refl
   scan-zero (x ∷ s) e = rw (e, scan)
 
-  pub scan-next : (s : List ℕ) (i k : ℕ) → f (drop i s) ≡ suc k → i + suc k ≤ length s → scan f 0 (drop i s) ≡ suc k + scan f 0 (drop (i + suc k) s)
-  scan-next s i k e h = scan-cons (drop i s) k e (simp length-drop (omega arith)) ∙ ap (λ (l : List ℕ). suc k + scan f 0 l) (drop-drop (suc k) i s)
+  pub scan-next : (s : List ℕ) (i k : ℕ) → f (drop i s) ≡ suc k → i + suc k ≤ length s
+      → scan f 0 (drop i s) ≡ suc k + scan f 0 (drop (i + suc k) s)
+  scan-next s i k e h = scan-cons (drop i s) k e (simp length-drop (omega arith))
+      ∙ ap (λ (l : List ℕ). suc k + scan f 0 l) (drop-drop (suc k) i s)
 
   pub scan-stop : (s : List ℕ) (i : ℕ) → f (drop i s) ≡ 0 → scan f 0 (drop i s) ≡ 0
   scan-stop s i e = scan-zero (drop i s) e

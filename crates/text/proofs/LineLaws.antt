@@ -30,7 +30,14 @@ module _ (x : ℕ) (s : List ℕ) (m : ℕ) (n : indexOf 10 s ≡ suc m) (e : in
   len-suc =
       let p : suc (suc m) - 1 ≡ suc m = omega arith in
       let q : suc m - 1 ≡ m = omega arith in
-      rw (n, e) (rw (p, q, leb·suc-suc (suc (suc m)) (length s), lt-ltb 0 (suc m) (omega arith), lt-ltb 0 (suc (suc m)) (omega arith)) (end-suc (both (leb (suc (suc m)) (length s)) (both true (eqb (getD s m 0) 13))) m))
+      rw (n, e) (rw (
+        p,
+        q,
+        leb·suc-suc (suc (suc m)) (length s),
+        lt-ltb 0 (suc m) (omega arith),
+        lt-ltb 0 (suc (suc m))
+            (omega arith),
+      ) (end-suc (both (leb (suc (suc m)) (length s)) (both true (eqb (getD s m 0) 13))) m))
 
   step-suc : lineStep (x ∷ s) ≡ suc (lineStep s)
   unfolding lineStep
@@ -55,7 +62,8 @@ next-one x e =
     rw (n, e, both-no)
 
 -- a byte, then LF
-next-two : (x y : ℕ) (s : List ℕ) → eqb x 10 ≡ false → eqb y 10 ≡ true → lines (x ∷ y ∷ s) ≡ take (lineLen (x ∷ y ∷ s)) (x ∷ y ∷ s) ∷ lines (drop (lineStep (x ∷ y ∷ s)) (x ∷ y ∷ s))
+next-two : (x y : ℕ) (s : List ℕ) → eqb x 10 ≡ false → eqb y 10 ≡ true
+    → lines (x ∷ y ∷ s) ≡ take (lineLen (x ∷ y ∷ s)) (x ∷ y ∷ s) ∷ lines (drop (lineStep (x ∷ y ∷ s)) (x ∷ y ∷ s))
 unfolding lines before onto lineLen lineStep crBefore begins
 next-two x y s e f =
     let n : indexOf 10 (x ∷ y ∷ s) ≡ 1 = rw (index-cons, e, index-cons, f) in
@@ -113,11 +121,13 @@ module _ (r : List ℕ) where
   unfolding lineLen lineStep crBefore
   len-empty h k = (rw (lt-ltb _ _ h, le-ltb _ _ k), rw (lt-ltb _ _ h))
 
-  pub len-cr : indexOf 10 r < length r → 0 < indexOf 10 r → getD r (indexOf 10 r - 1) 0 ≡ 13 → (lineLen r ≡ indexOf 10 r - 1) × (lineStep r ≡ indexOf 10 r + 1)
+  pub len-cr : indexOf 10 r < length r → 0 < indexOf 10 r → getD r (indexOf 10 r - 1) 0 ≡ 13
+      → (lineLen r ≡ indexOf 10 r - 1) × (lineStep r ≡ indexOf 10 r + 1)
   unfolding lineLen lineStep crBefore
   len-cr h k e = (rw (lt-ltb _ _ h, lt-ltb _ _ k, eq-eqb _ _ e), rw (lt-ltb _ _ h))
 
-  pub len-lf : indexOf 10 r < length r → 0 < indexOf 10 r → (getD r (indexOf 10 r - 1) 0 ≡ 13 → ⊥) → (lineLen r ≡ indexOf 10 r) × (lineStep r ≡ indexOf 10 r + 1)
+  pub len-lf : indexOf 10 r < length r → 0 < indexOf 10 r → (getD r (indexOf 10 r - 1) 0 ≡ 13 → ⊥)
+      → (lineLen r ≡ indexOf 10 r) × (lineStep r ≡ indexOf 10 r + 1)
   unfolding lineLen lineStep crBefore
   len-lf h k e = (rw (lt-ltb _ _ h, lt-ltb _ _ k, ne-eqb _ _ e), rw (lt-ltb _ _ h))
 
@@ -150,7 +160,13 @@ line-bounds s at h =
     by r p q =
         let i = index-le 10 (drop at s) in
         let k = pk (indexOf 10 (drop at s)) (length (drop at s)) i p in
-        record { len = omega (arith, end-le (crBefore (drop at s) (indexOf 10 (drop at s))) (indexOf 10 (drop at s))); next = omega (arith, k); more = k .1 }
+        record {
+          len = omega (arith, end-le (crBefore (drop at s) (indexOf 10 (drop at s))) (indexOf 10 (drop at s)));
+          next = omega
+              (arith, k);
+          more = k .1;
+        }
 
-pub lines-at : (s : List ℕ) (at : ℕ) → at < length s → lines (drop at s) ≡ take (lineLen (drop at s)) (drop at s) ∷ lines (drop (at + lineStep (drop at s)) s)
+pub lines-at : (s : List ℕ) (at : ℕ) → at < length s
+    → lines (drop at s) ≡ take (lineLen (drop at s)) (drop at s) ∷ lines (drop (at + lineStep (drop at s)) s)
 lines-at s at h = lines-next (drop at s) (omega (arith, length-drop at s)) ∙ rw drop-drop

@@ -22,7 +22,8 @@ unfolding startLen takeWhile encodeAll
 start-map [] = refl
 start-map (c ∷ cs) = by (isWhite c) (start-map cs)
   where
-    by : (t : Bool) → startLen (map charOf cs) ≡ length (encodeAll (takeWhile isWhite cs)) → pick t (suc (length (encode c) - 1) + startLen (map charOf cs)) 0 ≡ length (encodeAll (pick t (c ∷ takeWhile isWhite cs) []))
+    by : (t : Bool) → startLen (map charOf cs) ≡ length (encodeAll (takeWhile isWhite cs))
+        → pick t (suc (length (encode c) - 1) + startLen (map charOf cs)) 0 ≡ length (encodeAll (pick t (c ∷ takeWhile isWhite cs) []))
     by true ih = omega (arith, size c, ih, length-append (encode c) (encodeAll (takeWhile isWhite cs)))
     by false ih = refl
 
@@ -31,9 +32,12 @@ unfolding endLen dropEnd encodeAll keep
 end-map [] = refl
 end-map (c ∷ cs) = by (isWhite c) (endLen (map charOf cs)) (dropEnd isWhite cs) (end-map cs)
   where
-    by : (t : Bool) (n : ℕ) (ds : List ℕ) → n ≡ length (encodeAll ds) → pick (both t (eqb n 0)) 0 (suc (length (encode c) - 1) + n) ≡ length (encodeAll (keep t c ds))
+    by : (t : Bool) (n : ℕ) (ds : List ℕ) → n ≡ length (encodeAll ds)
+        → pick (both t (eqb n 0)) 0 (suc (length (encode c) - 1) + n) ≡ length (encodeAll (keep t c ds))
     by true n [] ih = rw ih
-    by true n (d ∷ ds) ih = rw (ne-eqb n 0 (λ z. omega (arith, z, ih, nonempty d, length-append (encode d) (encodeAll ds)))) (omega (arith, size c, ih, length-append (encode c) (encodeAll (d ∷ ds))))
+    by true n (d ∷ ds) ih =
+        let some : n ≡ 0 → ⊥ = λ z. omega (arith, z, ih, nonempty d, length-append (encode d) (encodeAll ds)) in
+        rw (ne-eqb n 0 some) (omega (arith, size c, ih, length-append (encode c) (encodeAll (d ∷ ds))))
     by false n [] ih = omega (arith, size c, ih, length-append (encode c) [])
     by false n (d ∷ ds) ih = omega (arith, size c, ih, length-append (encode c) (encodeAll (d ∷ ds)))
 
@@ -99,14 +103,16 @@ started-encode : {cs : List ℕ} → Scalars cs → started (encodeAll cs) ≡ e
 started-encode {cs} h =
     let fore = encodeAll (takeWhile isWhite cs) in
     let rest = encodeAll (dropStart isWhite cs) in
-    let e : encodeAll cs ≡ fore ++ rest = ap encodeAll (start-split isWhite cs) ∙ encode-append (takeWhile isWhite cs) (dropStart isWhite cs) in
+    let e : encodeAll cs ≡ fore ++ rest =
+    ap encodeAll (start-split isWhite cs) ∙ encode-append (takeWhile isWhite cs) (dropStart isWhite cs) in
     ap (λ (n : ℕ). drop n (encodeAll cs)) (start-encode h) ∙ ap (drop (length fore)) e ∙ drop-append-seam fore rest
 
 ended-encode : {cs : List ℕ} → Scalars cs → ended (encodeAll cs) ≡ encodeAll (dropEnd isWhite cs)
 ended-encode {cs} h =
     let kept = encodeAll (dropEnd isWhite cs) in
     let gone = encodeAll (outEnd isWhite cs) in
-    let e : encodeAll cs ≡ kept ++ gone = ap encodeAll (end-split isWhite cs) ∙ encode-append (dropEnd isWhite cs) (outEnd isWhite cs) in
+    let e : encodeAll cs ≡ kept ++ gone =
+    ap encodeAll (end-split isWhite cs) ∙ encode-append (dropEnd isWhite cs) (outEnd isWhite cs) in
     ap (λ (n : ℕ). take n (encodeAll cs)) (end-encode h) ∙ ap (take (length kept)) e ∙ take-append-seam kept gone
 
 pub trim-encode : {cs : List ℕ} → Scalars cs → trimOf (encodeAll cs) ≡ encodeAll (dropEnd isWhite (dropStart isWhite cs))

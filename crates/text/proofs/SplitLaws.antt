@@ -1,4 +1,5 @@
--- The characters of a text that is put together or taken apart: an ASCII byte is a character alone, whatever stands before it; a cut between two characters. Assumes nothing.
+-- The characters of a text that is put together or taken apart: an ASCII byte is a character alone, whatever stands before it;
+-- a cut between two characters. Assumes nothing.
 use mathlib.Core.Path.{_≡_, refl, sym, ap, _∙_}
 use mathlib.Core.Bool.{Bool, true, false, false≢true}
 use mathlib.Core.List.{List, [], _∷_, _++_}
@@ -69,7 +70,8 @@ covers-less [] a b e = absurd (false≢true (sym e))
 covers-less (r ∷ rs) [] b e = refl
 covers-less (r ∷ rs) (y ∷ a) b e = by (inRange r y) (covers-less rs a b) e
   where
-    by : (t : Bool) → (covers rs (a ++ b) ≡ false → covers rs a ≡ false) → both t (covers rs (a ++ b)) ≡ false → both t (covers rs a) ≡ false
+    by : (t : Bool) → (covers rs (a ++ b) ≡ false → covers rs a ≡ false) → both t (covers rs (a ++ b)) ≡ false
+        → both t (covers rs a) ≡ false
     by true ih e = ih e
     by false ih e = refl
 
@@ -77,14 +79,16 @@ covers-cut : (rs : List Range) (a b : List ℕ) → covers rs (a ++ b) ≡ true 
 unfolding covers
 covers-cut [] a b e h = refl
 covers-cut (r ∷ rs) [] b e h = absurd (not-suc-le-zero h)
-covers-cut (r ∷ rs) (y ∷ a) b e h = both-and (inRange r y) (covers rs a) (both-one (inRange r y) _ e) (covers-cut rs a b (both-two (inRange r y) _ e) (le-of-suc-le-suc h))
+covers-cut (r ∷ rs) (y ∷ a) b e h = both-and (inRange r y) (covers rs a) (both-one (inRange r y) _ e)
+    (covers-cut rs a b (both-two (inRange r y) _ e) (le-of-suc-le-suc h))
 
 after-cut : (f : Follow) (a b : List ℕ) → moreBy (after f (a ++ b)) ≤ length a → after f (a ++ b) ≡ after f a
 unfolding after moreBy
 after-cut none a b h = refl
 after-cut (these rs) a b h = by (covers rs (a ++ b)) refl h
   where
-    by : (t : Bool) → covers rs (a ++ b) ≡ t → moreBy (pick t (suc (length rs)) 0) ≤ length a → pick t (suc (length rs)) 0 ≡ pick (covers rs a) (suc (length rs)) 0
+    by : (t : Bool) → covers rs (a ++ b) ≡ t → moreBy (pick t (suc (length rs)) 0) ≤ length a
+        → pick t (suc (length rs)) 0 ≡ pick (covers rs a) (suc (length rs)) 0
     by true e h = rw (covers-cut rs a b e h)
     by false e h = rw (covers-less rs a b e)
 
@@ -96,9 +100,24 @@ code-more : (k : ℕ) (a b : List ℕ) → k ≤ length a → codeBy k (a ++ b) 
 unfolding codeBy
 code-more zero a b h = refl
 code-more (suc zero) a b h = rw (List·getD-append a b 0 0 (omega arith))
-code-more (suc (suc zero)) a b h = rw (List·getD-append a b 0 0 (omega arith), List·getD-append a b 0 1 (omega arith))
-code-more (suc (suc (suc zero))) a b h = rw (List·getD-append a b 0 0 (omega arith), List·getD-append a b 0 1 (omega arith), List·getD-append a b 0 2 (omega arith))
-code-more (suc (suc (suc (suc k)))) a b h = rw (List·getD-append a b 0 0 (omega arith), List·getD-append a b 0 1 (omega arith), List·getD-append a b 0 2 (omega arith), List·getD-append a b 0 3 (omega arith))
+code-more (suc (suc zero)) a b h =
+    rw (
+      List·getD-append a b 0 0 (omega arith),
+      List·getD-append a b 0 1 (omega arith),
+    )
+code-more (suc (suc (suc zero))) a b h =
+    rw (
+      List·getD-append a b 0 0 (omega arith),
+      List·getD-append a b 0 1 (omega arith),
+      List·getD-append a b 0 2 (omega arith),
+    )
+code-more (suc (suc (suc (suc k)))) a b h =
+    rw (
+      List·getD-append a b 0 0 (omega arith),
+      List·getD-append a b 0 1 (omega arith),
+      List·getD-append a b 0 2 (omega arith),
+      List·getD-append a b 0 3 (omega arith),
+    )
 
 -- the first character is the same where its sequence is as long
 pub record Front (y : ℕ) (a b : List ℕ) : Type 0 where
@@ -118,7 +137,8 @@ more-le y a = by (seqLen (y ∷ a)) (seq-long (y ∷ a))
     by (suc k) h = omega arith
 
 -- ---- an ASCII byte parts the characters
-ascii-from : (k : ℕ) (s : List ℕ) (x : ℕ) (t : List ℕ) → x < 0x80 → k ≤ length s → charsFrom k (s ++ x ∷ t) ≡ charsFrom k s ++ charsFrom 0 (x ∷ t)
+ascii-from : (k : ℕ) (s : List ℕ) (x : ℕ) (t : List ℕ) → x < 0x80 → k ≤ length s
+    → charsFrom k (s ++ x ∷ t) ≡ charsFrom k s ++ charsFrom 0 (x ∷ t)
 unfolding charsFrom
 ascii-from zero [] x t h b = refl
 ascii-from (suc k) [] x t h b = absurd (not-suc-le-zero b)
@@ -132,7 +152,8 @@ unfolding chars
 chars-ascii s x t h = ascii-from 0 s x t h (omega arith)
 
 -- ---- a cut between two characters
-cut-from : (k : ℕ) (a b : List ℕ) (ps qs : List Char) → charsFrom k (a ++ b) ≡ ps ++ qs → k + bytes-of ps ≡ length a → (charsFrom k a ≡ ps) × (charsFrom 0 b ≡ qs)
+cut-from : (k : ℕ) (a b : List ℕ) (ps qs : List Char) → charsFrom k (a ++ b) ≡ ps ++ qs → k + bytes-of ps ≡ length a
+    → (charsFrom k a ≡ ps) × (charsFrom 0 b ≡ qs)
 unfolding charsFrom bytes-of
 cut-from zero [] b [] qs e h = (refl, e)
 cut-from zero [] b (char c m ∷ ps) qs e h = absurd (omega arith)
@@ -216,7 +237,8 @@ from-upto (suc k) [] e h = absurd (not-suc-le-zero h)
 from-upto (suc k) (x ∷ s) e h = ap suc (from-upto k s e (le-of-suc-le-suc h))
 from-upto zero (x ∷ s) e h = by (seqLen (x ∷ s)) refl (λ (k : ℕ). from-upto k s) (seq-long (x ∷ s))
   where
-    by : (k : ℕ) → seqLen (x ∷ s) ≡ k → ((k : ℕ) → allProper (charsFrom k s) ≡ true → k ≤ length s → scan seqLen k s ≡ length s) → seqLen (x ∷ s) ≤ suc (length s)
+    by : (k : ℕ) → seqLen (x ∷ s) ≡ k → ((k : ℕ) → allProper (charsFrom k s) ≡ true → k ≤ length s → scan seqLen k s ≡ length s)
+        → seqLen (x ∷ s) ≤ suc (length s)
         → scan seqLen 0 (x ∷ s) ≡ suc (length s)
     by zero q ih b = absurd (false≢true (rw q at e))
     by (suc k) q ih b =
@@ -244,4 +266,5 @@ well-one x t h = rw (ascii-one x t h, lt-ltb x 0x80 h)
 
 pub well-ascii : (w : List ℕ) (x : ℕ) (t : List ℕ) → x < 0x80 → well (w ++ x ∷ t) ≡ both (well w) (well t)
 unfolding well
-well-ascii w x t h = rw (chars-ascii w x t h) (proper-append (chars w) (chars (x ∷ t)) ∙ ap (both (allProper (chars w))) (unfold well in well-one x t h))
+well-ascii w x t h = rw (chars-ascii w x t h)
+    (proper-append (chars w) (chars (x ∷ t)) ∙ ap (both (allProper (chars w))) (unfold well in well-one x t h))

@@ -31,7 +31,8 @@ unfolding kept gone
 kept-gone [] = refl
 kept-gone (char c m ∷ cs) = by (both (isWhite c) (eqb (endLen cs) 0)) (kept-gone cs)
   where
-    by : (t : Bool) → cs ≡ kept cs ++ gone cs → _≡_ {A = List Char} (char c m ∷ cs) (pick t [] (char c m ∷ kept cs) ++ pick t (char c m ∷ cs) (gone cs))
+    by : (t : Bool) → cs ≡ kept cs ++ gone cs
+        → _≡_ {A = List Char} (char c m ∷ cs) (pick t [] (char c m ∷ kept cs) ++ pick t (char c m ∷ cs) (gone cs))
     by true ih = refl
     by false ih = ap (λ (l : List Char). char c m ∷ l) ih
 
@@ -49,7 +50,8 @@ unfolding kept endLen
 kept-end [] = refl
 kept-end (char c m ∷ cs) = by (both (isWhite c) (eqb (endLen cs) 0)) refl (kept-end cs)
   where
-    by : (t : Bool) → both (isWhite c) (eqb (endLen cs) 0) ≡ t → endLen (kept cs) ≡ endLen cs → endLen (pick t [] (char c m ∷ kept cs)) ≡ pick t 0 (suc m + endLen cs)
+    by : (t : Bool) → both (isWhite c) (eqb (endLen cs) 0) ≡ t → endLen (kept cs) ≡ endLen cs
+        → endLen (pick t [] (char c m ∷ kept cs)) ≡ pick t 0 (suc m + endLen cs)
     by true e ih = refl
     by false e ih = rw (ih, e)
 
@@ -66,7 +68,8 @@ unfolding fore rest
 fore-rest [] = refl
 fore-rest (char c m ∷ cs) = by (isWhite c) (fore-rest cs)
   where
-    by : (t : Bool) → cs ≡ fore cs ++ rest cs → _≡_ {A = List Char} (char c m ∷ cs) (pick t (char c m ∷ fore cs) [] ++ pick t (rest cs) (char c m ∷ cs))
+    by : (t : Bool) → cs ≡ fore cs ++ rest cs
+        → _≡_ {A = List Char} (char c m ∷ cs) (pick t (char c m ∷ fore cs) [] ++ pick t (rest cs) (char c m ∷ cs))
     by true ih = ap (λ (l : List Char). char c m ∷ l) ih
     by false ih = refl
 
@@ -162,11 +165,13 @@ unfolding endLen bytes-of
 end-append [] ds h = sym (zero-add _)
 end-append (char c m ∷ cs) ds h = by (isWhite c) (end-append cs ds h)
   where
-    by : (t : Bool) → endLen (cs ++ ds) ≡ bytes-of cs + endLen ds → pick (both t (eqb (endLen (cs ++ ds)) 0)) 0 (suc m + endLen (cs ++ ds)) ≡ suc m + bytes-of cs + endLen ds
+    by : (t : Bool) → endLen (cs ++ ds) ≡ bytes-of cs + endLen ds
+        → pick (both t (eqb (endLen (cs ++ ds)) 0)) 0 (suc m + endLen (cs ++ ds)) ≡ suc m + bytes-of cs + endLen ds
     by true ih = rw (ih, ne-eqb (bytes-of cs + endLen ds) 0 (λ z. omega arith)) (omega arith)
     by false ih = rw ih (omega arith)
 
-pub end-after : (w : List ℕ) (x : ℕ) (t : List ℕ) → x < 0x80 → trimEnd (x ∷ t) ≡ suc (length t) → trimEnd (w ++ x ∷ t) ≡ length (w ++ x ∷ t)
+pub end-after : (w : List ℕ) (x : ℕ) (t : List ℕ) → x < 0x80 → trimEnd (x ∷ t) ≡ suc (length t)
+    → trimEnd (w ++ x ∷ t) ≡ length (w ++ x ∷ t)
 unfolding trimEnd
 end-after w x t h e =
     rw (chars-ascii w x t h) (end-append (chars w) (chars (x ∷ t)) (omega arith) ∙ rw (bytes-all w, e) (sym (length-append w (x ∷ t))))

@@ -10,7 +10,7 @@ use lib.Seq.{drop-drop}
 use Rattle.refusal.specs.Pick.{both, pick}
 use Rattle.text.specs.Scan.{scan}
 use Rattle.text.specs.Ranges.{Range, _to_, inRange}
-use Rattle.text.specs.Utf8.{Follow, none, these, tail, followIn, follow, covers, after, seqLen}
+use Rattle.text.specs.Utf8.{Follow, none, these, tail, follow, covers, after, seqLen}
 use Rattle.text.specs.Steps.{stepOf, stepAt, headIn, ranges, Went}
 use Rattle.text.specs.declared.utf8.Seq.the-variants.{Next, Bad}
 use Rattle.text.proofs.Laws.{scan-next, scan-stop, left-next, every, on-range, both-left, both-right}
@@ -53,10 +53,6 @@ follow-is (these rs) none t = absurd t
 follow-is (these rs) (these qs) t = ap these (ranges-are rs qs t)
 
 -- ---- the first bytes from lo, n of them, all have what v says: computed
-abbrev pub Leads : Follow → ℕ → ℕ → Type 0
-unfolding follow followIn
-Leads v lo n = T (every (λ (k : ℕ). followEq (follow k) v) lo n)
-
 pub leads : (v : Follow) (lo n : ℕ) → T (every (λ (k : ℕ). followEq (follow k) v) lo n) → (a : ℕ) → lo ≤ a → a < lo + n → follow a ≡ v
 leads v lo n t a h k = follow-is (follow a) v (on-range (λ (k : ℕ). followEq (follow k) v) lo n t a h k)
 
@@ -82,7 +78,8 @@ pick-both : (a b : Bool) (n : ℕ) → pick (both a b) n 0 ≡ pick a (pick b n 
 pick-both true b n = refl
 pick-both false b n = refl
 
-by-parts : (m lo hi : ℕ) (s : List ℕ) → after (ranges m lo hi) s ≡ verdict m (headIn (lo to hi) s) (headIn tail (drop 1 s)) (headIn tail (drop 1 (drop 1 s)))
+by-parts : (m lo hi : ℕ) (s : List ℕ)
+    → after (ranges m lo hi) s ≡ verdict m (headIn (lo to hi) s) (headIn tail (drop 1 s)) (headIn tail (drop 1 (drop 1 s)))
 unfolding after ranges covers
 by-parts zero lo hi s = refl
 by-parts (suc zero) lo hi s = simp (covers-cons, pick-both)

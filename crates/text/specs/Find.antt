@@ -1,4 +1,5 @@
--- docs/RULES.md, "Texts": the first place where what is left of a text passes a test; a text that begins with or is another. Assumes nothing.
+-- docs/RULES.md, "Texts": the first place where what is left of a text passes a test;
+-- a text that begins with another, or is it. Assumes nothing.
 use mathlib.Core.Bool.{Bool, true, false}
 use mathlib.Core.List.{List, [], _∷_}
 use Prim.Native.Nat.{ℕ, zero, suc}

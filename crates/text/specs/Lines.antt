@@ -24,7 +24,8 @@ unfoldable pub lines : List ℕ → List (List ℕ)
 lines [] = []
 lines (x ∷ s) = before (eqb x 10) (both (eqb x 13) (begins (10 ∷ []) s)) x (lines s)
 
--- ---- for the code: the line at the front of s, by its first LF. `lines-next` of proofs/LineLaws.antt says that it is the first of `lines s`
+-- ---- for the code: the line at the front of s, by its first LF.
+-- `lines-next` of proofs/LineLaws.antt says that it is the first of `lines s`
 -- the end of a line whose LF is at n, with a CR to drop or none
 abbrev pub endBy : Bool → ℕ → ℕ
 endBy true n = n - 1

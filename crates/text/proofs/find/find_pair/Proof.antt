@@ -23,13 +23,15 @@ returns : tie.Need-returns Inv-loop μ-loop
 returns c =
     let l = c .before .before .before in
     let a = l .before .before .args in
-    omega (arith, seek-hit (begins (a .a ∷ a .b ∷ [])) (a .s .now) (l .loop .i) (omega arith) (sym (c .before .pair .ensures) ∙ c .if1 .taken))
+    let yes = sym (c .before .pair .ensures) ∙ c .if1 .taken in
+    omega (arith, seek-hit (begins (a .a ∷ a .b ∷ [])) (a .s .now) (l .loop .i) (omega arith) yes)
 
 loop-again : tie.Need-loop-again Inv-loop μ-loop
 loop-again c =
     let l = c .before .before .before in
     let a = l .before .before .args in
-    omega (arith, seek-miss (begins (a .a ∷ a .b ∷ [])) (a .s .now) (l .loop .i) (omega arith) (sym (c .before .pair .ensures) ∙ c .if1 .left))
+    let no = sym (c .before .pair .ensures) ∙ c .if1 .left in
+    omega (arith, seek-miss (begins (a .a ∷ a .b ∷ [])) (a .s .now) (l .loop .i) (omega arith) no)
 
 returns-2 : tie.Need-returns-2 Inv-loop μ-loop
 returns-2 c =

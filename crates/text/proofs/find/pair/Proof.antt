@@ -12,7 +12,9 @@ returns : tie.Need-returns
 unfolding begins
 returns c =
     let a = c .before .before .before .before .args in
-    rw (left-next (a .s .now) (a .i) (omega arith), left-next (a .s .now) (a .i + 1) (omega arith), eq-eqb _ _ (c .before .before .if1 .taken), both-yes)
+    let here = left-next (a .s .now) (a .i) (omega arith) in
+    let next = left-next (a .s .now) (a .i + 1) (omega arith) in
+    rw (here, next, eq-eqb _ _ (c .before .before .if1 .taken), both-yes)
 
 returns-2 : tie.Need-returns-2
 unfolding begins

@@ -1,5 +1,6 @@
 -- `line_at` meets its contract, by the place of the first LF in what is left. Assumes nothing.
 use mathlib.Core.Path.{_≡_, sym, ap, _∙_}
+use mathlib.Core.List.{List}
 use Prim.Native.Nat.{ℕ, _+_, _-_, _<_}
 use native.Mathlib.Omega.{arith}
 use lib.ListN.{length, drop, getD, length-drop}
@@ -13,16 +14,16 @@ use Rattle.text.proofs.LineLaws.{len-past, len-none, len-empty, len-cr,
 use Rattle.text.proofs.lines.line_at.Statement.{statement}
 use Rattle.text.proofs.lines.line_at.Tie as tie
 
--- the place of the first LF, and what is left is as long
-record Found (c : tie.After-find) : Type 0 where
-  at : c .find .result ≡ indexOf 10 (drop (c .before .before .before .before .args .at) (c .before .before .before .before .args .s .now))
-  long : length (drop (c .before .before .before .before .args .at) (c .before .before .before .before .args .s .now)) ≡ length (c .before .before .before .before .args .s .now) - c .before .before .before .before .args .at
+-- the place of the first LF in what is left, which is as long
+record Found (s : List ℕ) (at lf : ℕ) : Type 0 where
+  place : lf ≡ indexOf 10 (drop at s)
+  long : length (drop at s) ≡ length s - at
 
-found : (c : tie.After-find) → Found c
+found : (c : tie.After-find) → let a = c .before .before .before .before .args in Found (a .s .now) (a .at) (c .find .result)
 found c =
     let a = c .before .before .before .before .args in
     record {
-      at = c .find .ensures ∙ ap (indexOf 10) (left-part (a .s .now) (a .at));
+      place = c .find .ensures ∙ ap (indexOf 10) (left-part (a .s .now) (a .at));
       long = length-drop (a .at) (a .s .now);
     }
 

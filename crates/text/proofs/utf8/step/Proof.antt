@@ -1,6 +1,7 @@
 -- `text::utf8::step` meets its contract: `seq-parts` says the sequence's length by the bytes that are looked at. Assumes nothing.
 use mathlib.Core.Path.{_≡_, sym, _∙_}
-use Prim.Native.Nat.{_+_}
+use mathlib.Core.List.{List}
+use Prim.Native.Nat.{_+_, ℕ}
 use native.Mathlib.Omega.{arith}
 use lib.ListN.{drop}
 use borrow.Author.Needs.{needs}
@@ -16,7 +17,8 @@ use Rattle.text.proofs.utf8.step.Tie as tie
 parts : (c : tie.After-lead-of) →
     let a = c .before .before .before .args in
     let r = c .lead-of .result in
-    seqLen (drop (a .at) (a .s .now)) ≡ verdict (r .more) (headIn (r .lo to r .hi) (drop (a .at + 1) (a .s .now))) (headIn tail (drop (a .at + 2) (a .s .now))) (headIn tail (drop (a .at + 3) (a .s .now)))
+    let left : ℕ → List ℕ = λ n. drop (a .at + n) (a .s .now) in
+    seqLen (drop (a .at) (a .s .now)) ≡ verdict (r .more) (headIn (r .lo to r .hi) (left 1)) (headIn tail (left 2)) (headIn tail (left 3))
 parts c =
     let a = c .before .before .before .args in
     let r = c .lead-of .result in
@@ -65,7 +67,10 @@ unfolding stepAt stepOf
 returns-7 c =
     let g = c .before .before .before .before in
     let h = g .before .before .before in
-    let m : h .before .before .before .lead-of .result .more ≡ 3 = omega (arith, h .before .if2 .left, h .before .before .if1 .left, g .before .if4 .left, c .before .before .if6 .left) in
+    let four = h .before .if2 .left in
+    let not-two = g .before .if4 .left in
+    let not-three = c .before .before .if6 .left in
+    let m : h .before .before .before .lead-of .result .more ≡ 3 = omega (arith, h .before .before .if1 .left) in
     let e₁ = sym (h .has .ensures) ∙ not-false _ (g .before .before .if3 .left) in
     let e₂ = sym (g .has2 .ensures) ∙ not-false _ (c .before .before .before .if5 .left) in
     let e₃ = sym (c .before .has3 .ensures) ∙ not-true _ (c .if7 .taken) in
@@ -76,7 +81,10 @@ unfolding stepAt stepOf
 returns-8 c =
     let g = c .before .before .before .before in
     let h = g .before .before .before in
-    let m : h .before .before .before .lead-of .result .more ≡ 3 = omega (arith, h .before .if2 .left, h .before .before .if1 .left, g .before .if4 .left, c .before .before .if6 .left) in
+    let four = h .before .if2 .left in
+    let not-two = g .before .if4 .left in
+    let not-three = c .before .before .if6 .left in
+    let m : h .before .before .before .lead-of .result .more ≡ 3 = omega (arith, h .before .before .if1 .left) in
     let e₁ = sym (h .has .ensures) ∙ not-false _ (g .before .before .if3 .left) in
     let e₂ = sym (g .has2 .ensures) ∙ not-false _ (c .before .before .before .if5 .left) in
     let e₃ = sym (c .before .has3 .ensures) ∙ not-false _ (c .if7 .left) in

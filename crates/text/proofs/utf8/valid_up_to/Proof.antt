@@ -18,7 +18,9 @@ abbrev μ-loop : tie.MeasureT-loop
 μ-loop s at₀ at = length s - at
 
 -- a turn that goes on
-went : (c : tie.After-known-told Inv-loop μ-loop) → Went (c .before .before .before .before .before .before .before .args .s .now) (c .before .before .before .before .before .loop .at) (c .before .n .given .0 .0)
+went : (c : tie.After-known-told Inv-loop μ-loop) →
+    let l = c .before .before .before .before .before in
+    Went (l .before .before .args .s .now) (l .loop .at) (c .before .n .given .0 .0)
 went c = rw (c .before .n .given .1) at (c .before .before .before .jump .ensures)
 
 returns : tie.Need-returns Inv-loop μ-loop

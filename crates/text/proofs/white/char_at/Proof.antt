@@ -10,10 +10,13 @@ use Rattle.text.proofs.white.char_at.Statement.{statement}
 use Rattle.text.proofs.white.char_at.Tie as tie
 
 -- the length of the sequence that was found
-seq : (c : tie.After-known-told) → Long (c .before .before .before .before .before .args .s .now) (c .before .before .before .before .before .args .at) (c .before .n .given .0 .0)
+seq : (c : tie.After-known-told) →
+    let a = c .before .before .before .before .before .args in
+    Long (a .s .now) (a .at) (c .before .n .given .0 .0)
 seq c =
     let a = c .before .before .before .before .before .args in
-    long (a .s .now) (a .at) (c .before .n .given .0 .0) (omega arith) (sym (c .before .before .before .step .ensures) ∙ c .before .n .given .1)
+    let e = sym (c .before .before .before .step .ensures) ∙ c .before .n .given .1 in
+    long (a .s .now) (a .at) (c .before .n .given .0 .0) (omega arith) e
 
 returns : tie.Need-returns
 returns c =

@@ -18,8 +18,9 @@ abbrev μ-loop : tie.MeasureT-loop
 μ-loop s at₀ at = length s - at
 
 -- what the two calls of a turn say
-here : (c : tie.After-is-white Inv-loop μ-loop)
-    → Here (c .before .before .before .before .before .args .s .now) (c .before .before .before .loop .at) (c .before .char-at .result .more) (c .is-white .result)
+here : (c : tie.After-is-white Inv-loop μ-loop) →
+    let l = c .before .before .before in
+    Here (l .before .before .args .s .now) (l .loop .at) (c .before .char-at .result .more) (c .is-white .result)
 here c =
     let l = c .before .before .before in
     turned (l .before .before .args .s .now) (l .loop .at) (omega arith) (c .before .char-at .ensures) (c .is-white .ensures)
