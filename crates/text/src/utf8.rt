@@ -6,12 +6,9 @@ ghost use Rattle.text.specs.Ranges.{_to_};
 ghost use Rattle.text.specs.Utf8.{follow, upTo};
 ghost use Rattle.text.specs.Steps.{ranges, headIn, stepAt, Jumped};
 
-// What a first byte asks: so many bytes more, the first of them from lo to hi. More than 3: no sequence begins so.
-pub(crate) struct Lead {
-    more: u8,
-    lo: u8,
-    hi: u8,
-}
+// What a first byte asks: so many bytes more, the first of them from one byte to another, the others from 80 to BF.
+// More than three: no sequence begins so.
+pub(crate) struct Lead(u8, u8, u8);
 
 // Past a well-formed sequence, or none stands there.
 pub(crate) enum Seq {
@@ -21,83 +18,39 @@ pub(crate) enum Seq {
 
 // The table's row of a first byte.
 fn lead_of(a: u8) -> Lead
-    ensures { λ r. ⌜ follow a ≡ ranges (r .more) (r .lo) (r .hi) ⌝ }
+    ensures { λ r. ⌜ follow a ≡ ranges (r .0) (r .1) (r .2) ⌝ }
 {
     if a < 0x80 {
-        return Lead {
-            more: 0,
-            lo: 0x80,
-            hi: 0xBF,
-        };
+        return Lead(0, 0x80, 0xBF);
     }
     if a < 0xC2 {
-        return Lead {
-            more: 4,
-            lo: 0x80,
-            hi: 0xBF,
-        };
+        return Lead(4, 0x80, 0xBF);
     }
     if a < 0xE0 {
-        return Lead {
-            more: 1,
-            lo: 0x80,
-            hi: 0xBF,
-        };
+        return Lead(1, 0x80, 0xBF);
     }
     if a < 0xE1 {
-        return Lead {
-            more: 2,
-            lo: 0xA0,
-            hi: 0xBF,
-        };
+        return Lead(2, 0xA0, 0xBF);
     }
     if a < 0xED {
-        return Lead {
-            more: 2,
-            lo: 0x80,
-            hi: 0xBF,
-        };
+        return Lead(2, 0x80, 0xBF);
     }
     if a < 0xEE {
-        return Lead {
-            more: 2,
-            lo: 0x80,
-            hi: 0x9F,
-        };
+        return Lead(2, 0x80, 0x9F);
     }
     if a < 0xF0 {
-        return Lead {
-            more: 2,
-            lo: 0x80,
-            hi: 0xBF,
-        };
+        return Lead(2, 0x80, 0xBF);
     }
     if a < 0xF1 {
-        return Lead {
-            more: 3,
-            lo: 0x90,
-            hi: 0xBF,
-        };
+        return Lead(3, 0x90, 0xBF);
     }
     if a < 0xF4 {
-        return Lead {
-            more: 3,
-            lo: 0x80,
-            hi: 0xBF,
-        };
+        return Lead(3, 0x80, 0xBF);
     }
     if a < 0xF5 {
-        return Lead {
-            more: 3,
-            lo: 0x80,
-            hi: 0x8F,
-        };
+        return Lead(3, 0x80, 0x8F);
     }
-    Lead {
-        more: 4,
-        lo: 0x80,
-        hi: 0xBF,
-    }
+    Lead(4, 0x80, 0xBF)
 }
 
 // There is a byte at i, and it is from lo to hi.
@@ -120,9 +73,9 @@ pub(crate) fn step(s: &[u8], at: usize) -> Seq
     ensures { λ r. ⌜ r ≡ stepAt (now (s .entry)) at ⌝ }
 {
     let l = lead_of(s[at]);
-    let more = l.more;
-    let lo = l.lo;
-    let hi = l.hi;
+    let more = l.0;
+    let lo = l.1;
+    let hi = l.2;
     if more == 0 {
         return Seq::Next(at + 1);
     }

@@ -18,11 +18,11 @@ parts : (c : tie.After-lead-of) →
     let a = c .before .before .before .args in
     let r = c .lead-of .result in
     let left : ℕ → List ℕ = λ n. drop (a .at + n) (a .s .now) in
-    seqLen (drop (a .at) (a .s .now)) ≡ verdict (r .more) (headIn (r .lo to r .hi) (left 1)) (headIn tail (left 2)) (headIn tail (left 3))
+    seqLen (drop (a .at) (a .s .now)) ≡ verdict (r .0) (headIn (r .1 to r .2) (left 1)) (headIn tail (left 2)) (headIn tail (left 3))
 parts c =
     let a = c .before .before .before .args in
     let r = c .lead-of .result in
-    seq-parts (a .s .now) (a .at) (r .more) (r .lo) (r .hi) (omega arith) (c .lead-of .ensures)
+    seq-parts (a .s .now) (a .at) (r .0) (r .1) (r .2) (omega arith) (c .lead-of .ensures)
 
 returns : tie.Need-returns
 unfolding stepAt stepOf
@@ -70,7 +70,7 @@ returns-7 c =
     let four = h .before .if2 .left in
     let not-two = g .before .if4 .left in
     let not-three = c .before .before .if6 .left in
-    let m : h .before .before .before .lead-of .result .more ≡ 3 = omega (arith, h .before .before .if1 .left) in
+    let m : h .before .before .before .lead-of .result .0 ≡ 3 = omega (arith, h .before .before .if1 .left) in
     let e₁ = sym (h .has .ensures) ∙ not-false _ (g .before .before .if3 .left) in
     let e₂ = sym (g .has2 .ensures) ∙ not-false _ (c .before .before .before .if5 .left) in
     let e₃ = sym (c .before .has3 .ensures) ∙ not-true _ (c .if7 .taken) in
@@ -84,7 +84,7 @@ returns-8 c =
     let four = h .before .if2 .left in
     let not-two = g .before .if4 .left in
     let not-three = c .before .before .if6 .left in
-    let m : h .before .before .before .lead-of .result .more ≡ 3 = omega (arith, h .before .before .if1 .left) in
+    let m : h .before .before .before .lead-of .result .0 ≡ 3 = omega (arith, h .before .before .if1 .left) in
     let e₁ = sym (h .has .ensures) ∙ not-false _ (g .before .before .if3 .left) in
     let e₂ = sym (g .has2 .ensures) ∙ not-false _ (c .before .before .before .if5 .left) in
     let e₃ = sym (c .before .has3 .ensures) ∙ not-false _ (c .if7 .left) in
