@@ -71,7 +71,7 @@ fn name_refused(t: Tally, id: &[u8], s: &[u8], at: usize, number: u32, place: us
     }
 }
 
-pub fn worked_unsigned(mut t: Tally) -> Tally {
+pub(crate) fn worked_unsigned(mut t: Tally) -> Tally {
     t = unsigned(t, b"L01", b"\xe5\x8e\x26", 624485, 3);
     t = unsigned(
         t,
@@ -96,6 +96,10 @@ pub fn worked_unsigned(mut t: Tally) -> Tally {
         3,
         0,
     );
+    worked_unsigned_more(t)
+}
+
+fn worked_unsigned_more(mut t: Tally) -> Tally {
     t = unsigned_refused(
         t,
         b"L07",
@@ -123,7 +127,7 @@ pub fn worked_unsigned(mut t: Tally) -> Tally {
     )
 }
 
-pub fn worked_signed(mut t: Tally) -> Tally {
+pub(crate) fn worked_signed(mut t: Tally) -> Tally {
     t = signed(t, b"L17", b"\xc0\x00", 64, 2);
     t = signed(
         t,
@@ -162,7 +166,7 @@ pub fn worked_signed(mut t: Tally) -> Tally {
     )
 }
 
-pub fn worked_parts(mut t: Tally) -> Tally {
+pub(crate) fn worked_parts(mut t: Tally) -> Tally {
     t = fixed_refused(t, b"L29", b"\x00\x00\x00\x00", 1, 1, 1);
     t = take_refused(t, b"L31", b"\x00\x00", 2, 18446744073709551615, 5);
     t = take_refused(t, b"L33", b"", 0, 18446744073709551615, 1);
@@ -177,7 +181,7 @@ pub fn worked_parts(mut t: Tally) -> Tally {
     )
 }
 
-pub fn worked_names(mut t: Tally) -> Tally {
+pub(crate) fn worked_names(mut t: Tally) -> Tally {
     t = name(t, b"L39", b"\x80\x00", 2, 0, 2);
     t = name_refused(t, b"L41", b"\x00\x03\x61\xed\xa0", 1, 4, 2);
     t = name_refused(t, b"L43", b"\x04\xf4\x90\x80\x80", 0, 4, 1);
@@ -185,7 +189,7 @@ pub fn worked_names(mut t: Tally) -> Tally {
     name_refused(t, b"L47", b"\x00", 9, 1, 9)
 }
 
-pub fn dwarf(mut t: Tally) -> Tally {
+pub(crate) fn dwarf(mut t: Tally) -> Tally {
     t = unsigned(t, b"DWARF 2", b"\x02", 2, 1);
     t = unsigned(t, b"DWARF 127", b"\x7f", 127, 1);
     t = unsigned(t, b"DWARF 128", b"\x80\x01", 128, 2);
@@ -202,7 +206,7 @@ pub fn dwarf(mut t: Tally) -> Tally {
     signed(t, b"DWARF signed -129", b"\xff\x7e", -129, 2)
 }
 
-pub fn core_specification(mut t: Tally) -> Tally {
+pub(crate) fn core_specification(mut t: Tally) -> Tally {
     t = unsigned(t, b"5.2.2, 03", b"\x03", 3, 1);
     t = unsigned(t, b"5.2.2, 83 00", b"\x83\x00", 3, 2);
     t = signed(t, b"5.2.2, 7e", b"\x7e", -2, 1);

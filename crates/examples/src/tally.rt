@@ -2,13 +2,13 @@
 use libc::STDOUT_FILENO;
 use refusal::Refusal;
 
-pub struct Tally {
+pub(crate) struct Tally {
     pub hits: u32,
     pub cases: u32,
 }
 
 impl Tally {
-    pub fn with(self, id: &[u8], holds: bool) -> Tally {
+    pub(crate) fn with(self, id: &[u8], holds: bool) -> Tally {
         let cases = std::num::wrapping_add_u32(self.cases, 1);
         if holds {
             return Tally {
@@ -25,6 +25,6 @@ impl Tally {
     }
 }
 
-pub fn is(why: Refusal, number: u32, place: usize) -> bool {
+pub(crate) fn is(why: Refusal, number: u32, place: usize) -> bool {
     refusal::number(why) == number && refusal::place(why) == place
 }

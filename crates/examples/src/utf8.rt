@@ -5,7 +5,7 @@ fn prefix(t: Tally, id: &[u8], s: &[u8], good: usize) -> Tally {
     t.with(id, text::utf8::valid_up_to(s) == good)
 }
 
-pub fn well_formed(mut t: Tally) -> Tally {
+pub(crate) fn well_formed(mut t: Tally) -> Tally {
     t = prefix(t, b"00 to 7F", b"\x00\x7f", 2);
     t = prefix(t, b"C2 80 to DF BF", b"\xc2\x80\xdf\xbf", 4);
     t = prefix(t, b"E0 A0 80 to E0 BF BF", b"\xe0\xa0\x80\xe0\xbf\xbf", 6);
@@ -34,7 +34,7 @@ pub fn well_formed(mut t: Tally) -> Tally {
     prefix(t, b"nine ASCII bytes, then FF", b"policy ab\xff", 9)
 }
 
-pub fn outside(mut t: Tally) -> Tally {
+pub(crate) fn outside(mut t: Tally) -> Tally {
     t = prefix(t, b"80", b"a\x80", 1);
     t = prefix(t, b"C0 80", b"a\xc0\x80", 1);
     t = prefix(t, b"C1 BF", b"a\xc1\xbf", 1);
@@ -49,7 +49,7 @@ pub fn outside(mut t: Tally) -> Tally {
     prefix(t, b"F1 80 80, cut", b"a\xf1\x80\x80", 1)
 }
 
-pub fn replaced(mut t: Tally) -> Tally {
+pub(crate) fn replaced(mut t: Tally) -> Tally {
     t = prefix(
         t,
         b"table 3-8, non-shortest forms",
