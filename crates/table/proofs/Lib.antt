@@ -1,0 +1,5 @@
+-- Laws that proofs cite, over row, width and reader.
+pub mod Laws
+pub mod Telling
+pub mod Reading
+pub mod Walking
