@@ -5,3 +5,4 @@ pub mod Firsts
 pub mod Places
 pub mod Rowing
 pub mod Placing
+pub mod Listing

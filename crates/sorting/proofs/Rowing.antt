@@ -12,7 +12,7 @@ use Rattle.text.specs.declared.order.Order.the-variants.{Equal}
 use Rattle.table.specs.Table.{cellOf, rangeOf}
 use Rattle.table.proofs.Laws.{cell-beside}
 use Rattle.sorting.specs.Order.{Lawful, on}
-use Rattle.sorting.specs.Keys.{byName, cellIn, fileOf, nameOf, rowOrder}
+use Rattle.sorting.specs.Keys.{byName, cellIn, fileOf, nameOf, rowOrder, marked}
 use Rattle.sorting.specs.declared.Keys.{Keys}
 use Rattle.sorting.proofs.Orders.{lawful-nat, lawful-bytes, lawful-on, lawful-then, lawful-tie, nat-same}
 
@@ -27,6 +27,15 @@ module _ (first second rows : List ℕ) (k : Keys) where
     pub name-second : (file ≡ 0 → ⊥) → rangeOf second from len ≡ nameOf first second rows k i
     unfolding nameOf fileOf
     name-second z = rw (f, l, ne-eqb _ _ (λ q. z (e ∙ q)))
+
+  -- a row's mark, from its cell
+  pub marked-yes : {x : ℕ} (i : ℕ) → x ≡ cellIn first second rows k (k .mark) i → x ≡ k .value → marked first second rows k i ≡ true
+  unfolding marked
+  marked-yes i e q = eq-eqb _ _ (sym e ∙ q)
+
+  pub marked-no : {x : ℕ} (i : ℕ) → x ≡ cellIn first second rows k (k .mark) i → (x ≡ k .value → ⊥) → marked first second rows k i ≡ false
+  unfolding marked
+  marked-no i e q = ne-eqb _ _ (λ h. q (e ∙ h))
 
   pub lawful-rows : Lawful (rowOrder first second rows k)
   unfolding rowOrder

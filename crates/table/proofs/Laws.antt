@@ -13,7 +13,7 @@ use mathlib.Core.Bool.{Bool, true, false}
 use Rattle.refusal.specs.Pick.{pick, both}
 use Rattle.table.specs.Table.{cells, laid, put, putRow, cellOf, capacityOf, rangeOf}
 
-drop-replicate : (k n : ℕ) (a : ℕ) → drop k (replicate n a) ≡ replicate (n - k) a
+pub drop-replicate : (k n : ℕ) (a : ℕ) → drop k (replicate n a) ≡ replicate (n - k) a
 drop-replicate zero n a = rw (sub-zero)
 drop-replicate (suc k) zero a = rw (zero-sub)
 drop-replicate (suc k) (suc n) a = rw (suc-sub-suc) (drop-replicate k n a)
