@@ -6,3 +6,5 @@ pub mod Places
 pub mod Rowing
 pub mod Placing
 pub mod Listing
+pub mod Ranking
+pub mod Numbers

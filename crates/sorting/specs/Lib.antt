@@ -3,3 +3,4 @@ pub mod Order
 pub mod Sort
 pub mod Keys
 pub mod Filling
+pub mod Claims
