@@ -8,7 +8,7 @@ use Rattle.text.specs.Order.{flip}
 use Rattle.text.specs.declared.order.Order.{Order}
 use Rattle.text.specs.declared.order.Order.the-variants.{Less, Equal, Greater}
 use Rattle.sorting.specs.Order.{Lawful}
-use Rattle.sorting.specs.Sort.{_∈_, place, put, sort, Before, Ascending, First}
+use Rattle.sorting.specs.Sort.{_∈_, place, put, sort, Ascending, First}
 use Rattle.sorting.proofs.Sorts.{before-lt, before-eq, mem-before, put-has, sort-ascends}
 
 apart-tie : {o : Order} → o ≡ Less → o ≡ Equal → ⊥

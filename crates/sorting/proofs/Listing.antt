@@ -5,13 +5,12 @@ use mathlib.Core.List.{List, [], _∷_, _++_, append-assoc}
 use Prim.Native.Nat.{ℕ, zero, suc, _+_, _-_, _≤_, _<_}
 use native.Mathlib.Numerals.{add-one}
 use native.Mathlib.Omega.{arith}
-use lib.ListN.{length, getD, take, drop, set, replicate, length-append, length-drop, length-replicate, take-append-drop}
+use lib.ListN.{length, take, drop, set, replicate, length-append, length-drop, length-replicate, take-append-drop}
 use lib.Seq.{take-take, length-take-le, set-split, drop-append-le, take-at, drop-append-add, drop-drop}
 use borrow.Author.Tests.{le-leb, lt-leb}
-use Rattle.refusal.specs.Pick.{pick}
 use Rattle.text.specs.declared.order.Order.{Order}
 use Rattle.table.specs.Table.{laid}
-use Rattle.table.proofs.Laws.{laid-nil, length-laid, drop-replicate}
+use Rattle.table.proofs.Laws.{laid-nil, drop-replicate}
 use Rattle.sorting.specs.Order.{Lawful}
 use Rattle.sorting.specs.Sort.{put, sort, keep, upFrom}
 use Rattle.sorting.specs.Keys.{Sorts}

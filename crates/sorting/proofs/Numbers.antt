@@ -7,7 +7,7 @@ use lib.ListN.{length, getD}
 use Rattle.refusal.specs.Pick.{pick}
 use Rattle.text.specs.declared.order.Order.{Order}
 use Rattle.sorting.specs.Order.{Lawful, on}
-use Rattle.sorting.specs.Sort.{_∈_, place, put, sort, keep, upFrom, rowsAt}
+use Rattle.sorting.specs.Sort.{_∈_, put, sort, keep, upFrom, rowsAt}
 use Rattle.sorting.proofs.Sorts.{sort-map, sort-only}
 
 -- ---- a test and a function, a test and two lists

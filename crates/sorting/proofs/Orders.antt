@@ -1,7 +1,7 @@
 -- Comparisons that are lawful: of numbers, of byte strings, after a function, one after another. Assumes nothing.
 use mathlib.Core.Path.{_≡_, refl, sym, _∙_, ap}
 use mathlib.Core.List.{List, [], _∷_}
-use Prim.Native.Nat.{ℕ, _≤_, _<_}
+use Prim.Native.Nat.{ℕ, _<_}
 use native.Mathlib.Omega.{arith}
 use borrow.Author.Tests.{lt-ltb, le-ltb}
 use Rattle.text.specs.Order.{cmpNat, andThen, cmpBytes, flip}
@@ -96,7 +96,8 @@ join-bytes (x ∷ xs) [] [] = refl
 join-bytes (x ∷ xs) [] (z ∷ zs) = tt
 join-bytes (x ∷ xs) (y ∷ ys) [] = to-gt (cmpBytes (x ∷ xs) (y ∷ ys))
 join-bytes (x ∷ xs) (y ∷ ys) (z ∷ zs) =
-    then-join (cmpNat x y) (cmpNat y z) (cmpNat x z) (cmpBytes xs ys) (cmpBytes ys zs) (cmpBytes xs zs) (join-nat x y z) (join-bytes xs ys zs)
+    then-join (cmpNat x y) (cmpNat y z) (cmpNat x z) (cmpBytes xs ys) (cmpBytes ys zs) (cmpBytes xs zs)
+    (join-nat x y z) (join-bytes xs ys zs)
 
 pub lawful-bytes : Lawful cmpBytes
 lawful-bytes = record { turn = cmp-flip; join = join-bytes }

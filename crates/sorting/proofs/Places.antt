@@ -1,7 +1,7 @@
 -- Where an element goes in a sorted list, by index; and a list shifted up by one. Assumes nothing.
 use mathlib.Core.Path.{_≡_, refl, sym, _∙_, ap}
 use mathlib.Core.List.{List, [], _∷_, _++_, append-assoc}
-use Prim.Native.Nat.{ℕ, zero, suc, _+_, _-_, _≤_, _<_, zero-le, suc-le-suc}
+use Prim.Native.Nat.{ℕ, zero, suc, _-_, _≤_, _<_, zero-le, suc-le-suc}
 use native.Mathlib.Nat.{le-of-suc-le-suc, not-suc-le-zero}
 use native.Mathlib.Numerals.{sub-one}
 use native.Mathlib.Omega.{arith}
@@ -14,13 +14,15 @@ use Rattle.sorting.specs.Sort.{put, Before, Ascending}
 
 module _ {A : Type 0} (cmp : A → A → Order) (x d : A) where
   -- past p elements that x comes after, and before one that it comes before or the end: x goes in there
-  pub put-before : (l : List A) (p : ℕ) → p ≤ length l → ((j : ℕ) → j < p → cmp x (getD l j d) ≡ Greater) → (p < length l → cmp x (getD l p d) ≡ Less)
-      → put cmp x l ≡ take p l ++ x ∷ drop p l
+  pub put-before : (l : List A) (p : ℕ) → p ≤ length l → ((j : ℕ) → j < p → cmp x (getD l j d) ≡ Greater)
+      → (p < length l → cmp x (getD l p d) ≡ Less) → put cmp x l ≡ take p l ++ x ∷ drop p l
   put-before [] zero h b e = refl
   put-before [] (suc p) h b e = absurd (not-suc-le-zero h)
   put-before (y ∷ l) zero h b e = rw (e (suc-le-suc zero-le))
   put-before (y ∷ l) (suc p) h b e =
-      rw (b zero (suc-le-suc zero-le)) (ap (_∷_ y) (put-before l p (le-of-suc-le-suc h) (λ j i. b (suc j) (suc-le-suc i)) (λ i. e (suc-le-suc i))))
+      rw (b zero (suc-le-suc zero-le))
+      (ap (_∷_ y)
+      (put-before l p (le-of-suc-le-suc h) (λ j i. b (suc j) (suc-le-suc i)) (λ i. e (suc-le-suc i))))
 
   -- past p elements that x comes after, at one that it ties with: x goes in its place
   pub put-over : (l : List A) (p : ℕ) → p < length l → ((j : ℕ) → j < p → cmp x (getD l j d) ≡ Greater) → cmp x (getD l p d) ≡ Equal
@@ -56,7 +58,8 @@ module _ {A : Type 0} (d : A) (l : List A) (k : ℕ) (room : k < length l) where
       (shift-set (suc i) (getD l i d) g ∙ rw (slice-cons i k l d g (omega arith)))
 
 -- an ascending list, by index
-before-getD : {A : Type 0} (cmp : A → A → Order) (d x : A) (l : List A) → Before cmp x l → (j : ℕ) → j < length l → cmp x (getD l j d) ≡ Less
+before-getD : {A : Type 0} (cmp : A → A → Order) (d x : A) (l : List A) → Before cmp x l → (j : ℕ) → j < length l
+    → cmp x (getD l j d) ≡ Less
 before-getD cmp d x [] b j h = absurd (not-suc-le-zero h)
 before-getD cmp d x (y ∷ l) b zero h = b .0
 before-getD cmp d x (y ∷ l) b (suc j) h = before-getD cmp d x l (b .1) j (le-of-suc-le-suc h)

@@ -1,5 +1,5 @@
 -- The sorted rows are what is claimed of them, and no other list is. Assumes nothing.
-use mathlib.Core.Path.{_≡_, refl, sym, _∙_, ap, subst}
+use mathlib.Core.Path.{_≡_, refl, sym, _∙_, ap}
 use mathlib.Core.Bool.{Bool, true, false}
 use mathlib.Core.Logic.{_⊎_, inl, inr, _↔_, ⊎-elim}
 use mathlib.Core.List.{List, [], _∷_, List·Memᴰ·head, List·Memᴰ·tail, List·Memᴰ·not-nil, List·Memᴰ·cases-cons}
@@ -10,10 +10,9 @@ use Rattle.text.specs.Order.{cmpNat, andThen, cmpBytes}
 use Rattle.text.specs.declared.order.Order.{Order}
 use Rattle.text.specs.declared.order.Order.the-variants.{Equal}
 use Rattle.text.proofs.OrderLaws.{cmp-refl}
-use Rattle.table.specs.Table.{cellOf, rangeOf}
 use Rattle.sorting.specs.Order.{Lawful}
-use Rattle.sorting.specs.Sort.{_∈_, sort, keep, upFrom}
-use Rattle.sorting.specs.Keys.{byName, cellIn, nameOf, rowOrder, marked, sortedRows}
+use Rattle.sorting.specs.Sort.{_∈_, keep, upFrom}
+use Rattle.sorting.specs.Keys.{byName, nameAt, cellIn, nameOf, rowOrder, marked, sortedRows}
 use Rattle.sorting.specs.Claims.{Listed, Ranked}
 use Rattle.sorting.specs.declared.Keys.{Keys}
 use Rattle.sorting.proofs.Orders.{exact-nat, exact-bytes, then-tie}
@@ -75,12 +74,14 @@ module _ (first second rows : List ℕ) (k : Keys) (n : ℕ) where
   unfolding sortedRows
   each-is e =
       let order = rowOrder first second rows k in
+      let laws = lawful-rows first second rows k in
       let test = marked first second rows k in
       let l = keep test (upFrom 0 n) in
-      let s = sort-lowest order (lawful-rows first second rows k) (λ e. e) e l (numbered order (lawful-rows first second rows k) test 0 n) in
+      let s = sort-lowest order laws (λ e. e) e l (numbered order laws test 0 n) in
       let to : (j : ℕ) → j ∈ l → (j < n) × (test j ≡ true) =
       λ j m. let u = keep-to test j (upFrom 0 n) m in let v = up-to j 0 n (u .0) in (omega arith, u .1) in
-      let of : (j : ℕ) → j < n → test j ≡ true → j ∈ l = λ j b t. keep-of test j (upFrom 0 n) (up-of j 0 n (omega arith) (omega arith)) t in (
+      let of : (j : ℕ) → j < n → test j ≡ true → j ∈ l =
+      λ j b t. keep-of test j (upFrom 0 n) (up-of j 0 n (omega arith) (omega arith)) t in (
         (λ m.
             let u = s .0 m in
             record { below = to e (u .0) .0; wanted = to e (u .0) .1; lowest = λ j b t q. u .1 j (of j b t) q }),
@@ -91,7 +92,9 @@ module _ (first second rows : List ℕ) (k : Keys) (n : ℕ) where
   unfolding sortedRows
   sorted-ranked =
       record {
-        ascends = sort-ascends (rowOrder first second rows k) (lawful-rows first second rows k) (keep (marked first second rows k) (upFrom 0 n));
+        ascends =
+            sort-ascends (rowOrder first second rows k) (lawful-rows first second rows k)
+            (keep (marked first second rows k) (upFrom 0 n));
         each = each-is;
       }
 
@@ -116,11 +119,11 @@ every-apart first second rows k h i j e =
 -- rows listed by name tie where the names are the same bytes
 pub same-name : (first second rows : List ℕ) (width from len mark value i j : ℕ)
     → rowOrder first second rows (byName width from len mark value) i j ≡ Equal
-    ↔ rangeOf first (cellOf rows width i from) (cellOf rows width i len) ≡ rangeOf first (cellOf rows width j from) (cellOf rows width j len)
+    ↔ nameAt first rows width from len i ≡ nameAt first rows width from len j
 same-name first second rows width from len mark value i j =
     let is = names-order first second rows width from len mark value i j in
-    let x = rangeOf first (cellOf rows width i from) (cellOf rows width i len) in
-    let y = rangeOf first (cellOf rows width j from) (cellOf rows width j len) in (
+    let x = nameAt first rows width from len i in
+    let y = nameAt first rows width from len j in (
       (λ e. exact-bytes x y (sym is ∙ e)),
       λ e. is ∙ ap (cmpBytes x) (sym e) ∙ cmp-refl x,
     )

@@ -1,5 +1,5 @@
 -- The order of rows: how the code finds it, and that it is lawful. Assumes nothing.
-use mathlib.Core.Path.{_≡_, refl, sym, _∙_, ap}
+use mathlib.Core.Path.{_≡_, refl, sym, _∙_}
 use mathlib.Core.Bool.{Bool, true, false}
 use mathlib.Core.List.{List}
 use Prim.Native.Nat.{ℕ}
@@ -9,10 +9,10 @@ use Rattle.refusal.specs.Pick.{pick}
 use Rattle.text.specs.Order.{cmpNat, andThen, cmpBytes}
 use Rattle.text.specs.declared.order.Order.{Order}
 use Rattle.text.specs.declared.order.Order.the-variants.{Equal}
-use Rattle.table.specs.Table.{cellOf, rangeOf}
-use Rattle.table.proofs.Laws.{cell-beside}
-use Rattle.sorting.specs.Order.{Lawful, on}
-use Rattle.sorting.specs.Keys.{byName, cellIn, fileOf, nameOf, rowOrder, marked}
+use Rattle.table.specs.Table.{rangeOf}
+use Rattle.table.proofs.Cells.{cell-beside}
+use Rattle.sorting.specs.Order.{Lawful}
+use Rattle.sorting.specs.Keys.{byName, nameAt, cellIn, fileOf, nameOf, rowOrder, marked}
 use Rattle.sorting.specs.declared.Keys.{Keys}
 use Rattle.sorting.proofs.Orders.{lawful-nat, lawful-bytes, lawful-on, lawful-then, lawful-tie, nat-same}
 
@@ -51,7 +51,7 @@ module _ (first second rows : List ℕ) (k : Keys) where
 -- rows listed by a name alone are compared by the bytes of their ranges
 pub names-order : (first second rows : List ℕ) (width from len mark value i j : ℕ)
     → rowOrder first second rows (byName width from len mark value) i j
-    ≡ cmpBytes (rangeOf first (cellOf rows width i from) (cellOf rows width i len)) (rangeOf first (cellOf rows width j from) (cellOf rows width j len))
+    ≡ cmpBytes (nameAt first rows width from len i) (nameAt first rows width from len j)
 unfolding rowOrder nameOf fileOf
 names-order first second rows width from len mark value i j =
     rw (cell-beside rows width i width (le-refl width), cell-beside rows width j width (le-refl width), nat-same 0 0 refl) (tied _)

@@ -169,7 +169,8 @@ module _ {A : Type 0} (cmp : A → A → Order) (laws : Lawful cmp) where
   not-both x y h k = apart k (laws .turn x y ∙ ap flip h)
 
   below-rest : (x y : A) (l m : List A) → x ≡ y → Before cmp x l → ((e : A) → e ∈ (x ∷ l) → e ∈ (y ∷ m)) → (e : A) → e ∈ l → e ∈ m
-  below-rest x y l m p b f e i = ⊎-elim (λ q. absurd (not-both x x (loop q) (loop q))) (λ t. t) (List·Memᴰ·cases-cons (f e (List·Memᴰ·tail i)))
+  below-rest x y l m p b f e i =
+      ⊎-elim (λ q. absurd (not-both x x (loop q) (loop q))) (λ t. t) (List·Memᴰ·cases-cons (f e (List·Memᴰ·tail i)))
     where
       loop : e ≡ y → cmp x x ≡ Less
       loop q = subst (λ (z : A). cmp x z ≡ Less) (q ∙ sym p) (mem-before x e l b i)

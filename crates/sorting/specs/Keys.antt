@@ -30,6 +30,10 @@ byName width from len mark value =
       every = false;
     }
 
+-- the bytes of `file` in the range at cells `from` and `len` of row i; a range outside the file is empty
+abbrev pub nameAt : List ℕ → List ℕ → ℕ → ℕ → ℕ → ℕ → List ℕ
+nameAt file rows width from len i = rangeOf file (cellOf rows width i from) (cellOf rows width i len)
+
 module _ (first second rows : List ℕ) (k : Keys) where
   -- the cell of row i in a column; 0 where the row has none
   abbrev pub cellIn : ℕ → ℕ → ℕ
@@ -39,9 +43,9 @@ module _ (first second rows : List ℕ) (k : Keys) where
   unfoldable pub fileOf : ℕ → List ℕ
   fileOf i = pick (eqb (cellIn (k .file) i) 0) first second
 
-  -- the bytes of row i; a range outside the file is empty
+  -- the bytes of row i
   unfoldable pub nameOf : ℕ → List ℕ
-  nameOf i = rangeOf (fileOf i) (cellIn (k .from) i) (cellIn (k .len) i)
+  nameOf i = nameAt (fileOf i) rows (k .width) (k .from) (k .len) i
 
   -- by the major cell, then by bytes, then by the minor cell; and by row number where every row is wanted
   unfoldable pub rowOrder : ℕ → ℕ → Order

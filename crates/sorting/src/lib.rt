@@ -66,7 +66,8 @@ pub fn sort<'a, 'b, 'c>(
     n: usize,
     sorted: &'c mut [usize],
 ) -> Sorted
-    ensures { λ r. ⌜ Sorts (sortedRows (now (first .entry)) (now (second .entry)) (now (rows .entry)) keys n) (now (sorted .entry)) (now (sorted .exit)) r ⌝ }
+    ensures { λ r. ⌜ Sorts (sortedRows (now (first .entry)) (now (second .entry)) (now (rows .entry)) keys n)
+        (now (sorted .entry)) (now (sorted .exit)) r ⌝ }
 {
     table::clear(sorted);
     let mut k = 0;
@@ -98,7 +99,9 @@ fn insert<'a, 'b, 'c>(
     x: usize,
 ) -> Sorted
     requires { ⌜ Ordered (rowOrder (now first) (now second) (now rows) keys) (now sorted) k ⌝ }
-    ensures { λ r. ⌜ Inserted (put (rowOrder (now (first .entry)) (now (second .entry)) (now (rows .entry)) keys) x (take k (now (sorted .entry)))) (now (sorted .entry)) (now (sorted .exit)) r ⌝ }
+    ensures { λ r. ⌜ Inserted
+        (put (rowOrder (now (first .entry)) (now (second .entry)) (now (rows .entry)) keys) x (take k (now (sorted .entry))))
+        (now (sorted .entry)) (now (sorted .exit)) r ⌝ }
 {
     let place = find_place(first, second, rows, keys, sorted, k, x);
     match place {
@@ -141,7 +144,8 @@ fn find_place<'a, 'b, 'c>(
     x: usize,
 ) -> Place
     requires { ⌜ Ordered (rowOrder (now first) (now second) (now rows) keys) (now sorted) k ⌝ }
-    ensures { λ r. ⌜ Placed (rowOrder (now (first .entry)) (now (second .entry)) (now (rows .entry)) keys) x (take k (now (sorted .entry))) r ⌝ }
+    ensures { λ r. ⌜ Placed (rowOrder (now (first .entry)) (now (second .entry)) (now (rows .entry)) keys)
+        x (take k (now (sorted .entry))) r ⌝ }
 {
     let mut lo = 0;
     let mut hi = k;

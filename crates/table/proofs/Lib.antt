@@ -1,5 +1,6 @@
 -- Laws that proofs cite, over row, width and reader.
 pub mod Laws
+pub mod Cells
 pub mod Telling
 pub mod Reading
 pub mod Walking

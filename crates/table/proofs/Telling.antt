@@ -1,7 +1,6 @@
 -- Laws of `Told`: how a promise is made, followed and read. Assumes nothing.
 use Prim.Native.Nat.{ℕ, _≤_, _<_}
-use mathlib.Core.Path.{_≡_, refl, sym, _∙_, ap}
-use native.Mathlib.Omega.{arith}
+use mathlib.Core.Path.{_≡_, refl, sym, _∙_}
 use Rattle.refusal.specs.Said.{Said, accepted, refused, refusedBy, Got, got, onward}
 use Rattle.refusal.specs.declared.Refusal.{Refusal}
 use Rattle.refusal.proofs.Following.{never}

@@ -1,7 +1,7 @@
 -- The loop over things that follow one another: what is left answers as the whole does.
 -- Stated once, over the state, the step and what is held. Assumes nothing.
 use Prim.Native.Nat.{ℕ, suc, _+_, _-_, _≤_, _<_}
-use mathlib.Core.Path.{_≡_, refl, sym, _∙_, ap, subst}
+use mathlib.Core.Path.{_≡_, sym, _∙_, ap, subst}
 use mathlib.Core.List.{List}
 use lib.ListN.{length, drop}
 use native.Mathlib.Omega.{arith}

@@ -1,4 +1,5 @@
--- docs/RULES.md, "Tables": a run of entries, read one after another into a table. Stated once, over the row's type and the definition of an entry.
+-- docs/RULES.md, "Tables": a run of entries, read one after another into a table.
+-- Stated once, over the row's type and the definition of an entry.
 use Prim.Native.Nat.{ℕ, zero, suc}
 use mathlib.Core.List.{List, [], _∷_, _++_}
 use lib.ListN.{length}

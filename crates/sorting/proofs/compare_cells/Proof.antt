@@ -1,6 +1,5 @@
 -- `sorting::compare_cells` meets its contract. Assumes nothing.
 use mathlib.Core.Path.{_∙_}
-use Prim.Native.Nat.{_-_}
 use borrow.Author.Needs.{needs}
 use Rattle.sorting.proofs.compare_cells.Statement.{statement}
 use Rattle.sorting.proofs.compare_cells.Tie as tie

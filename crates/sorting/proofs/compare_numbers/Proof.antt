@@ -1,6 +1,5 @@
 -- `sorting::compare_numbers` meets its contract. Assumes nothing.
 use mathlib.Core.Path.{sym}
-use Prim.Native.Nat.{_-_}
 use native.Mathlib.Omega.{arith}
 use Rattle.sorting.proofs.Orders.{nat-less, nat-greater, nat-same}
 use Rattle.sorting.proofs.compare_numbers.Statement.{statement}

@@ -1,6 +1,6 @@
 -- `sorting::insert` meets its contract. Assumes nothing.
 use mathlib.Core.Path.{_≡_, subst}
-use Prim.Native.Nat.{ℕ, _-_, _≤_, _<_}
+use Prim.Native.Nat.{ℕ, _≤_, _<_}
 use native.Mathlib.Omega.{arith}
 use lib.ListN.{take}
 use lib.Seq.{length-take-le}
@@ -36,7 +36,9 @@ over-k c e =
     omega (arith, found c e .within, length-take-le (start .args .k) (start .args .sorted .now) (start .pre .room))
 
 returns : tie.Need-returns
-returns c = placed-full _ _ _ _ _ (omega arith) (c .if1 .taken) (found (c .before .before .before .before) (c .before .before .place .given .1))
+returns c =
+    placed-full _ _ _ _ _ (omega arith) (c .if1 .taken)
+    (found (c .before .before .before .before) (c .before .before .place .given .1))
 
 insert-at-requires : tie.Need-insert-at-requires
 insert-at-requires c κs = (before-k (c .before .before .before .before .before) (c .before .before .before .place .given .1), search needs)

@@ -1,6 +1,5 @@
 -- `sorting::name_of` meets its contract. Assumes nothing.
 use mathlib.Core.Path.{_∙_}
-use Prim.Native.Nat.{_-_}
 use Rattle.sorting.proofs.Rowing.{name-first, name-second}
 use borrow.Author.Needs.{needs}
 use Rattle.sorting.proofs.name_of.Statement.{statement}

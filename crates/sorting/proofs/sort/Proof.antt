@@ -26,36 +26,38 @@ Inv-loop first second rows keys n sorted₀ k₀ i₀ sorted k i =
 abbrev μ-loop : tie.MeasureT-loop
 μ-loop first second rows keys n sorted₀ k₀ i₀ sorted k i = i
 
--- the order of the rows, and which are wanted
+-- the order of the rows, which are wanted, and those of them from i on
 abbrev order : tie.Start Inv-loop μ-loop → ℕ → ℕ → Order
 order s = let a = s .args in rowOrder (a .first .now) (a .second .now) (a .rows .now) (a .keys)
 
 abbrev wanted : tie.Start Inv-loop μ-loop → ℕ → Bool
 wanted s = let a = s .args in marked (a .first .now) (a .second .now) (a .rows .now) (a .keys)
 
+abbrev start : tie.At-loop Inv-loop μ-loop → tie.Start Inv-loop μ-loop
+start c = c .before .before .before .before .before .before .before .before .before
+
+abbrev left : tie.At-loop Inv-loop μ-loop → List ℕ
+left c = keptFrom (wanted (start c)) (c .loop .i) (start c .args .n)
+
 -- the table is in order at the loop's head
-ordered : (c : tie.At-loop Inv-loop μ-loop) → Ordered (order (c .before .before .before .before .before .before .before .before .before)) (c .loop .sorted) (c .loop .k)
-ordered c =
-    let s = c .before .before .before .before .before .before .before .before .before in
-    filled-ordered (order s) (lawful-rows _ _ _ _) (keptFrom (wanted s) (c .loop .i) (s .args .n)) _ _ _ (c .loop .inv .2)
-    (c .loop .inv .1)
+ordered : (c : tie.At-loop Inv-loop μ-loop) → Ordered (order (start c)) (c .loop .sorted) (c .loop .k)
+ordered c = filled-ordered (order (start c)) (lawful-rows _ _ _ _) (left c) _ _ _ (c .loop .inv .2) (c .loop .inv .1)
 
 -- a row that is wanted
-chosen : (c : tie.Then1 Inv-loop μ-loop) → let at = c .before .before .before .before in let s = at .before .before .before .before .before .before .before .before .before in
-    keptFrom (wanted s) (at .loop .i - 1) (s .args .n) ≡ (at .loop .i - 1) ∷ keptFrom (wanted s) (at .loop .i) (s .args .n)
+chosen : (c : tie.Then1 Inv-loop μ-loop) → let at = c .before .before .before .before in
+    keptFrom (wanted (start at)) (at .loop .i - 1) (start at .args .n) ≡ (at .loop .i - 1) ∷ left at
 chosen c =
     let at = c .before .before .before .before in
-    let s = at .before .before .before .before .before .before .before .before .before in
-    kept-yes (wanted s) (s .args .n) (at .loop .i) (c .before .before .before .loop-test .taken) (at .loop .inv .0)
+    kept-yes (wanted (start at)) _ (at .loop .i) (c .before .before .before .loop-test .taken) (at .loop .inv .0)
     (marked-yes _ _ _ _ _ (c .before .before .cell .ensures) (c .if1 .taken))
 
 loop-holds : tie.Need-loop-holds Inv-loop μ-loop
-loop-holds c = (
-  omega arith,
-  refl,
-  filled-as (order (c .before .before .before .before .before .before .before .before)) (sym (kept-none (wanted (c .before .before .before .before .before .before .before .before)) (c .before .before .before .before .before .before .before .before .args .n)))
-      (record { count = refl; holds = refl }),
-)
+loop-holds c =
+    let s = c .before .before .before .before .before .before .before .before in (
+      omega arith,
+      refl,
+      filled-as (order s) (sym (kept-none (wanted s) (s .args .n))) (record { count = refl; holds = refl }),
+    )
 
 insert-requires : tie.Need-insert-requires Inv-loop μ-loop
 insert-requires c κs = ordered (c .before .before .before .before .before)
@@ -63,36 +65,36 @@ insert-requires c κs = ordered (c .before .before .before .before .before)
 returns : tie.Need-returns Inv-loop μ-loop
 unfolding sortedRows
 returns c =
-    let at = c .before .before .before .before .before .before .before .before .before .before .before .before .before .before in
-    let s = at .before .before .before .before .before .before .before .before .before in
-    let i : ℕ = at .loop .i in
-    let n : ℕ = s .args .n in
-    let no-room = subst (Inserted _ _ _) (c .before .before .before .before .enum-told .given .1) (c .before .before .before .before .before .before .before .before .insert .ensures) in
-    let here = full-step (order s) (lawful-rows _ _ _ _) (keptFrom (wanted s) i n) _ _ _ (at .loop .inv .2) _ _ no-room in
-    let grows = kept-grows (order s) (wanted s) n (i - 1) (omega arith) in
-    let one = ap (λ (l : List ℕ). length (sort (order s) l)) (chosen (c .before .before .before .before .before .before .before .before .before .before)) in
-    let long = c .before .before .before .before .before .before .before .before .insert .kept .1 .1 .1 .1 .0 ∙ at .loop .inv .1 ∙ at .before .before .before .clear .kept .0 in
+    let call = c .before .before .before .before .before .before .before .before in
+    let at = call .before .before .before .before .before .before in
+    let s = start at in
+    let no-room = subst (Inserted _ _ _) (c .before .before .before .before .enum-told .given .1) (call .insert .ensures) in
+    let longer = full-step (order s) (lawful-rows _ _ _ _) (left at) _ _ _ (at .loop .inv .2) _ _ no-room in
+    let grows = kept-grows (order s) (wanted s) (s .args .n) (at .loop .i - 1) (omega arith) in
+    let one = ap (λ (l : List ℕ). length (sort (order s) l)) (chosen (call .before .before)) in
+    let long = call .insert .kept .1 .1 .1 .1 .0 ∙ at .loop .inv .1 ∙ at .before .before .before .clear .kept .0 in
     sorts-full _ _ _ (omega arith) (c .before .before .clear2 .ensures ∙ ap (λ (m : ℕ). laid m []) long)
 
 loop-again : tie.Need-loop-again Inv-loop μ-loop
 loop-again c =
-    let at = c .before .before .before .before .before .before .before .before .before .before .before in
-    let s = at .before .before .before .before .before .before .before .before .before in (
+    let call = c .before .before .before .before .before in
+    let at = call .before .before .before .before .before .before in
+    let s = start at in (
       omega arith,
-      c .before .before .before .before .before .insert .kept .1 .1 .1 .1 .0 ∙ at .loop .inv .1,
-      filled-as (order s) (sym (chosen (c .before .before .before .before .before .before .before)))
-          (filled-step (order s) (lawful-rows _ _ _ _) (keptFrom (wanted s) (at .loop .i) (s .args .n)) _ _ _ (at .loop .inv .2) _ _ _
-          (subst (Inserted _ _ _) (c .before .put .given .1) (c .before .before .before .before .before .insert .ensures))),
+      call .insert .kept .1 .1 .1 .1 .0 ∙ at .loop .inv .1,
+      filled-as (order s) (sym (chosen (call .before .before)))
+          (filled-step (order s) (lawful-rows _ _ _ _) (left at) _ _ _ (at .loop .inv .2) _ _ _
+          (subst (Inserted _ _ _) (c .before .put .given .1) (call .insert .ensures))),
     )
 
 loop-again-2 : tie.Need-loop-again-2 Inv-loop μ-loop
 loop-again-2 c =
     let at = c .before .before .before .before in
-    let s = at .before .before .before .before .before .before .before .before .before in (
+    let s = start at in (
       omega arith,
       at .loop .inv .1,
       filled-as (order s)
-          (sym (kept-no (wanted s) (s .args .n) (at .loop .i) (c .before .before .before .loop-test .taken) (at .loop .inv .0)
+          (sym (kept-no (wanted s) _ (at .loop .i) (c .before .before .before .loop-test .taken) (at .loop .inv .0)
           (marked-no _ _ _ _ _ (c .before .before .cell .ensures) (c .if1 .left))))
           (at .loop .inv .2),
     )
@@ -101,9 +103,8 @@ returns-2 : tie.Need-returns-2 Inv-loop μ-loop
 unfolding sortedRows
 returns-2 c =
     let at = c .before in
-    let s = at .before .before .before .before .before .before .before .before .before in
     sorts-rows _ _ _ _ _ (at .before .before .before .clear .ensures)
-    (filled-as (order s) (kept-all (wanted s) (s .args .n) (at .loop .i) (c .loop-test .left)) (at .loop .inv .2))
+    (filled-as (order (start at)) (kept-all (wanted (start at)) _ (at .loop .i) (c .loop-test .left)) (at .loop .inv .2))
     (at .loop .inv .1)
 
 pub sort-spec : {M : Type 1} → statement M

@@ -1,9 +1,8 @@
 -- `table::range` meets its contract. Assumes nothing.
 use mathlib.Core.Path.{sym}
-use Prim.Native.Nat.{_-_}
 use native.Mathlib.Nat.{add-sub-cancel-left}
 use native.Mathlib.Omega.{arith}
-use Rattle.table.proofs.Laws.{range-in, range-out}
+use Rattle.table.proofs.Cells.{range-in, range-out}
 use borrow.Author.Needs.{needs}
 use Rattle.table.proofs.range.Statement.{statement}
 use Rattle.table.proofs.range.Tie as tie
