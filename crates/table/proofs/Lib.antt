@@ -4,3 +4,5 @@ pub mod Cells
 pub mod Telling
 pub mod Reading
 pub mod Walking
+pub mod Larger
+pub mod Giving
