@@ -1,0 +1,129 @@
+-- The sorted rows are what is claimed of them, and no other list is. Assumes nothing.
+use mathlib.Core.Path.{_≡_, refl, sym, _∙_, ap}
+use mathlib.Core.Bool.{Bool, true, false}
+use mathlib.Core.Logic.{_⊎_, inl, inr, _↔_, ⊎-elim}
+use mathlib.Core.List.{List, [], _∷_, List·Memᴰ·head, List·Memᴰ·tail, List·Memᴰ·not-nil, List·Memᴰ·cases-cons}
+use Prim.Native.Nat.{ℕ, zero, suc, _+_, _≤_, _<_}
+use native.Mathlib.Omega.{arith}
+use Rattle.refusal.specs.Pick.{pick}
+use Rattle.text.specs.Order.{cmpNat, andThen, cmpBytes}
+use Rattle.text.specs.declared.order.Order.{Order}
+use Rattle.text.specs.declared.order.Order.the-variants.{Equal}
+use Rattle.text.proofs.OrderLaws.{cmp-refl}
+use Rattle.sorting.specs.Order.{Lawful}
+use Rattle.sorting.specs.Sort.{_∈_, keep, upFrom}
+use Rattle.sorting.specs.Keys.{byName, nameAt, cellIn, nameOf, rowOrder, marked, sortedRows}
+use Rattle.sorting.specs.Claims.{Listed, Ranked}
+use Rattle.sorting.specs.declared.Keys.{Keys}
+use Rattle.sorting.proofs.Orders.{exact-nat, exact-bytes, then-tie}
+use Rattle.sorting.proofs.Sorts.{sort-ascends, ascending-unique}
+use Rattle.sorting.proofs.Firsts.{Up, sort-lowest}
+use Rattle.sorting.proofs.Rowing.{lawful-rows, names-order}
+
+-- ---- the elements that pass a test, and the row numbers
+module _ {A : Type 0} (p : A → Bool) (e : A) where
+  pub keep-to : (l : List A) → e ∈ keep p l → (e ∈ l) × (p e ≡ true)
+  keep-to [] m = absurd (List·Memᴰ·not-nil m)
+  keep-to (x ∷ l) m = go (p x) refl m (keep-to l)
+    where
+      go : (t : Bool) → p x ≡ t → e ∈ pick t (x ∷ keep p l) (keep p l) → (e ∈ keep p l → (e ∈ l) × (p e ≡ true))
+          → (e ∈ (x ∷ l)) × (p e ≡ true)
+      go true q i ih =
+          ⊎-elim (λ h. (List·Memᴰ·head h, ap p h ∙ q)) (λ j. (List·Memᴰ·tail (ih j .0), ih j .1)) (List·Memᴰ·cases-cons i)
+      go false q i ih = (List·Memᴰ·tail (ih i .0), ih i .1)
+
+  pub keep-of : (l : List A) → e ∈ l → p e ≡ true → e ∈ keep p l
+  keep-of [] m h = absurd (List·Memᴰ·not-nil m)
+  keep-of (x ∷ l) m h = go (p x) refl (List·Memᴰ·cases-cons m) (λ i. keep-of l i h)
+    where
+      go : (t : Bool) → p x ≡ t → (e ≡ x) ⊎ (e ∈ l) → (e ∈ l → e ∈ keep p l) → e ∈ pick t (x ∷ keep p l) (keep p l)
+      go true q (inl w) ih = List·Memᴰ·head w
+      go true q (inr i) ih = List·Memᴰ·tail (ih i)
+      go false q (inl w) ih = let z = sym h ∙ ap p w ∙ q in absurd (let z : _≡_ {A = ℕ} 0 1 = cc in omega arith)
+      go false q (inr i) ih = ih i
+
+pub up-to : (e i m : ℕ) → e ∈ upFrom i m → (i ≤ e) × (e < i + m)
+up-to e i zero h = absurd (List·Memᴰ·not-nil h)
+up-to e i (suc m) h =
+    ⊎-elim (λ p. (omega arith, omega arith)) (λ t. let u = up-to e (suc i) m t in (omega arith, omega arith))
+    (List·Memᴰ·cases-cons h)
+
+pub up-of : (e i m : ℕ) → i ≤ e → e < i + m → e ∈ upFrom i m
+up-of e i zero h k = absurd (omega arith)
+up-of e i (suc m) h k = ⊎-elim (λ p. List·Memᴰ·head p) (λ l. List·Memᴰ·tail (up-of e (suc i) m l (omega arith))) (apart e i h)
+  where
+    apart : (a b : ℕ) → b ≤ a → (a ≡ b) ⊎ (b < a)
+    apart zero zero h = inl refl
+    apart zero (suc b) h = absurd (omega arith)
+    apart (suc a) zero h = inr (omega arith)
+    apart (suc a) (suc b) h = ⊎-elim (λ p. inl (ap suc p)) (λ l. inr (omega arith)) (apart a b (omega arith))
+
+-- row numbers that pass a test are numbered upwards
+numbered : (cmp : ℕ → ℕ → Order) (laws : Lawful cmp) (p : ℕ → Bool) (i m : ℕ) → Up cmp laws (λ e. e) (keep p (upFrom i m))
+numbered cmp laws p i zero = tt
+numbered cmp laws p i (suc m) = go (p i) (numbered cmp laws p (suc i) m)
+  where
+    go : (t : Bool) → Up cmp laws (λ e. e) (keep p (upFrom (suc i) m))
+        → Up cmp laws (λ e. e) (pick t (i ∷ keep p (upFrom (suc i) m)) (keep p (upFrom (suc i) m)))
+    go true ih = ((λ f j t. omega (arith, up-to f (suc i) m (keep-to p f (upFrom (suc i) m) j .0))), ih)
+    go false ih = ih
+
+-- ---- the claim
+module _ (first second rows : List ℕ) (k : Keys) (n : ℕ) where
+  each-is : (e : ℕ) → e ∈ sortedRows first second rows k n ↔ Listed first second rows k n e
+  unfolding sortedRows
+  each-is e =
+      let order = rowOrder first second rows k in
+      let laws = lawful-rows first second rows k in
+      let test = marked first second rows k in
+      let l = keep test (upFrom 0 n) in
+      let s = sort-lowest order laws (λ e. e) e l (numbered order laws test 0 n) in
+      let to : (j : ℕ) → j ∈ l → (j < n) × (test j ≡ true) =
+      λ j m. let u = keep-to test j (upFrom 0 n) m in let v = up-to j 0 n (u .0) in (omega arith, u .1) in
+      let of : (j : ℕ) → j < n → test j ≡ true → j ∈ l =
+      λ j b t. keep-of test j (upFrom 0 n) (up-of j 0 n (omega arith) (omega arith)) t in (
+        (λ m.
+            let u = s .0 m in
+            record { below = to e (u .0) .0; wanted = to e (u .0) .1; lowest = λ j b t q. u .1 j (of j b t) q }),
+        λ h. s .1 (of e (h .below) (h .wanted), λ j m q. let u = to j m in h .lowest j (u .0) (u .1) q),
+      )
+
+  pub sorted-ranked : Ranked first second rows k n (sortedRows first second rows k n)
+  unfolding sortedRows
+  sorted-ranked =
+      record {
+        ascends =
+            sort-ascends (rowOrder first second rows k) (lawful-rows first second rows k)
+            (keep (marked first second rows k) (upFrom 0 n));
+        each = each-is;
+      }
+
+  pub ranked-only : (l : List ℕ) → Ranked first second rows k n l → l ≡ sortedRows first second rows k n
+  ranked-only l r =
+      ascending-unique (rowOrder first second rows k) (lawful-rows first second rows k) l (sortedRows first second rows k n)
+      (r .ascends) (sorted-ranked .ascends) (λ e m. each-is e .1 (r .each e .0 m)) (λ e m. r .each e .1 (each-is e .0 m))
+
+-- where every row is wanted no two tie, so that the list has each wanted row
+pub every-apart : (first second rows : List ℕ) (k : Keys) → k .every ≡ true → (i j : ℕ) → rowOrder first second rows k i j ≡ Equal → i ≡ j
+unfolding rowOrder
+every-apart first second rows k h i j e =
+    let cell = cellIn first second rows k in
+    let name = nameOf first second rows k in
+    let last : Order = pick (k .every) (cmpNat i j) Equal in
+    let minor : Order = cmpNat (cell (k .minor) i) (cell (k .minor) j) in
+    let bytes : Order = cmpBytes (name i) (name j) in
+    let a = then-tie (cmpNat (cell (k .major) i) (cell (k .major) j)) (andThen bytes (andThen minor last)) e .1 in
+    let b = then-tie bytes (andThen minor last) a .1 in
+    exact-nat i j (rw h at (then-tie minor last b .1))
+
+-- rows listed by name tie where the names are the same bytes
+pub same-name : (first second rows : List ℕ) (width from len mark value i j : ℕ)
+    → rowOrder first second rows (byName width from len mark value) i j ≡ Equal
+    ↔ nameAt first rows width from len i ≡ nameAt first rows width from len j
+same-name first second rows width from len mark value i j =
+    let is = names-order first second rows width from len mark value i j in
+    let x = nameAt first rows width from len i in
+    let y = nameAt first rows width from len j in (
+      (λ e. exact-bytes x y (sym is ∙ e)),
+      λ e. is ∙ ap (cmpBytes x) (sym e) ∙ cmp-refl x,
+    )

@@ -1,0 +1,22 @@
+-- docs/RULES.md, "Tables", sorted lists: what is claimed of the sorted rows, without naming how they are sorted. Assumes nothing.
+use mathlib.Core.Path.{_≡_}
+use mathlib.Core.Bool.{true}
+use mathlib.Core.Logic.{_↔_}
+use mathlib.Core.List.{List}
+use Prim.Native.Nat.{ℕ, _≤_, _<_}
+use Rattle.text.specs.declared.order.Order.the-variants.{Equal}
+use Rattle.sorting.specs.Sort.{_∈_, Ascending}
+use Rattle.sorting.specs.Keys.{rowOrder, marked}
+use Rattle.sorting.specs.declared.Keys.{Keys}
+
+module _ (first second rows : List ℕ) (k : Keys) (n : ℕ) where
+  -- row e is below n and wanted, and no lower wanted row ties with it
+  pub record Listed (e : ℕ) : Type 0 where
+    pub below : e < n
+    pub wanted : marked first second rows k e ≡ true
+    pub lowest : (j : ℕ) → j < n → marked first second rows k j ≡ true → rowOrder first second rows k e j ≡ Equal → e ≤ j
+
+  -- the list has exactly these rows, each before all that follow it
+  pub record Ranked (l : List ℕ) : Type 0 where
+    pub ascends : Ascending (rowOrder first second rows k) l
+    pub each : (e : ℕ) → e ∈ l ↔ Listed e

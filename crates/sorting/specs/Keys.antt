@@ -1,0 +1,68 @@
+-- docs/RULES.md, "Tables", sorted lists: which rows are listed, in which order, and what the table lent for them holds.
+use mathlib.Core.Path.{_≡_}
+use mathlib.Core.Bool.{Bool, false}
+use mathlib.Core.List.{List, []}
+use Prim.Native.Nat.{ℕ}
+use lib.Dec.{eqb, leb}
+use lib.ListN.{length}
+use Rattle.refusal.specs.Pick.{pick}
+use Rattle.text.specs.Order.{cmpNat, andThen, cmpBytes}
+use Rattle.text.specs.declared.order.Order.{Order}
+use Rattle.text.specs.declared.order.Order.the-variants.{Equal}
+use Rattle.table.specs.Table.{laid, cellOf, rangeOf}
+use Rattle.sorting.specs.Sort.{sort, keep, upFrom}
+use Rattle.sorting.specs.declared.Keys.{Keys}
+use Rattle.sorting.specs.declared.Sorted.{Sorted}
+use Rattle.sorting.specs.declared.Sorted.the-variants.{Rows, Full}
+
+-- by a name alone, that of the first file at cells `from` and `len`; of rows with one name the lowest
+abbrev pub byName : ℕ → ℕ → ℕ → ℕ → ℕ → Keys
+byName width from len mark value =
+    record {
+      width = width;
+      mark = mark;
+      value = value;
+      major = width;
+      file = width;
+      from = from;
+      len = len;
+      minor = width;
+      every = false;
+    }
+
+-- the bytes of `file` in the range at cells `from` and `len` of row i; a range outside the file is empty
+abbrev pub nameAt : List ℕ → List ℕ → ℕ → ℕ → ℕ → ℕ → List ℕ
+nameAt file rows width from len i = rangeOf file (cellOf rows width i from) (cellOf rows width i len)
+
+module _ (first second rows : List ℕ) (k : Keys) where
+  -- the cell of row i in a column; 0 where the row has none
+  abbrev pub cellIn : ℕ → ℕ → ℕ
+  cellIn column i = cellOf rows (k .width) i column
+
+  -- the file that row i names
+  unfoldable pub fileOf : ℕ → List ℕ
+  fileOf i = pick (eqb (cellIn (k .file) i) 0) first second
+
+  -- the bytes of row i
+  unfoldable pub nameOf : ℕ → List ℕ
+  nameOf i = nameAt (fileOf i) rows (k .width) (k .from) (k .len) i
+
+  -- by the major cell, then by bytes, then by the minor cell; and by row number where every row is wanted
+  unfoldable pub rowOrder : ℕ → ℕ → Order
+  rowOrder i j =
+      andThen (cmpNat (cellIn (k .major) i) (cellIn (k .major) j))
+      (andThen (cmpBytes (nameOf i) (nameOf j))
+      (andThen (cmpNat (cellIn (k .minor) i) (cellIn (k .minor) j)) (pick (k .every) (cmpNat i j) Equal)))
+
+  -- row i is wanted
+  unfoldable pub marked : ℕ → Bool
+  marked i = eqb (cellIn (k .mark) i) (k .value)
+
+  -- the wanted rows below n in order; of rows that tie the lowest
+  unfoldable pub sortedRows : ℕ → List ℕ
+  sortedRows n = sort rowOrder (keep marked (upFrom 0 n))
+
+-- a list in a table of n cells: all of it, then zeros; or Full, and zeros throughout
+pub record Sorts (l before after : List ℕ) (r : Sorted) : Type 0 where
+  pub answer-is : r ≡ pick (leb (length l) (length before)) (Rows (length l)) Full
+  pub table-is : after ≡ laid (length before) (pick (leb (length l) (length before)) l [])
