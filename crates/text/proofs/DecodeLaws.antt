@@ -176,7 +176,7 @@ pub record Fronted (s : List ℕ) (k : ℕ) : Type 0 where
   pub scalar : Scalar (codeOf s)
   pub bytes : encode (codeOf s) ≡ take k s
 
-fronted : (a : ℕ) (s : List ℕ) (k : ℕ) → seqLen (a ∷ s) ≡ suc k → Fronted (a ∷ s) (suc k)
+pub fronted : (a : ℕ) (s : List ℕ) (k : ℕ) → seqLen (a ∷ s) ≡ suc k → Fronted (a ∷ s) (suc k)
 unfolding seqLen codeOf after follow
 fronted a s k e = by (followIn table a) (chosen a table) e
   where

@@ -62,7 +62,6 @@ fn has(s: &[u8], i: usize, lo: u8, hi: u8) -> bool
         if lo <= b {
             return b <= hi;
         }
-        return false;
     }
     false
 }
