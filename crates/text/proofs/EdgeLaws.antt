@@ -30,6 +30,7 @@ pub front-white : (c : ℕ) (s : List ℕ) → Scalar c → isWhite c ≡ true �
 unfolding trimStart startLen
 front-white c s h e = rw (chars-encode c s h, e) (omega (arith, nonempty c))
 
+-- any other stays
 pub front-other : (c : ℕ) (s : List ℕ) → Scalar c → isWhite c ≡ false → trimStart (encode c ++ s) ≡ 0
 unfolding trimStart startLen
 front-other c s h e = rw (chars-encode c s h, e)
@@ -62,10 +63,12 @@ chars-back s c h =
     let o : chars (encode c) ≡ charOf c ∷ [] = rw append-nil at (chars-encode c [] h) in
     parted s (headed c) ∙ ap (λ (l : List Char). chars s ++ l) o
 
+-- White_Space goes
 pub back-white : (s : List ℕ) (c : ℕ) → Scalar c → isWhite c ≡ true → trimEnd (s ++ encode c) ≡ trimEnd s
 unfolding trimEnd
 back-white s c h e = rw (chars-back s c h) (blank-append (chars s) c (length (encode c) - 1) e)
 
+-- any other stays, and all before it
 pub back-other : (s : List ℕ) (c : ℕ) → Scalar c → isWhite c ≡ false → trimEnd (s ++ encode c) ≡ length (s ++ encode c)
 unfolding trimEnd endLen
 back-other s c h e =
@@ -97,6 +100,7 @@ white-first x s e = by (seqLen (x ∷ s)) refl
     by zero q = absurd (false≢true (rw q at e))
     by (suc k) q = fronted x s k q
 
+-- what goes at the front is the encoding of White_Space
 pub front-only : (s : List ℕ) → 0 < trimStart s → AtFront s
 unfolding trimStart startLen chars charsFrom
 front-only [] h = absurd (omega arith)
@@ -169,6 +173,7 @@ alone (x ∷ s) c m e w =
     let b : take (suc (more (x ∷ s))) (x ∷ s) ≡ x ∷ s = ap (λ (k : ℕ). take k (x ∷ s)) n ∙ take-length (x ∷ s) in
     (rw p at (f .scalar), ap encode (sym p) ∙ f .bytes ∙ b)
 
+-- and so is what goes at the end
 pub back-only : (s : List ℕ) → trimEnd s < length s → AtEnd s
 unfolding trimEnd
 back-only s h =

@@ -23,17 +23,17 @@ unfolding seqLen after covers
 seq-ascii x s h = rw (follow-ascii x h)
 
 -- one ASCII byte passed
-pub ascii-pass : (s : List ℕ) (i j : ℕ) → i < length s → getD s i 0 < 0x80 → j ≡ i + 1
+ascii-pass : (s : List ℕ) (i j : ℕ) → i < length s → getD s i 0 < 0x80 → j ≡ i + 1
     → scan seqLen 0 (drop i s) ≡ suc (scan seqLen 0 (drop j s))
 ascii-pass s i j h k e =
     let one : seqLen (drop i s) ≡ 1 = rw (left-next s i h) (seq-ascii (getD s i 0) (drop (i + 1) s) k) in
     rw e (scan-next seqLen s i 0 one (omega arith) ∙ suc-add 0 _ ∙ rw zero-add)
 
 -- a byte is at most what it is or-ed into
-pub or-left : (a b : ℕ) → a ≤ bitOr a b
+or-left : (a b : ℕ) → a ≤ bitOr a b
 or-left a b = omega (arith, or-add-and a b, and-le-r a b)
 
-pub or-right : (a b : ℕ) → b ≤ bitOr a b
+or-right : (a b : ℕ) → b ≤ bitOr a b
 or-right a b = omega (arith, or-add-and a b, and-le-l a b)
 
 -- each of two, and each of four, is below what they are together below
@@ -56,6 +56,7 @@ below-eight l =
     let z = below-four (x .1) in
     (y .0, y .1, y .2, y .3, z .0, z .1, z .2, z .3)
 
+-- eight bytes that are ASCII together are ASCII each, and each is a sequence
 pub jump-ascii : (s : List ℕ) (at : ℕ) → at + 8 ≤ length s
     → bitOr
     (bitOr (bitOr (bitOr (getD s at 0) (getD s (at + 1) 0)) (getD s (at + 2) 0)) (getD s (at + 3) 0))
@@ -74,6 +75,7 @@ jump-ascii s at b h =
     let p₇ = ascii-pass s (at + 7) (at + 8) (omega arith) (x .7) (omega arith) in
     record { more = omega arith; inside = omega arith; same = omega arith }
 
+-- one sequence, or none
 pub jump-step : (s : List ℕ) (at : ℕ) (r : Seq) → at < length s → r ≡ stepAt s at → Jumped s at r
 jump-step s at (Next n) h e = went s at n h (sym e)
 jump-step s at Bad h e = stuck s at (sym e)

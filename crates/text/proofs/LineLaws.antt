@@ -90,6 +90,7 @@ next-more x y s e f ih =
     let k : indexOf 10 (x ∷ y ∷ s) ≡ suc (suc (indexOf 10 s)) = rw (index-cons, e, n) in
     rw (len-suc x (y ∷ s) (indexOf 10 s) n k, step-suc x (y ∷ s) (indexOf 10 s) n k) (next-on x y s e f ∙ onto-next x (y ∷ s) ih)
 
+-- docs/RULES.md, "Texts": the first line of a text, and the lines after it, by its first LF
 pub lines-next : (s : List ℕ) → 0 < length s → lines s ≡ take (lineLen s) s ∷ lines (drop (lineStep s) s)
 lines-next [] h = absurd (let z : _≡_ {A = ℕ} 0 1 = omega arith in omega arith)
 lines-next (x ∷ []) h = by (eqb x 10) refl
@@ -113,19 +114,23 @@ len-past s at h = (rw (left-none s at h), rw (left-none s at h))
 
 -- ---- by the place of the first LF
 module _ (r : List ℕ) where
+  -- no LF
   pub len-none : length r ≤ indexOf 10 r → (lineLen r ≡ indexOf 10 r) × (lineStep r ≡ indexOf 10 r)
   unfolding lineLen lineStep crBefore
   len-none h = (rw (le-ltb _ _ h), rw (le-ltb _ _ h))
 
+  -- LF at once
   pub len-empty : indexOf 10 r < length r → indexOf 10 r ≤ 0 → (lineLen r ≡ indexOf 10 r) × (lineStep r ≡ indexOf 10 r + 1)
   unfolding lineLen lineStep crBefore
   len-empty h k = (rw (lt-ltb _ _ h, le-ltb _ _ k), rw (lt-ltb _ _ h))
 
+  -- a CR just before LF is dropped
   pub len-cr : indexOf 10 r < length r → 0 < indexOf 10 r → getD r (indexOf 10 r - 1) 0 ≡ 13
       → (lineLen r ≡ indexOf 10 r - 1) × (lineStep r ≡ indexOf 10 r + 1)
   unfolding lineLen lineStep crBefore
   len-cr h k e = (rw (lt-ltb _ _ h, lt-ltb _ _ k, eq-eqb _ _ e), rw (lt-ltb _ _ h))
 
+  -- any other byte there is the line's
   pub len-lf : indexOf 10 r < length r → 0 < indexOf 10 r → (getD r (indexOf 10 r - 1) 0 ≡ 13 → ⊥)
       → (lineLen r ≡ indexOf 10 r) × (lineStep r ≡ indexOf 10 r + 1)
   unfolding lineLen lineStep crBefore
@@ -141,6 +146,7 @@ end-le : (t : Bool) (n : ℕ) → endBy t n ≤ n
 end-le true n = omega arith
 end-le false n = omega arith
 
+-- the line and what ends it are part of the text, and a text that is not at its end has a line
 pub line-bounds : (s : List ℕ) (at : ℕ) → at < length s → Bounds s at
 unfolding lineLen lineStep
 line-bounds s at h =
@@ -167,6 +173,7 @@ line-bounds s at h =
           more = k .1;
         }
 
+-- the same at a place: what `line_at` tells is a line of the text, and where the others begin
 pub lines-at : (s : List ℕ) (at : ℕ) → at < length s
     → lines (drop at s) ≡ take (lineLen (drop at s)) (drop at s) ∷ lines (drop (at + lineStep (drop at s)) s)
 lines-at s at h = lines-next (drop at s) (omega (arith, length-drop at s)) ∙ rw drop-drop

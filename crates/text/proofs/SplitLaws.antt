@@ -195,6 +195,7 @@ pub record Cut (s : List ℕ) (n : ℕ) (ps qs : List Char) : Type 0 where
   pub left : chars (take n s) ≡ ps
   pub right : chars (drop n s) ≡ qs
 
+-- the characters before and after a cut between two
 pub chars-cut : (s : List ℕ) (n : ℕ) (ps qs : List Char) → chars s ≡ ps ++ qs → bytes-of ps ≡ n → n ≤ length s → Cut s n ps qs
 unfolding chars
 chars-cut s n ps qs e h b =
@@ -202,6 +203,7 @@ chars-cut s n ps qs e h b =
     let i = cut-from 0 (take n s) (drop n s) ps qs j (omega (arith, length-take-le n s b)) in
     record { left = i .0; right = i .1 }
 
+-- the characters take all the bytes
 pub bytes-all : (s : List ℕ) → bytes-of (chars s) ≡ length s
 unfolding chars
 bytes-all s = omega (arith, chars-bytes 0 s (omega arith))
@@ -246,6 +248,7 @@ upto-from zero (x ∷ s) e = by (seqLen (x ∷ s)) refl (λ (k : ℕ). upto-from
         let z : suc (scan seqLen k s) ≡ suc (length s) = rw (q, scan) at e in
         rw q (both-and _ _ (proper-seq k (x ∷ s)) (ih k (omega arith)))
 
+-- a text is well formed where all of it stands before the first ill-formed sequence
 pub upto-well : (s : List ℕ) → upTo s ≡ length s → well s ≡ true
 unfolding well upTo chars
 upto-well s e = upto-from 0 s e
@@ -265,6 +268,7 @@ from-upto zero (x ∷ s) e h = by (seqLen (x ∷ s)) refl (λ (k : ℕ). from-up
         let z : both (proper (char (codeBy (suc k) (x ∷ s)) k)) (allProper (charsFrom k s)) ≡ true = rw q at e in
         rw (q, scan) (ap suc (ih k (both-two (proper (char (codeBy (suc k) (x ∷ s)) k)) (allProper (charsFrom k s)) z) (omega arith)))
 
+-- and the other way round
 pub well-upto : (s : List ℕ) → well s ≡ true → upTo s ≡ length s
 unfolding well upTo chars
 well-upto s e = from-upto 0 s e (omega arith)
@@ -284,6 +288,7 @@ pub well-one : (x : ℕ) (t : List ℕ) → x < 0x80 → well (x ∷ t) ≡ well
 unfolding well allProper proper
 well-one x t h = rw (ascii-one x t h, lt-ltb x 0x80 h)
 
+-- an ASCII byte parts a text into two that are well formed or not by themselves
 pub well-ascii : (w : List ℕ) (x : ℕ) (t : List ℕ) → x < 0x80 → well (w ++ x ∷ t) ≡ both (well w) (well t)
 unfolding well
 well-ascii w x t h = rw (chars-ascii w x t h)

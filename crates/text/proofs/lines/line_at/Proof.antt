@@ -8,7 +8,6 @@ use lib.ListN.{length, drop, getD, length-drop}
 use lib.Seq.{getD-drop}
 use borrow.Author.Needs.{needs}
 use Rattle.text.specs.Find.{indexOf}
-use Rattle.text.specs.Lines.{before}
 use Rattle.text.proofs.Laws.{left-part}
 use Rattle.text.proofs.FindLaws.{index-le}
 use Rattle.text.proofs.LineLaws.{len-past, len-none, len-empty, len-cr, len-lf}
