@@ -95,8 +95,9 @@ covers-cut : (rs : List Range) (a b : List ℕ) → covers rs (a ++ b) ≡ true 
 unfolding covers
 covers-cut [] a b e h = refl
 covers-cut (r ∷ rs) [] b e h = absurd (not-suc-le-zero h)
-covers-cut (r ∷ rs) (y ∷ a) b e h = both-and (inRange r y) (covers rs a) (both-one (inRange r y) _ e)
-    (covers-cut rs a b (both-two (inRange r y) _ e) (le-of-suc-le-suc h))
+covers-cut (r ∷ rs) (y ∷ a) b e h =
+    let i = covers-cut rs a b (both-two (inRange r y) _ e) (le-of-suc-le-suc h) in
+    both-and (inRange r y) (covers rs a) (both-one (inRange r y) _ e) i
 
 after-cut : (f : Follow) (a b : List ℕ) → moreBy (after f (a ++ b)) ≤ length a → after f (a ++ b) ≡ after f a
 unfolding after moreBy
