@@ -3,7 +3,10 @@ use Prim.Native.Nat.{ℕ}
 use mathlib.Core.Path.{_≡_, refl, sym, _∙_, ap}
 use lib.Dec.{eqb}
 use Rattle.refusal.specs.Pick.{pick}
-use Rattle.refusal.specs.Said.{numberOf, placeOf}
+use Rattle.refusal.specs.Said.{Said, accepted, refused, numberOf, placeOf, saidAnswer, saidCount, saidWritten}
+use Rattle.refusal.specs.declared.Answer.{Answer}
+use Rattle.refusal.specs.declared.Count.{Count}
+use Rattle.refusal.specs.declared.Written.{Written}
 use Rattle.refusal.specs.declared.Refusal.{Refusal}
 use Rattle.refusal.specs.declared.Refusal.the-variants.{UnexpectedEof, BadMagic, BadLeb128, BadUtf8, MalformedSection, Directive, BadDefault, BadDomain}
 use Rattle.refusal.specs.declared.Refusal.the-variants.{PackageInWorld, NoName, Unmatched, Outside, Full, TooLong, BadTable, NoRoom}
@@ -48,3 +51,37 @@ known (NoRoom p) = refl
 
 pub same-refusal : (v w : Refusal) → numberOf v ≡ numberOf w → placeOf v ≡ placeOf w → v ≡ w
 same-refusal v w n p = sym (known v) ∙ ap (λ (k : ℕ). refusalOf k (placeOf v)) n ∙ ap (refusalOf (numberOf w)) p ∙ known w
+
+-- what can be taken back is known, so `said` loses nothing
+pub taken-back : {A O : Type 0} {said : A → O} (back : O → A) → ((a : A) → back (said a) ≡ a) → (a b : A) → said a ≡ said b → a ≡ b
+taken-back back is a b e = sym (is a) ∙ ap back e ∙ is b
+
+pub answer-known : (a b : Answer) → saidAnswer a ≡ saidAnswer b → a ≡ b
+answer-known = taken-back back is where
+  back : Said (Unit {0}) → Answer
+  back (accepted v) = Answer.Accepted
+  back (refused n p) = Answer.Refused (refusalOf n p)
+
+  is : (a : Answer) → back (saidAnswer a) ≡ a
+  is Answer.Accepted = refl
+  is (Answer.Refused w) = ap Answer.Refused (known w)
+
+pub count-known : (a b : Count) → saidCount a ≡ saidCount b → a ≡ b
+count-known = taken-back back is where
+  back : Said ℕ → Count
+  back (accepted v) = Count.Rows v
+  back (refused n p) = Count.Refused (refusalOf n p)
+
+  is : (a : Count) → back (saidCount a) ≡ a
+  is (Count.Rows n) = refl
+  is (Count.Refused w) = ap Count.Refused (known w)
+
+pub written-known : (a b : Written) → saidWritten a ≡ saidWritten b → a ≡ b
+written-known = taken-back back is where
+  back : Said ℕ → Written
+  back (accepted v) = Written.Bytes v
+  back (refused n p) = Written.Refused (refusalOf n p)
+
+  is : (a : Written) → back (saidWritten a) ≡ a
+  is (Written.Bytes n) = refl
+  is (Written.Refused w) = ap Written.Refused (known w)

@@ -1,5 +1,8 @@
 -- docs/RULES.md, "Numbered answers": what a call says, in the paper's words, and how one call follows another. Assumes nothing.
 use Prim.Native.Nat.{ℕ}
+use Rattle.refusal.specs.declared.Answer.{Answer}
+use Rattle.refusal.specs.declared.Count.{Count}
+use Rattle.refusal.specs.declared.Written.{Written}
 use Rattle.refusal.specs.declared.Refusal.{Refusal}
 use Rattle.refusal.specs.declared.Refusal.the-variants.{UnexpectedEof, BadMagic, BadLeb128, BadUtf8, MalformedSection, Directive, BadDefault, BadDomain}
 use Rattle.refusal.specs.declared.Refusal.the-variants.{PackageInWorld, NoName, Unmatched, Outside, Full, TooLong, BadTable, NoRoom}
@@ -54,6 +57,19 @@ refusedBy why = refused (numberOf why) (placeOf why)
 unfoldable pub follow : {X Y : Type 0} → Said X → (X → Said Y) → Said Y
 follow (accepted v) f = f v
 follow (refused n p) f = refused n p
+
+-- ---- the answers that calls share
+abbrev pub saidAnswer : Answer → Said (Unit {0})
+saidAnswer Answer.Accepted = accepted tt
+saidAnswer (Answer.Refused why) = refusedBy why
+
+abbrev pub saidCount : Count → Said ℕ
+saidCount (Count.Rows n) = accepted n
+saidCount (Count.Refused why) = refusedBy why
+
+abbrev pub saidWritten : Written → Said ℕ
+saidWritten (Written.Bytes n) = accepted n
+saidWritten (Written.Refused why) = refusedBy why
 
 -- ---- readers: a value that was read, and the offset after it
 pub data Got (X : Type 0) : Type 0 where

@@ -22,6 +22,22 @@ pub enum Refusal {
     NoRoom(usize),
 }
 
+// What a call answers that gives nothing but its verdict; how many rows; how many bytes.
+pub enum Answer {
+    Accepted,
+    Refused(Refusal),
+}
+
+pub enum Count {
+    Rows(usize),
+    Refused(Refusal),
+}
+
+pub enum Written {
+    Bytes(usize),
+    Refused(Refusal),
+}
+
 // A range of bytes.
 pub struct Part {
     pub from: usize,
