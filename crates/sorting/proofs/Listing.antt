@@ -10,10 +10,12 @@ use lib.Seq.{take-take, length-take-le, set-split, drop-append-le, take-at, drop
 use borrow.Author.Tests.{le-leb, lt-leb}
 use Rattle.text.specs.declared.order.Order.{Order}
 use Rattle.table.specs.Table.{laid}
+use Rattle.table.specs.Entries.{finished, fitting}
+use Rattle.refusal.proofs.Following.{never}
 use Rattle.table.proofs.Laws.{laid-nil, drop-replicate}
 use Rattle.sorting.specs.Order.{Lawful}
 use Rattle.sorting.specs.Sort.{put, sort, keep, upFrom}
-use Rattle.sorting.specs.Keys.{Sorts}
+use Rattle.sorting.specs.Keys.{saidSorted, Sorts}
 use Rattle.sorting.specs.Filling.{Placed, Ordered, Filled, inserted}
 use Rattle.sorting.specs.declared.Place.the-variants.{Before, Over}
 use Rattle.sorting.specs.declared.Sorted.{Sorted}
@@ -157,7 +159,7 @@ kept-grows cmp p n (suc i) h = by (p i) refl (kept-grows cmp p n i (omega arith)
 -- ---- the two ends
 pub sorts-rows : (l before zeros after : List ℕ) (k : ℕ) → zeros ≡ laid (length before) [] → Filled l zeros after k
     → length after ≡ length zeros → Sorts l before after (Rows k)
-unfolding laid
+unfolding laid finished fitting
 sorts-rows l before zeros after k z f e =
     let n : length zeros ≡ length before = ap length z ∙ simp length-replicate (omega arith) in
     let fits : length l ≤ length before = omega (arith, filled-room l zeros after k f e, f .count) in
@@ -166,17 +168,26 @@ sorts-rows l before zeros after k z f e =
     ∙ drop-replicate k (length before) 0
     ∙ ap (λ (m : ℕ). replicate (length before - m) 0) (f .count) in
     record {
-      answer-is = rw (le-leb (length l) (length before) fits, f .count);
+      answer-is = λ tn. rw (le-leb (length l) (length before) fits, f .count);
       table-is = rw (le-leb (length l) (length before) fits) (f .holds ∙ ap (λ (t : List ℕ). l ++ t) rest);
     }
 
 pub sorts-full : (l before after : List ℕ) → length before < length l → after ≡ laid (length before) [] → Sorts l before after Full
+unfolding finished fitting
 sorts-full l before after h e =
     record {
-      answer-is = rw (lt-leb (length l) (length before) h);
+      answer-is = λ tn. rw (lt-leb (length l) (length before) h);
       table-is = rw (lt-leb (length l) (length before) h) e;
     }
 
+-- the paper's words tell the answer
+pub said-known : (r s : Sorted) → saidSorted 0 r ≡ saidSorted 0 s → r ≡ s
+said-known (Rows m) (Rows n) e = let q : m ≡ n = cc in ap Rows q
+said-known (Rows m) Full e = absurd (never (sym e))
+said-known Full (Rows n) e = absurd (never e)
+said-known Full Full e = refl
+
 -- at most one answer, and one content of the table
 pub sorts-unique : {l before a b : List ℕ} {r s : Sorted} → Sorts l before a r → Sorts l before b s → (r ≡ s) × (a ≡ b)
-sorts-unique f g = (f .answer-is ∙ sym (g .answer-is), f .table-is ∙ sym (g .table-is))
+sorts-unique {r = r} {s = s} f g =
+    (said-known r s (f .answer-is 0 ∙ sym (g .answer-is 0)), f .table-is ∙ sym (g .table-is))
