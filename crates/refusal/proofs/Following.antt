@@ -8,6 +8,10 @@ use Rattle.refusal.specs.declared.Refusal.{Refusal}
 pub never : {X : Type 0} {v : X} {m n : ℕ} → refused m n ≡ accepted v → ⊥
 never e = let z : _≡_ {A = ℕ} 0 1 = cc in omega arith
 
+-- a refusal is handed on
+pub hands : {X : Type 0} {x : Said X} {v w : Refusal} → x ≡ refusedBy w → v ≡ w → refusedBy v ≡ x
+hands e q = rw (e, q)
+
 -- what was accepted in the end was accepted first
 pub record Followed {X Y : Type 0} (x : Said X) (f : X → Said Y) (y : Y) : Type 0 where
   pub what : X

@@ -1,0 +1,6 @@
+pub mod Decides
+pub mod OfRefusal
+pub mod OfText
+pub mod OfLeb
+pub mod Examples
+pub mod Rejected

@@ -1,0 +1,13 @@
+-- No two answers satisfy the promise of any function of refusal. Assumes nothing.
+use mathlib.Core.Path.{_≡_, sym, _∙_}
+use Rattle.promises.specs.Decides.{Decides}
+use Rattle.refusal.proofs.number.Kinds as number-kinds
+use Rattle.refusal.proofs.number.Reads as number
+use Rattle.refusal.proofs.place.Kinds as place-kinds
+use Rattle.refusal.proofs.place.Reads as place
+
+pub number-decides : Decides number-kinds.ps number-kinds.r number.Post
+number-decides κs a x y s t p q = p ∙ sym q
+
+pub place-decides : Decides place-kinds.ps place-kinds.r place.Post
+place-decides κs a x y s t p q = p ∙ sym q

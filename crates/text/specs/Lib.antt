@@ -1,0 +1,13 @@
+-- What the clauses of src/ cite.
+pub mod Scan
+pub mod Walk
+pub mod Find
+pub mod Order
+pub mod Lines
+pub mod Ranges
+pub mod Utf8
+pub mod Encode
+pub mod White
+pub mod Chars
+pub mod Trim
+pub mod Steps
