@@ -16,7 +16,7 @@ use Rattle.table.proofs.Laws.{laid-nil, drop-replicate}
 use Rattle.sorting.specs.Order.{Lawful}
 use Rattle.sorting.specs.Sort.{put, sort, keep, upFrom}
 use Rattle.sorting.specs.Keys.{saidSorted, Sorts}
-use Rattle.sorting.specs.Filling.{Placed, Ordered, Filled, inserted}
+use Rattle.sorting.specs.Filling.{Placed, Ordered, Filled, Inserted, inserted}
 use Rattle.sorting.specs.declared.Place.the-variants.{Before, Over}
 use Rattle.sorting.specs.declared.Sorted.{Sorted}
 use Rattle.sorting.specs.declared.Sorted.the-variants.{Rows, Full}
@@ -90,9 +90,10 @@ module _ (cmp : ℕ → ℕ → Order) (laws : Lawful cmp) (l before table : Lis
       }
 
   -- and with one more row put in, it is filled with that of the row and l
-  pub filled-step : (x : ℕ) (after : List ℕ) (r : ℕ) → Filled (put cmp x (take k table)) table after r
+  pub filled-step : (x : ℕ) (after : List ℕ) {s : Sorted} (r : ℕ) → s ≡ Rows r → Inserted (put cmp x (take k table)) table after s
       → Filled (sort cmp (x ∷ l)) before after r
-  filled-step x after r g =
+  filled-step x after r q h =
+      let g : Filled (put cmp x (take k table)) table after r = subst (Inserted (put cmp x (take k table)) table after) q h in
       let e = filled-take (sort cmp l) before table k f in
       let p : put cmp x (take k table) ≡ sort cmp (x ∷ l) = ap (put cmp x) e in
       let more : k ≤ r = omega (arith, g .count, f .count, put-grows cmp x (take k table), ap length e) in
@@ -105,8 +106,12 @@ module _ (cmp : ℕ → ℕ → Order) (laws : Lawful cmp) (l before table : Lis
             (ap (drop r) (f .holds) ∙ drop-past (sort cmp l) before k r (f .count) more));
       }
 
-  pub full-step : (x n : ℕ) → n < length (put cmp x (take k table)) → n < length (sort cmp (x ∷ l))
-  full-step x n h = rw (filled-take (sort cmp l) before table k f) at h
+  -- or the list of the row and l is longer than the table
+  pub full-step : (x : ℕ) (after : List ℕ) {s : Sorted} → s ≡ Full → Inserted (put cmp x (take k table)) table after s
+      → length table < length (sort cmp (x ∷ l))
+  full-step x after q h =
+      let g : length table < length (put cmp x (take k table)) = subst (Inserted (put cmp x (take k table)) table after) q h in
+      rw (filled-take (sort cmp l) before table k f) at g
 
 -- the list replaced by an equal one
 pub filled-as : (cmp : ℕ → ℕ → Order) {l m before table : List ℕ} {k : ℕ} → l ≡ m → Filled (sort cmp l) before table k
