@@ -9,7 +9,7 @@ use lib.Dec.{leb, ltb}
 use lib.ListN.{length, take, drop, getD, List·getD-eq-default}
 use borrow.Author.Tests.{le-leb, lt-leb, leb-true, lt-ltb, le-ltb}
 use Rattle.refusal.specs.Pick.{pick, both}
-use Rattle.table.specs.Table.{cellOf, capacityOf, rangeOf}
+use Rattle.table.specs.Table.{cellOf, capacityOf, lies, rangeOf, startOf}
 
 -- ---- how many rows
 -- a row that the capacity takes has its cells in the table
@@ -62,10 +62,21 @@ pub range-in : (s : List ℕ) (from len : ℕ) → from + len ≤ length s → r
 unfolding rangeOf
 range-in s from len h = rw (le-leb len (length s) (omega arith), le-leb from (length s - len) (omega arith))
 
+pub start-in : (s : List ℕ) (from len : ℕ) → from + len ≤ length s → startOf s from len ≡ from
+unfolding startOf
+start-in s from len h = rw (le-leb len (length s) (omega arith), le-leb from (length s - len) (omega arith))
+
+lies-not : (s : List ℕ) (from len : ℕ) → length s < from + len → lies s from len ≡ false
+lies-not s from len h = by (leb len (length s)) refl
+  where
+    by : (t : Bool) → leb len (length s) ≡ t → both t (leb from (length s - len)) ≡ false
+    by true e = lt-leb from (length s - len) (omega (arith, leb-true len (length s) e))
+    by false e = refl
+
 pub range-out : (s : List ℕ) (from len : ℕ) → length s < from + len → rangeOf s from len ≡ []
 unfolding rangeOf
-range-out s from len h = by (leb len (length s)) refl
-  where
-    by : (t : Bool) → leb len (length s) ≡ t → pick (both t (leb from (length s - len))) (take len (drop from s)) [] ≡ []
-    by true e = rw (lt-leb from (length s - len) (omega (arith, leb-true len (length s) e)))
-    by false e = refl
+range-out s from len h = rw (lies-not s from len h)
+
+pub start-out : (s : List ℕ) (from len : ℕ) → length s < from + len → startOf s from len ≡ 0
+unfolding startOf
+start-out s from len h = rw (lies-not s from len h)

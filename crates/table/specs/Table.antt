@@ -1,6 +1,7 @@
 -- docs/RULES.md, "Tables": what a lent table holds, the cells of its rows one after another and then zeros; and how many rows it takes.
 use Prim.Native.Nat.{ℕ, zero, suc, _+_, _-_, _*_, _/_, min}
 use mathlib.Core.Path.{_≡_}
+use mathlib.Core.Bool.{Bool}
 use mathlib.Core.List.{List, [], _∷_, _++_}
 use lib.Dec.{leb, ltb}
 use lib.ListN.{length, take, drop, getD, replicate}
@@ -40,6 +41,14 @@ unfoldable pub rowsOf : {R : Type 0} → (ℕ → R) → ℕ → List R
 rowsOf g zero = []
 rowsOf g (suc n) = rowsOf g n ++ (g n ∷ [])
 
+-- a range lies in the bytes
+abbrev pub lies : List ℕ → ℕ → ℕ → Bool
+lies s from len = both (leb len (length s)) (leb from (length s - len))
+
 -- the bytes of a range that a row holds; none where the range leaves them
 unfoldable pub rangeOf : List ℕ → ℕ → ℕ → List ℕ
-rangeOf s from len = pick (both (leb len (length s)) (leb from (length s - len))) (take len (drop from s)) []
+rangeOf s from len = pick (lies s from len) (take len (drop from s)) []
+
+-- and where they start: an empty part that stands for a range outside is at the start
+unfoldable pub startOf : List ℕ → ℕ → ℕ → ℕ
+startOf s from len = pick (lies s from len) from 0
