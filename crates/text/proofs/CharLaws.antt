@@ -57,6 +57,7 @@ white-in lo hi c u e y =
     let q = leb-true c hi (both-two (leb lo c) (leb c hi) i) in
     cover-in lo hi whites u c p q
 
+-- a line of the list that does not take c
 pub missed : {t u : Bool} → t ≡ u → t ≡ false → u ≡ false
 missed e n = sym e ∙ n
 
@@ -125,6 +126,7 @@ skip zero s = refl
 skip (suc k) [] = refl
 skip (suc k) (x ∷ s) = skip k s
 
+-- the character at a place is part of the text
 pub more-long : (s : List ℕ) (at : ℕ) → at < length s → at + 1 + more (drop at s) ≤ length s
 unfolding more moreBy
 more-long s at h = by (seqLen (drop at s)) (omega (arith, seq-long (drop at s), length-drop at s))
@@ -133,6 +135,7 @@ more-long s at h = by (seqLen (drop at s)) (omega (arith, seq-long (drop at s), 
     by zero b = omega arith
     by (suc k) b = omega arith
 
+-- the characters left at a place: the one there, and those left after it
 pub chars-next : (s : List ℕ) (at : ℕ) → at < length s
     → chars (drop at s) ≡ char (codeOf (drop at s)) (more (drop at s)) ∷ chars (drop (at + 1 + more (drop at s)) s)
 unfolding chars charsFrom
@@ -142,6 +145,7 @@ chars-next s at h =
     let f : charsFrom m (drop (at + 1) s) ≡ charsFrom 0 (drop (at + 1 + m) s) = skip m (drop (at + 1) s) ∙ rw drop-drop in
     rw (← f) (rw e)
 
+-- none at the end
 pub chars-end : (s : List ℕ) (at : ℕ) → length s ≤ at → chars (drop at s) ≡ []
 unfolding chars charsFrom
 chars-end s at h = rw (left-none s at h)
@@ -241,10 +245,12 @@ chars-bytes zero (x ∷ s) h =
     let b : m ≤ length s = omega (arith, more-long (x ∷ s) 0 (omega arith)) in
     omega (arith, chars-bytes m s b)
 
+-- what stays is part of the text
 pub end-long : (s : List ℕ) → trimEnd s ≤ length s
 unfolding trimEnd chars
 end-long s = omega (arith, end-bytes (charsFrom 0 s), chars-bytes 0 s (omega arith))
 
+-- so is what goes
 pub start-long : (s : List ℕ) → trimStart s ≤ length s
 unfolding trimStart chars
 start-long s = omega (arith, start-bytes (charsFrom 0 s), chars-bytes 0 s (omega arith))

@@ -176,7 +176,7 @@ pub record Fronted (s : List ℕ) (k : ℕ) : Type 0 where
   pub scalar : Scalar (codeOf s)
   pub bytes : encode (codeOf s) ≡ take k s
 
-fronted : (a : ℕ) (s : List ℕ) (k : ℕ) → seqLen (a ∷ s) ≡ suc k → Fronted (a ∷ s) (suc k)
+pub fronted : (a : ℕ) (s : List ℕ) (k : ℕ) → seqLen (a ∷ s) ≡ suc k → Fronted (a ∷ s) (suc k)
 unfolding seqLen codeOf after follow
 fronted a s k e = by (followIn table a) (chosen a table) e
   where
@@ -192,7 +192,7 @@ fronted a s k e = by (followIn table a) (chosen a table) e
     by none f q = absurd (omega arith)
     by (these rs) f q = let w = long rs (covers rs s) refl f q in record { scalar = rw e (w .0); bytes = rw e (w .1) }
 
--- ---- (b) a well-formed text is the encoding of scalar values
+-- ---- a whole text
 pub record Decoded (s : List ℕ) : Type 0 where
   pub points : List ℕ
   pub scalars : Scalars points
@@ -218,11 +218,12 @@ decode-from zero (x ∷ s) e = by (seqLen (x ∷ s)) refl (λ (k : ℕ). decode-
           bytes = rw (d .bytes, f .bytes) w;
         }
 
+-- THE LAW: every well-formed text is the encoding of scalar values
 pub decoded : (s : List ℕ) → upTo s ≡ length s → Decoded s
 unfolding upTo
 decoded s e = decode-from 0 s e
 
--- ---- (c) and of no others
+-- ---- of no others
 unfoldable codes : List Char → List ℕ
 codes [] = []
 codes (char c m ∷ cs) = c ∷ codes cs
@@ -232,6 +233,7 @@ unfolding codes
 codes-map [] = refl
 codes-map (c ∷ cs) = ap (λ (l : List ℕ). c ∷ l) (codes-map cs)
 
+-- THE LAW: two lists of scalar values with the same bytes are the same
 pub encoded-once : {cs ds : List ℕ} → Scalars cs → Scalars ds → encodeAll cs ≡ encodeAll ds → cs ≡ ds
 encoded-once {cs} {ds} h k e =
     sym (ap codes (chars-all h) ∙ codes-map cs) ∙ ap (λ (l : List ℕ). codes (chars l)) e ∙ (ap codes (chars-all k) ∙ codes-map ds)

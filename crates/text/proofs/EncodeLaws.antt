@@ -174,6 +174,7 @@ nonempty c =
     let long = some (ltb c 0x80) (ltb c 0x800) (ltb c 0x10000) (c ∷ []) two three four in
     long (omega arith) (omega arith) (omega arith) (omega arith)
 
+-- the first character of a text that begins with a scalar value
 pub chars-encode : (c : ℕ) (s : List ℕ) → Scalar c → chars (encode c ++ s) ≡ char c (length (encode c) - 1) ∷ chars s
 chars-encode c s sc =
     let n = nonempty c in
@@ -187,12 +188,13 @@ chars-encode c s sc =
 abbrev pub charOf : ℕ → Char
 charOf c = char c (length (encode c) - 1)
 
+-- the characters of a text of scalar values are these
 pub chars-all : {cs : List ℕ} → Scalars cs → chars (encodeAll cs) ≡ map charOf cs
 unfolding encodeAll chars charsFrom
 chars-all empty = refl
 chars-all (point {c = c} {cs = cs} h hs) = chars-encode c (encodeAll cs) h ∙ ap (λ (l : List Char). charOf c ∷ l) (chars-all hs)
 
--- ---- a text of scalar values is well formed
+-- ---- THE LAW: a text of scalar values is well formed
 pub well-formed : {cs : List ℕ} → Scalars cs → upTo (encodeAll cs) ≡ length (encodeAll cs)
 unfolding upTo encodeAll scan
 well-formed empty = refl

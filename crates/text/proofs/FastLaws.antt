@@ -23,57 +23,63 @@ unfolding seqLen after covers
 seq-ascii x s h = rw (follow-ascii x h)
 
 -- one ASCII byte passed
-pub ascii-pass : (s : List ℕ) (i j : ℕ) → i < length s → getD s i 0 < 0x80 → j ≡ i + 1
+ascii-pass : (s : List ℕ) (i j : ℕ) → i < length s → getD s i 0 < 0x80 → j ≡ i + 1
     → scan seqLen 0 (drop i s) ≡ suc (scan seqLen 0 (drop j s))
 ascii-pass s i j h k e =
     let one : seqLen (drop i s) ≡ 1 = rw (left-next s i h) (seq-ascii (getD s i 0) (drop (i + 1) s) k) in
     rw e (scan-next seqLen s i 0 one (omega arith) ∙ suc-add 0 _ ∙ rw zero-add)
 
 -- a byte is at most what it is or-ed into
-pub or-left : (a b : ℕ) → a ≤ bitOr a b
+or-left : (a b : ℕ) → a ≤ bitOr a b
 or-left a b = omega (arith, or-add-and a b, and-le-r a b)
 
-pub or-right : (a b : ℕ) → b ≤ bitOr a b
+or-right : (a b : ℕ) → b ≤ bitOr a b
 or-right a b = omega (arith, or-add-and a b, and-le-l a b)
 
--- each of two, and each of four, is below what they are together below
+-- each of two, of three and of four is below what they are together below
 below-two : {a b n : ℕ} → bitOr a b < n → (a < n) × (b < n)
 below-two {a} {b} h = (omega (arith, or-left a b), omega (arith, or-right a b))
+
+below-three : {a b c n : ℕ} → bitOr (bitOr a b) c < n → (a < n) × (b < n) × (c < n)
+below-three h =
+    let x = below-two h in
+    let y = below-two (x .0) in
+    (y .0, y .1, x .1)
 
 below-four : {a b c d n : ℕ} → bitOr (bitOr (bitOr a b) c) d < n → (a < n) × (b < n) × (c < n) × (d < n)
 below-four h =
     let x = below-two h in
-    let y = below-two (x .0) in
-    let z = below-two (y .0) in
-    (z .0, z .1, y .1, x .1)
+    let y = below-three (x .0) in
+    (y .0, y .1, y .2, x .1)
 
-below-eight : {a b c d e f g h n : ℕ}
-    → bitOr (bitOr (bitOr (bitOr a b) c) d) (bitOr (bitOr (bitOr e f) g) h) < n
-    → (a < n) × (b < n) × (c < n) × (d < n) × (e < n) × (f < n) × (g < n) × (h < n)
-below-eight l =
-    let x = below-two l in
-    let y = below-four (x .0) in
-    let z = below-four (x .1) in
-    (y .0, y .1, y .2, y .3, z .0, z .1, z .2, z .3)
-
-pub jump-ascii : (s : List ℕ) (at : ℕ) → at + 8 ≤ length s
+-- ---- eight bytes that are ASCII, seven of them together, are each a sequence
+pub jump-eight : (s : List ℕ) (at : ℕ) → at + 8 ≤ length s → getD s at 0 < 0x80
     → bitOr
-    (bitOr (bitOr (bitOr (getD s at 0) (getD s (at + 1) 0)) (getD s (at + 2) 0)) (getD s (at + 3) 0))
+    (bitOr (bitOr (getD s (at + 1) 0) (getD s (at + 2) 0)) (getD s (at + 3) 0))
     (bitOr (bitOr (bitOr (getD s (at + 4) 0) (getD s (at + 5) 0)) (getD s (at + 6) 0)) (getD s (at + 7) 0))
     < 0x80
     → Went s at (at + 8)
-jump-ascii s at b h =
-    let x = below-eight h in
-    let p₀ = ascii-pass s at (at + 1) (omega arith) (x .0) refl in
-    let p₁ = ascii-pass s (at + 1) (at + 2) (omega arith) (x .1) (omega arith) in
-    let p₂ = ascii-pass s (at + 2) (at + 3) (omega arith) (x .2) (omega arith) in
-    let p₃ = ascii-pass s (at + 3) (at + 4) (omega arith) (x .3) (omega arith) in
-    let p₄ = ascii-pass s (at + 4) (at + 5) (omega arith) (x .4) (omega arith) in
-    let p₅ = ascii-pass s (at + 5) (at + 6) (omega arith) (x .5) (omega arith) in
-    let p₆ = ascii-pass s (at + 6) (at + 7) (omega arith) (x .6) (omega arith) in
-    let p₇ = ascii-pass s (at + 7) (at + 8) (omega arith) (x .7) (omega arith) in
+jump-eight s at b f h =
+    let x = below-two h in
+    let y = below-three (x .0) in
+    let z = below-four (x .1) in
+    let p₀ = ascii-pass s at (at + 1) (omega arith) f refl in
+    let p₁ = ascii-pass s (at + 1) (at + 2) (omega arith) (y .0) (omega arith) in
+    let p₂ = ascii-pass s (at + 2) (at + 3) (omega arith) (y .1) (omega arith) in
+    let p₃ = ascii-pass s (at + 3) (at + 4) (omega arith) (y .2) (omega arith) in
+    let p₄ = ascii-pass s (at + 4) (at + 5) (omega arith) (z .0) (omega arith) in
+    let p₅ = ascii-pass s (at + 5) (at + 6) (omega arith) (z .1) (omega arith) in
+    let p₆ = ascii-pass s (at + 6) (at + 7) (omega arith) (z .2) (omega arith) in
+    let p₇ = ascii-pass s (at + 7) (at + 8) (omega arith) (z .3) (omega arith) in
     record { more = omega arith; inside = omega arith; same = omega arith }
 
+-- one ASCII byte
+pub jump-one : (s : List ℕ) (at : ℕ) → at < length s → getD s at 0 < 0x80 → Went s at (at + 1)
+jump-one s at h f =
+    let p = ascii-pass s at (at + 1) h f refl in
+    record { more = omega arith; inside = omega arith; same = omega arith }
+
+-- one sequence, or none
 pub jump-step : (s : List ℕ) (at : ℕ) (r : Seq) → at < length s → r ≡ stepAt s at → Jumped s at r
 jump-step s at (Next n) h e = went s at n h (sym e)
 jump-step s at Bad h e = stuck s at (sym e)

@@ -13,18 +13,21 @@ use Rattle.text.proofs.Laws.{left-next, left-none, both-yes, both-no, b
 
 -- ---- seek: the first place
 module _ (p : List ℕ → Bool) where
+  -- the place is here
   pub seek-hit : (s : List ℕ) (i : ℕ) → i < length s → p (drop i s) ≡ true → seek p (drop i s) ≡ 0
   unfolding seek
   seek-hit s i h e =
       let e′ = rw (left-next s i h) at e in
       rw (left-next s i h, e′)
 
+  -- it is further on
   pub seek-miss : (s : List ℕ) (i : ℕ) → i < length s → p (drop i s) ≡ false → seek p (drop i s) ≡ suc (seek p (drop (i + 1) s))
   unfolding seek
   seek-miss s i h e =
       let e′ = rw (left-next s i h) at e in
       rw (left-next s i h, e′)
 
+  -- there is none
   pub seek-end : (s : List ℕ) (i : ℕ) → length s ≤ i → seek p (drop i s) ≡ 0
   unfolding seek
   seek-end s i h = rw (left-none s i h)
@@ -34,6 +37,7 @@ pub begins-one : (b : ℕ) (s : List ℕ) (i : ℕ) → i < length s → begins 
 unfolding begins
 begins-one b s i h = rw (left-next s i h) (both-yes _)
 
+-- the place is within the text, or at its end
 pub index-le : (b : ℕ) (s : List ℕ) → indexOf b s ≤ length s
 unfolding indexOf seek
 index-le b [] = omega arith
@@ -43,6 +47,7 @@ index-le b (x ∷ s) = by (begins (b ∷ []) (x ∷ s)) (index-le b s)
     by true h = omega arith
     by false h = omega arith
 
+-- by the first byte
 pub index-cons : (b x : ℕ) (s : List ℕ) → indexOf b (x ∷ s) ≡ pick (eqb x b) 0 (suc (indexOf b s))
 unfolding indexOf seek begins
 index-cons b x s = rw both-yes

@@ -11,7 +11,6 @@ use lib.ListN.{length, getD, take, drop, drop-of-length-le, length-drop}
 use lib.Seq.{drop-cons, drop-drop, take-all}
 use Rattle.refusal.specs.Pick.{both}
 use Rattle.text.specs.Scan.{scan}
-use Rattle.text.specs.Ranges.{_to_}
 
 -- ---- the three laws of every loop that goes up over a slice
 -- what is left at i is the element at i, and what is left at i + 1
@@ -45,14 +44,17 @@ module _ (f : List ℕ → ℕ) where
   scan-zero [] e = refl
   scan-zero (x ∷ s) e = rw (e, scan)
 
+  -- a step at a place
   pub scan-next : (s : List ℕ) (i k : ℕ) → f (drop i s) ≡ suc k → i + suc k ≤ length s
       → scan f 0 (drop i s) ≡ suc k + scan f 0 (drop (i + suc k) s)
   scan-next s i k e h = scan-cons (drop i s) k e (simp length-drop (omega arith))
       ∙ ap (λ (l : List ℕ). suc k + scan f 0 l) (drop-drop (suc k) i s)
 
+  -- no step there
   pub scan-stop : (s : List ℕ) (i : ℕ) → f (drop i s) ≡ 0 → scan f 0 (drop i s) ≡ 0
   scan-stop s i e = scan-zero (drop i s) e
 
+  -- nothing left
   pub scan-end : (s : List ℕ) (i : ℕ) → length s ≤ i → scan f 0 (drop i s) ≡ 0
   unfolding scan
   scan-end s i h = rw (left-none s i h)

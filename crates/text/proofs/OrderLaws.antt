@@ -17,6 +17,7 @@ pub data Tri (x y : ℕ) : Type 0 where
   at : x ≡ y → cmpNat x y ≡ Equal → Tri x y
   above : y < x → cmpNat x y ≡ Greater → Tri x y
 
+-- one of three
 pub tri : (x y : ℕ) → Tri x y
 tri x y = by (ltb x y) refl (ltb y x) refl
   where
@@ -34,12 +35,13 @@ nat-greater x y h = rw (le-ltb x y (omega arith), lt-ltb y x h)
 nat-same : (x y : ℕ) → x ≡ y → cmpNat x y ≡ Equal
 nat-same x y h = rw (le-ltb x y (omega arith), le-ltb y x (omega arith))
 
--- ---- the laws
+-- ---- THE LAWS: a total order
 pub cmp-refl : (s : List ℕ) → cmpBytes s s ≡ Equal
 unfolding cmpBytes
 cmp-refl [] = refl
 cmp-refl (x ∷ s) = rw (nat-same x x refl, cmp-refl s)
 
+-- the other way round
 pub cmp-flip : (s t : List ℕ) → cmpBytes t s ≡ flip (cmpBytes s t)
 unfolding cmpBytes
 cmp-flip [] [] = refl
@@ -52,6 +54,7 @@ cmp-flip (x ∷ s) (y ∷ t) = by (cmp-flip s t) (tri x y)
     by ih (at h e) = rw (e, nat-same y x (sym h), ih)
     by ih (above h e) = rw (e, nat-less y x h)
 
+-- equal only for equal bytes
 pub cmp-equal : (s t : List ℕ) → cmpBytes s t ≡ Equal → s ≡ t
 unfolding cmpBytes
 cmp-equal [] [] e = refl
@@ -64,6 +67,7 @@ cmp-equal (x ∷ s) (y ∷ t) e = by (cmp-equal s t) (tri x y)
     by ih (at h q) = let r = ih (rw q at e) in cc
     by ih (above h q) = let e′ = rw q at e in absurd (let z : _≡_ {A = ℕ} 0 1 = cc in omega arith)
 
+-- transitive
 pub cmp-trans : (s t u : List ℕ) → cmpBytes s t ≡ Less → cmpBytes t u ≡ Less → cmpBytes s u ≡ Less
 unfolding cmpBytes
 cmp-trans [] [] u e f = f

@@ -1,8 +1,9 @@
--- The characters of a text that is put together or taken apart: an ASCII byte is a character alone, whatever stands before it;
--- a cut between two characters. Assumes nothing.
+-- The characters of a text that is put together or taken apart: at a byte that begins one, whatever stands before it;
+-- at a cut between two. Assumes nothing.
 use mathlib.Core.Path.{_≡_, refl, sym, ap, _∙_}
 use mathlib.Core.Bool.{Bool, true, false, false≢true}
 use mathlib.Core.List.{List, [], _∷_, _++_}
+use mathlib.Core.Logic.{_⊎_, inl, inr}
 use Prim.Native.Nat.{ℕ, zero, suc, _+_, _%_, _≤_, _<_}
 use native.Mathlib.Omega.{arith}
 use native.Mathlib.Nat.{not-suc-le-zero, le-of-suc-le-suc}
@@ -20,49 +21,64 @@ use Rattle.text.proofs.Utf8Laws.{seq-long, leads}
 use Rattle.text.proofs.CharLaws.{bytes-of, chars-bytes}
 use Rattle.text.proofs.Laws.{both-one, both-two, both-and}
 
--- ---- every byte after the first is 80 or more
-unfoldable high : List Range → Bool
-high [] = true
-high ((lo to hi) ∷ rs) = both (leb 0x80 lo) (high rs)
+-- ---- every byte after the first is from 80 to BF
+unfoldable tails : List Range → Bool
+tails [] = true
+tails ((lo to hi) ∷ rs) = both (both (leb 0x80 lo) (leb hi 0xBF)) (tails rs)
 
-unfoldable highRows : List Row → Bool
-highRows [] = true
-highRows (row r rs ∷ rows) = both (high rs) (highRows rows)
+unfoldable tailRows : List Row → Bool
+tailRows [] = true
+tailRows (row r rs ∷ rows) = both (tails rs) (tailRows rows)
 
-unfoldable highFollow : Follow → Bool
-highFollow none = true
-highFollow (these rs) = high rs
+unfoldable tailFollow : Follow → Bool
+tailFollow none = true
+tailFollow (these rs) = tails rs
 
-rows-high : (rows : List Row) (a : ℕ) → highRows rows ≡ true → highFollow (followIn rows a) ≡ true
-unfolding highRows highFollow followIn
-rows-high [] a e = refl
-rows-high (row r rs ∷ rows) a e = by (inRange r a) (rows-high rows a (both-two (high rs) _ e))
+rows-tail : (rows : List Row) (a : ℕ) → tailRows rows ≡ true → tailFollow (followIn rows a) ≡ true
+unfolding tailRows tailFollow followIn
+rows-tail [] a e = refl
+rows-tail (row r rs ∷ rows) a e = by (inRange r a) (rows-tail rows a (both-two (tails rs) _ e))
   where
-    by : (t : Bool) → highFollow (followIn rows a) ≡ true → highFollow (pick t (these rs) (followIn rows a)) ≡ true
-    by true ih = both-one (high rs) (highRows rows) e
+    by : (t : Bool) → tailFollow (followIn rows a) ≡ true → tailFollow (pick t (these rs) (followIn rows a)) ≡ true
+    by true ih = both-one (tails rs) (tailRows rows) e
     by false ih = ih
 
-follow-high : (a : ℕ) → highFollow (follow a) ≡ true
-unfolding follow table highRows high
-follow-high a = rows-high table a refl
+follow-tail : (a : ℕ) → tailFollow (follow a) ≡ true
+unfolding follow table tailRows tails
+follow-tail a = rows-tail table a refl
+
+-- a byte that is none of those begins a character, whatever stands before it
+abbrev pub Starts : ℕ → Type 0
+Starts x = (x < 0x80) ⊎ (0xBF < x)
 
 -- ---- a sequence, with more after it
-covers-ascii : (rs : List Range) (s : List ℕ) (x : ℕ) (t : List ℕ) → high rs ≡ true → x < 0x80 → covers rs (s ++ x ∷ t) ≡ covers rs s
-unfolding covers high
-covers-ascii [] s x t e h = refl
-covers-ascii ((lo to hi) ∷ rs) [] x t e h =
-    let l = leb-true 0x80 lo (both-one (leb 0x80 lo) (high rs) e) in
-    rw (lt-leb lo x (omega arith))
-covers-ascii ((lo to hi) ∷ rs) (y ∷ s) x t e h = ap (both (within lo hi y)) (covers-ascii rs s x t (both-two (leb 0x80 lo) (high rs) e) h)
+out-of : (lo hi x : ℕ) → 0x80 ≤ lo → hi ≤ 0xBF → Starts x → within lo hi x ≡ false
+out-of lo hi x l h (inl b) = rw (lt-leb lo x (omega arith))
+out-of lo hi x l h (inr b) = by (leb lo x)
+  where
+    by : (t : Bool) → both t (leb x hi) ≡ false
+    by true = lt-leb x hi (omega arith)
+    by false = refl
 
-after-ascii : (f : Follow) (s : List ℕ) (x : ℕ) (t : List ℕ) → highFollow f ≡ true → x < 0x80 → after f (s ++ x ∷ t) ≡ after f s
-unfolding after highFollow
-after-ascii none s x t e h = refl
-after-ascii (these rs) s x t e h = rw (covers-ascii rs s x t e h)
+covers-start : (rs : List Range) (s : List ℕ) (x : ℕ) (t : List ℕ) → tails rs ≡ true → Starts x → covers rs (s ++ x ∷ t) ≡ covers rs s
+unfolding covers tails
+covers-start [] s x t e h = refl
+covers-start ((lo to hi) ∷ rs) [] x t e h =
+    let i = both-one (both (leb 0x80 lo) (leb hi 0xBF)) (tails rs) e in
+    let l = leb-true 0x80 lo (both-one (leb 0x80 lo) (leb hi 0xBF) i) in
+    let u = leb-true hi 0xBF (both-two (leb 0x80 lo) (leb hi 0xBF) i) in
+    rw (out-of lo hi x l u h)
+covers-start ((lo to hi) ∷ rs) (y ∷ s) x t e h =
+    ap (both (within lo hi y)) (covers-start rs s x t (both-two (both (leb 0x80 lo) (leb hi 0xBF)) (tails rs) e) h)
 
-pub seq-ascii : (y : ℕ) (s : List ℕ) (x : ℕ) (t : List ℕ) → x < 0x80 → seqLen (y ∷ (s ++ x ∷ t)) ≡ seqLen (y ∷ s)
+after-start : (f : Follow) (s : List ℕ) (x : ℕ) (t : List ℕ) → tailFollow f ≡ true → Starts x → after f (s ++ x ∷ t) ≡ after f s
+unfolding after tailFollow
+after-start none s x t e h = refl
+after-start (these rs) s x t e h = rw (covers-start rs s x t e h)
+
+seq-start : (y : ℕ) (s : List ℕ) (x : ℕ) (t : List ℕ) → Starts x → seqLen (y ∷ (s ++ x ∷ t)) ≡ seqLen (y ∷ s)
 unfolding seqLen
-seq-ascii y s x t h = after-ascii (follow y) s x t (follow-high y) h
+seq-start y s x t h = after-start (follow y) s x t (follow-tail y) h
 
 covers-less : (rs : List Range) (a b : List ℕ) → covers rs (a ++ b) ≡ false → covers rs a ≡ false
 unfolding covers
@@ -79,8 +95,9 @@ covers-cut : (rs : List Range) (a b : List ℕ) → covers rs (a ++ b) ≡ true 
 unfolding covers
 covers-cut [] a b e h = refl
 covers-cut (r ∷ rs) [] b e h = absurd (not-suc-le-zero h)
-covers-cut (r ∷ rs) (y ∷ a) b e h = both-and (inRange r y) (covers rs a) (both-one (inRange r y) _ e)
-    (covers-cut rs a b (both-two (inRange r y) _ e) (le-of-suc-le-suc h))
+covers-cut (r ∷ rs) (y ∷ a) b e h =
+    let i = covers-cut rs a b (both-two (inRange r y) _ e) (le-of-suc-le-suc h) in
+    both-and (inRange r y) (covers rs a) (both-one (inRange r y) _ e) i
 
 after-cut : (f : Follow) (a b : List ℕ) → moreBy (after f (a ++ b)) ≤ length a → after f (a ++ b) ≡ after f a
 unfolding after moreBy
@@ -136,20 +153,24 @@ more-le y a = by (seqLen (y ∷ a)) (seq-long (y ∷ a))
     by zero h = omega arith
     by (suc k) h = omega arith
 
--- ---- an ASCII byte parts the characters
-ascii-from : (k : ℕ) (s : List ℕ) (x : ℕ) (t : List ℕ) → x < 0x80 → k ≤ length s
+-- ---- such a byte parts the characters
+start-from : (k : ℕ) (s : List ℕ) (x : ℕ) (t : List ℕ) → Starts x → k ≤ length s
     → charsFrom k (s ++ x ∷ t) ≡ charsFrom k s ++ charsFrom 0 (x ∷ t)
 unfolding charsFrom
-ascii-from zero [] x t h b = refl
-ascii-from (suc k) [] x t h b = absurd (not-suc-le-zero b)
-ascii-from (suc k) (y ∷ s) x t h b = ascii-from k s x t h (le-of-suc-le-suc b)
-ascii-from zero (y ∷ s) x t h b =
-    let f = front y s (x ∷ t) (seq-ascii y s x t h) in
-    rw (f .code, f .rest, ascii-from (more (y ∷ s)) s x t h (more-le y s))
+start-from zero [] x t h b = refl
+start-from (suc k) [] x t h b = absurd (not-suc-le-zero b)
+start-from (suc k) (y ∷ s) x t h b = start-from k s x t h (le-of-suc-le-suc b)
+start-from zero (y ∷ s) x t h b =
+    let f = front y s (x ∷ t) (seq-start y s x t h) in
+    rw (f .code, f .rest, start-from (more (y ∷ s)) s x t h (more-le y s))
 
-pub chars-ascii : (s : List ℕ) (x : ℕ) (t : List ℕ) → x < 0x80 → chars (s ++ x ∷ t) ≡ chars s ++ chars (x ∷ t)
+pub chars-start : (s : List ℕ) (x : ℕ) (t : List ℕ) → Starts x → chars (s ++ x ∷ t) ≡ chars s ++ chars (x ∷ t)
 unfolding chars
-chars-ascii s x t h = ascii-from 0 s x t h (omega arith)
+chars-start s x t h = start-from 0 s x t h (omega arith)
+
+-- an ASCII byte is one
+pub chars-ascii : (s : List ℕ) (x : ℕ) (t : List ℕ) → x < 0x80 → chars (s ++ x ∷ t) ≡ chars s ++ chars (x ∷ t)
+chars-ascii s x t h = chars-start s x t (inl h)
 
 -- ---- a cut between two characters
 cut-from : (k : ℕ) (a b : List ℕ) (ps qs : List Char) → charsFrom k (a ++ b) ≡ ps ++ qs → k + bytes-of ps ≡ length a
@@ -175,6 +196,7 @@ pub record Cut (s : List ℕ) (n : ℕ) (ps qs : List Char) : Type 0 where
   pub left : chars (take n s) ≡ ps
   pub right : chars (drop n s) ≡ qs
 
+-- the characters before and after a cut between two
 pub chars-cut : (s : List ℕ) (n : ℕ) (ps qs : List Char) → chars s ≡ ps ++ qs → bytes-of ps ≡ n → n ≤ length s → Cut s n ps qs
 unfolding chars
 chars-cut s n ps qs e h b =
@@ -182,6 +204,7 @@ chars-cut s n ps qs e h b =
     let i = cut-from 0 (take n s) (drop n s) ps qs j (omega (arith, length-take-le n s b)) in
     record { left = i .0; right = i .1 }
 
+-- the characters take all the bytes
 pub bytes-all : (s : List ℕ) → bytes-of (chars s) ≡ length s
 unfolding chars
 bytes-all s = omega (arith, chars-bytes 0 s (omega arith))
@@ -226,6 +249,7 @@ upto-from zero (x ∷ s) e = by (seqLen (x ∷ s)) refl (λ (k : ℕ). upto-from
         let z : suc (scan seqLen k s) ≡ suc (length s) = rw (q, scan) at e in
         rw q (both-and _ _ (proper-seq k (x ∷ s)) (ih k (omega arith)))
 
+-- a text is well formed where all of it stands before the first ill-formed sequence
 pub upto-well : (s : List ℕ) → upTo s ≡ length s → well s ≡ true
 unfolding well upTo chars
 upto-well s e = upto-from 0 s e
@@ -245,6 +269,7 @@ from-upto zero (x ∷ s) e h = by (seqLen (x ∷ s)) refl (λ (k : ℕ). from-up
         let z : both (proper (char (codeBy (suc k) (x ∷ s)) k)) (allProper (charsFrom k s)) ≡ true = rw q at e in
         rw (q, scan) (ap suc (ih k (both-two (proper (char (codeBy (suc k) (x ∷ s)) k)) (allProper (charsFrom k s)) z) (omega arith)))
 
+-- and the other way round
 pub well-upto : (s : List ℕ) → well s ≡ true → upTo s ≡ length s
 unfolding well upTo chars
 well-upto s e = from-upto 0 s e (omega arith)
@@ -264,6 +289,7 @@ pub well-one : (x : ℕ) (t : List ℕ) → x < 0x80 → well (x ∷ t) ≡ well
 unfolding well allProper proper
 well-one x t h = rw (ascii-one x t h, lt-ltb x 0x80 h)
 
+-- an ASCII byte parts a text into two that are well formed or not by themselves
 pub well-ascii : (w : List ℕ) (x : ℕ) (t : List ℕ) → x < 0x80 → well (w ++ x ∷ t) ≡ both (well w) (well t)
 unfolding well
 well-ascii w x t h = rw (chars-ascii w x t h)

@@ -160,7 +160,7 @@ unfolding trimmed trimOf
 trim-part s = refl
 
 -- ---- the end of a text by its last part, after an ASCII byte
-end-append : (cs ds : List Char) → 0 < endLen ds → endLen (cs ++ ds) ≡ bytes-of cs + endLen ds
+pub end-append : (cs ds : List Char) → 0 < endLen ds → endLen (cs ++ ds) ≡ bytes-of cs + endLen ds
 unfolding endLen bytes-of
 end-append [] ds h = sym (zero-add _)
 end-append (char c m ∷ cs) ds h = by (isWhite c) (end-append cs ds h)
@@ -177,10 +177,10 @@ end-after w x t h e =
     rw (chars-ascii w x t h) (end-append (chars w) (chars (x ∷ t)) (omega arith) ∙ rw (bytes-all w, e) (sym (length-append w (x ∷ t))))
 
 -- ---- the end of a text by its last byte, if that is ASCII
-blank-append : (cs : List Char) (x : ℕ) → isWhite x ≡ true → endLen (cs ++ char x 0 ∷ []) ≡ endLen cs
+pub blank-append : (cs : List Char) (x n : ℕ) → isWhite x ≡ true → endLen (cs ++ char x n ∷ []) ≡ endLen cs
 unfolding endLen
-blank-append [] x e = rw e
-blank-append (char c m ∷ cs) x e = rw (blank-append cs x e)
+blank-append [] x n e = rw e
+blank-append (char c m ∷ cs) x n e = rw (blank-append cs x n e)
 
 module _ (s : List ℕ) (e : ℕ) (some : 0 < e) (inside : e ≤ length s) (ascii : getD s (e - 1) 0 < 0x80) where
   last-char : chars (take e s) ≡ chars (take (e - 1) s) ++ char (getD s (e - 1) 0) 0 ∷ []
@@ -195,7 +195,7 @@ module _ (s : List ℕ) (e : ℕ) (some : 0 < e) (inside : e ≤ length s) (asci
   -- White_Space goes
   pub end-goes : isWhite (getD s (e - 1) 0) ≡ true → trimEnd (take e s) ≡ trimEnd (take (e - 1) s)
   unfolding trimEnd
-  end-goes y = ap endLen last-char ∙ blank-append (chars (take (e - 1) s)) (getD s (e - 1) 0) y
+  end-goes y = ap endLen last-char ∙ blank-append (chars (take (e - 1) s)) (getD s (e - 1) 0) 0 y
 
   -- any other byte stays, and all before it
   pub end-stays : isWhite (getD s (e - 1) 0) ≡ false → trimEnd (take e s) ≡ e

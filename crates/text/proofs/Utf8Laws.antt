@@ -87,6 +87,7 @@ by-parts (suc (suc zero)) lo hi s = simp (covers-cons, pick-both)
 by-parts (suc (suc (suc zero))) lo hi s = simp (covers-cons, pick-both)
 by-parts (suc (suc (suc (suc n)))) lo hi s = refl
 
+-- the length of the sequence at a place, by what its first byte asks and the bytes after it
 pub seq-parts : (s : List ℕ) (i m lo hi : ℕ) → i < length s → follow (getD s i 0) ≡ ranges m lo hi
     → seqLen (drop i s) ≡ verdict m (headIn (lo to hi) (drop (i + 1) s)) (headIn tail (drop (i + 2) s)) (headIn tail (drop (i + 3) s))
 unfolding seqLen
@@ -153,6 +154,7 @@ went s at n h e = by (seqLen (drop at s)) refl (omega (arith, seq-long (drop at 
         let w = scan-next seqLen s at k q (omega arith) in
         rw (← p) (record { more = omega arith; inside = omega arith; same = omega (arith, w) })
 
+-- no step: the text is well formed no further
 pub stuck : (s : List ℕ) (at : ℕ) → stepAt s at ≡ Bad → scan seqLen 0 (drop at s) ≡ 0
 unfolding stepAt stepOf
 stuck s at e = by (seqLen (drop at s)) refl e

@@ -24,8 +24,8 @@ module _ {S R : Type 0} (f : S → ℕ → List ℕ → Turn S R) (done : S → 
       let n = left-next s i (omega arith) in
       let e′ = rw n at e in
       let p : i + 1 + k ≡ i + suc k = omega arith in
-      rw n (rw (e′, walk) (walk-skip st′ (suc i) k (drop (i + 1) s) (simp length-drop (omega arith))
-      ∙ rw (drop-drop, p, suc-add i k, add-suc i k)))
+      let fits : k ≤ length (drop (i + 1) s) = simp length-drop (omega arith) in
+      rw n (rw (e′, walk) (walk-skip st′ (suc i) k (drop (i + 1) s) fits ∙ rw (drop-drop, p, suc-add i k, add-suc i k)))
 
   -- the step ends it
   pub walk-stop : (s : List ℕ) (st : S) (i : ℕ) (r : R) → i < length s → f st i (drop i s) ≡ stop r → walk f done st i 0 (drop i s) ≡ r

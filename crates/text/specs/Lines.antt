@@ -6,7 +6,6 @@ use lib.Dec.{eqb, ltb}
 use lib.ListN.{getD, length}
 use Rattle.refusal.specs.Pick.{pick, both}
 use Rattle.text.specs.Find.{begins, indexOf}
-use Rattle.text.specs.Ranges.{_to_}
 
 -- x stands before the first of the lines
 unfoldable pub onto : ℕ → List (List ℕ) → List (List ℕ)

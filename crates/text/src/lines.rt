@@ -29,10 +29,6 @@ pub fn line_at(s: &[u8], at: usize) -> Line
                 next: lf + 1,
             };
         }
-        return Line {
-            end: lf,
-            next: lf + 1,
-        };
     }
     Line {
         end: lf,

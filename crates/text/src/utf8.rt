@@ -62,7 +62,6 @@ fn has(s: &[u8], i: usize, lo: u8, hi: u8) -> bool
         if lo <= b {
             return b <= hi;
         }
-        return false;
     }
     false
 }
@@ -105,12 +104,15 @@ fn jump(s: &[u8], at: usize) -> Seq
     requires { ⌜ at < length (now s) ⌝ }
     ensures { λ r. ⌜ Jumped (now (s .entry)) at r ⌝ }
 {
-    if 8 <= s.len() - at {
-        let low = s[at] | s[at + 1] | s[at + 2] | s[at + 3];
-        let high = s[at + 4] | s[at + 5] | s[at + 6] | s[at + 7];
-        if low | high < 0x80 {
-            return Seq::Next(at + 8);
+    if s[at] < 0x80 {
+        if 8 <= s.len() - at {
+            let low = s[at + 1] | s[at + 2] | s[at + 3];
+            let high = s[at + 4] | s[at + 5] | s[at + 6] | s[at + 7];
+            if low | high < 0x80 {
+                return Seq::Next(at + 8);
+            }
         }
+        return Seq::Next(at + 1);
     }
     step(s, at)
 }

@@ -1,13 +1,13 @@
 -- `line_at` meets its contract, by the place of the first LF in what is left. Assumes nothing.
 use mathlib.Core.Path.{_≡_, sym, ap, _∙_}
 use mathlib.Core.List.{List}
+use mathlib.Core.Logic.{⊎-elim}
 use Prim.Native.Nat.{ℕ, _+_, _-_, _<_}
 use native.Mathlib.Omega.{arith}
 use lib.ListN.{length, drop, getD, length-drop}
 use lib.Seq.{getD-drop}
 use borrow.Author.Needs.{needs}
 use Rattle.text.specs.Find.{indexOf}
-use Rattle.text.specs.Lines.{before}
 use Rattle.text.proofs.Laws.{left-part}
 use Rattle.text.proofs.FindLaws.{index-le}
 use Rattle.text.proofs.LineLaws.{len-past, len-none, len-empty, len-cr, len-lf}
@@ -61,20 +61,18 @@ returns-3 c =
 
 returns-4 : tie.Need-returns-4
 returns-4 c =
-    let k = c .before .before .before .before in
+    let k = c .before .before in
     let f = found k in
     let a = k .before .before .before .before .args in
-    let inside = c .before .before .before .if2 .left in
-    let later = c .before .before .if3 .taken in
     let r = drop (a .at) (a .s .now) in
-    let other : getD r (indexOf 10 r - 1) 0 ≡ 13 → ⊥ = λ e. c .if4 .left (sym (byte k (omega (arith, later))) ∙ e) in
-    omega (arith, f, len-lf r (omega (arith, f, inside)) (omega (arith, f, later)) other)
-
-returns-5 : tie.Need-returns-5
-returns-5 c =
-    let f = found (c .before .before) in
-    let a = c .before .before .before .before .before .before .args in
-    omega (arith, f, len-empty (drop (a .at) (a .s .now)) (omega (arith, f)) (omega (arith, f)))
+    let inside : indexOf 10 r < length r = omega (arith, f) in
+    ⊎-elim
+    (λ w.
+    let later : 0 < k .find .result = omega (arith, w .0 .taken) in
+    let other : getD r (indexOf 10 r - 1) 0 ≡ 13 → ⊥ = λ e. w .2 .left (sym (byte k later) ∙ e) in
+    omega (arith, f, len-lf r inside (omega (arith, f, later)) other))
+    (λ w. omega (arith, f, len-empty r inside (omega (arith, f, w .left))))
+    (c .if3 .came)
 
 pub line-at-spec : {M : Type 1} → statement M
 line-at-spec =
@@ -93,6 +91,4 @@ line-at-spec =
     (λ c. search needs)
     returns-3
     (λ c. search needs)
-    returns-4
-    (λ c. search needs)
-    returns-5)
+    returns-4)

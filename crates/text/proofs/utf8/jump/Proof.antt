@@ -1,19 +1,26 @@
 -- `jump` meets its contract. Assumes nothing.
 use native.Mathlib.Omega.{arith}
 use borrow.Author.Needs.{needs}
-use Rattle.text.proofs.FastLaws.{jump-ascii, jump-step}
+use Rattle.text.proofs.FastLaws.{jump-eight, jump-one, jump-step}
 use Rattle.text.proofs.utf8.jump.Statement.{statement}
 use Rattle.text.proofs.utf8.jump.Tie as tie
 
 eight : tie.Need-returns
 eight c =
-    let start = c .before .before .before .before .before .before .before .before .before .before .before in
-    jump-ascii (start .args .s .now) (start .args .at) (omega arith) (c .if2 .taken)
+    let long = c .before .before .before .before .before .before .before .before in
+    let first = long .before in
+    let a = first .before .before .before .args in
+    jump-eight (a .s .now) (a .at) (omega (arith, long .if2 .taken)) (first .if1 .taken) (c .if3 .taken)
 
 one : tie.Need-returns-2
 one c =
-    let start = c .before .before .before in
-    jump-step (start .args .s .now) (start .args .at) (c .step .result) (omega arith) (c .step .ensures)
+    let a = c .before .before .before .before .args in
+    jump-one (a .s .now) (a .at) (omega arith) (c .before .if1 .taken)
+
+other : tie.Need-returns-3
+other c =
+    let a = c .before .before .before .before .args in
+    jump-step (a .s .now) (a .at) (c .step .result) (omega arith) (c .step .ensures)
 
 pub jump-spec : {M : Type 1} → statement M
 jump-spec =
@@ -37,5 +44,7 @@ jump-spec =
     (λ c. search needs)
     (λ c. search needs)
     eight
+    (λ c. search needs)
+    one
     (λ c κs. search needs)
-    one)
+    other)
