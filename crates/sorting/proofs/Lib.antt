@@ -8,3 +8,4 @@ pub mod Placing
 pub mod Listing
 pub mod Ranking
 pub mod Numbers
+pub mod Examples

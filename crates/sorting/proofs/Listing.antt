@@ -10,11 +10,13 @@ use lib.Seq.{take-take, length-take-le, set-split, drop-append-le, take-at, drop
 use borrow.Author.Tests.{le-leb, lt-leb}
 use Rattle.text.specs.declared.order.Order.{Order}
 use Rattle.table.specs.Table.{laid}
+use Rattle.table.specs.Entries.{finished, fitting}
+use Rattle.refusal.proofs.Following.{never}
 use Rattle.table.proofs.Laws.{laid-nil, drop-replicate}
 use Rattle.sorting.specs.Order.{Lawful}
 use Rattle.sorting.specs.Sort.{put, sort, keep, upFrom}
-use Rattle.sorting.specs.Keys.{Sorts}
-use Rattle.sorting.specs.Filling.{Placed, Ordered, Filled, inserted}
+use Rattle.sorting.specs.Keys.{saidSorted, Sorts}
+use Rattle.sorting.specs.Filling.{Placed, Ordered, Filled, Inserted, inserted}
 use Rattle.sorting.specs.declared.Place.the-variants.{Before, Over}
 use Rattle.sorting.specs.declared.Sorted.{Sorted}
 use Rattle.sorting.specs.declared.Sorted.the-variants.{Rows, Full}
@@ -88,9 +90,10 @@ module _ (cmp : ℕ → ℕ → Order) (laws : Lawful cmp) (l before table : Lis
       }
 
   -- and with one more row put in, it is filled with that of the row and l
-  pub filled-step : (x : ℕ) (after : List ℕ) (r : ℕ) → Filled (put cmp x (take k table)) table after r
+  pub filled-step : (x : ℕ) (after : List ℕ) {s : Sorted} (r : ℕ) → s ≡ Rows r → Inserted (put cmp x (take k table)) table after s
       → Filled (sort cmp (x ∷ l)) before after r
-  filled-step x after r g =
+  filled-step x after r q h =
+      let g : Filled (put cmp x (take k table)) table after r = subst (Inserted (put cmp x (take k table)) table after) q h in
       let e = filled-take (sort cmp l) before table k f in
       let p : put cmp x (take k table) ≡ sort cmp (x ∷ l) = ap (put cmp x) e in
       let more : k ≤ r = omega (arith, g .count, f .count, put-grows cmp x (take k table), ap length e) in
@@ -103,8 +106,12 @@ module _ (cmp : ℕ → ℕ → Order) (laws : Lawful cmp) (l before table : Lis
             (ap (drop r) (f .holds) ∙ drop-past (sort cmp l) before k r (f .count) more));
       }
 
-  pub full-step : (x n : ℕ) → n < length (put cmp x (take k table)) → n < length (sort cmp (x ∷ l))
-  full-step x n h = rw (filled-take (sort cmp l) before table k f) at h
+  -- or the list of the row and l is longer than the table
+  pub full-step : (x : ℕ) (after : List ℕ) {s : Sorted} → s ≡ Full → Inserted (put cmp x (take k table)) table after s
+      → length table < length (sort cmp (x ∷ l))
+  full-step x after q h =
+      let g : length table < length (put cmp x (take k table)) = subst (Inserted (put cmp x (take k table)) table after) q h in
+      rw (filled-take (sort cmp l) before table k f) at g
 
 -- the list replaced by an equal one
 pub filled-as : (cmp : ℕ → ℕ → Order) {l m before table : List ℕ} {k : ℕ} → l ≡ m → Filled (sort cmp l) before table k
@@ -157,7 +164,7 @@ kept-grows cmp p n (suc i) h = by (p i) refl (kept-grows cmp p n i (omega arith)
 -- ---- the two ends
 pub sorts-rows : (l before zeros after : List ℕ) (k : ℕ) → zeros ≡ laid (length before) [] → Filled l zeros after k
     → length after ≡ length zeros → Sorts l before after (Rows k)
-unfolding laid
+unfolding laid finished fitting
 sorts-rows l before zeros after k z f e =
     let n : length zeros ≡ length before = ap length z ∙ simp length-replicate (omega arith) in
     let fits : length l ≤ length before = omega (arith, filled-room l zeros after k f e, f .count) in
@@ -166,17 +173,26 @@ sorts-rows l before zeros after k z f e =
     ∙ drop-replicate k (length before) 0
     ∙ ap (λ (m : ℕ). replicate (length before - m) 0) (f .count) in
     record {
-      answer-is = rw (le-leb (length l) (length before) fits, f .count);
+      answer-is = λ tn. rw (le-leb (length l) (length before) fits, f .count);
       table-is = rw (le-leb (length l) (length before) fits) (f .holds ∙ ap (λ (t : List ℕ). l ++ t) rest);
     }
 
 pub sorts-full : (l before after : List ℕ) → length before < length l → after ≡ laid (length before) [] → Sorts l before after Full
+unfolding finished fitting
 sorts-full l before after h e =
     record {
-      answer-is = rw (lt-leb (length l) (length before) h);
+      answer-is = λ tn. rw (lt-leb (length l) (length before) h);
       table-is = rw (lt-leb (length l) (length before) h) e;
     }
 
+-- the paper's words tell the answer
+pub said-known : (r s : Sorted) → saidSorted 0 r ≡ saidSorted 0 s → r ≡ s
+said-known (Rows m) (Rows n) e = let q : m ≡ n = cc in ap Rows q
+said-known (Rows m) Full e = absurd (never (sym e))
+said-known Full (Rows n) e = absurd (never e)
+said-known Full Full e = refl
+
 -- at most one answer, and one content of the table
 pub sorts-unique : {l before a b : List ℕ} {r s : Sorted} → Sorts l before a r → Sorts l before b s → (r ≡ s) × (a ≡ b)
-sorts-unique f g = (f .answer-is ∙ sym (g .answer-is), f .table-is ∙ sym (g .table-is))
+sorts-unique {r = r} {s = s} f g =
+    (said-known r s (f .answer-is 0 ∙ sym (g .answer-is 0)), f .table-is ∙ sym (g .table-is))

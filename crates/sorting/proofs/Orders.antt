@@ -132,5 +132,5 @@ exact-bytes = cmp-equal
 pub decided : {o m : Order} (p : Order) → o ≡ m → o ≡ andThen o p → o ≡ andThen m p
 decided p e h = h ∙ ap (λ (n : Order). andThen n p) e
 
-pub undecided : (m p : Order) {r : Order} → m ≡ Equal → r ≡ p → r ≡ andThen m p
-undecided m p e q = rw (e, q)
+pub undecided : {m p r : Order} → m ≡ Equal → r ≡ p → r ≡ andThen m p
+undecided e q = rw (e, q)

@@ -5,15 +5,17 @@ use mathlib.Core.Logic.{_⊎_, inl, inr, _↔_, ⊎-elim}
 use mathlib.Core.List.{List, [], _∷_, List·Memᴰ·head, List·Memᴰ·tail, List·Memᴰ·not-nil, List·Memᴰ·cases-cons}
 use Prim.Native.Nat.{ℕ, zero, suc, _+_, _≤_, _<_}
 use native.Mathlib.Omega.{arith}
+use borrow.Author.Tests.{eqb-true, eq-eqb}
 use Rattle.refusal.specs.Pick.{pick}
 use Rattle.text.specs.Order.{cmpNat, andThen, cmpBytes}
 use Rattle.text.specs.declared.order.Order.{Order}
 use Rattle.text.specs.declared.order.Order.the-variants.{Equal}
 use Rattle.text.proofs.OrderLaws.{cmp-refl}
-use Rattle.sorting.specs.Order.{Lawful}
-use Rattle.sorting.specs.Sort.{_∈_, keep, upFrom}
+use Rattle.table.specs.Table.{cellOf}
+use Rattle.sorting.specs.Order.{Lawful, on}
+use Rattle.sorting.specs.Sort.{_∈_, keep, upFrom, Before, Ascending}
 use Rattle.sorting.specs.Keys.{byName, nameAt, cellIn, nameOf, rowOrder, marked, sortedRows}
-use Rattle.sorting.specs.Claims.{Listed, Ranked}
+use Rattle.sorting.specs.Claims.{Listed, Ranked, NameListed, NamesRanked}
 use Rattle.sorting.specs.declared.Keys.{Keys}
 use Rattle.sorting.proofs.Orders.{exact-nat, exact-bytes, then-tie}
 use Rattle.sorting.proofs.Sorts.{sort-ascends, ascending-unique}
@@ -127,3 +129,61 @@ same-name first second rows width from len mark value i j =
       (λ e. exact-bytes x y (sym is ∙ e)),
       λ e. is ∙ ap (cmpBytes x) (sym e) ∙ cmp-refl x,
     )
+
+-- ---- the claim of a list of names
+ascends-as : (c d : ℕ → ℕ → Order) → ((i j : ℕ) → c i j ≡ d i j) → (l : List ℕ) → Ascending c l → Ascending d l
+ascends-as c d same [] a = tt
+ascends-as c d same (x ∷ l) a = (before l (a .0), ascends-as c d same l (a .1))
+  where
+    before : (m : List ℕ) → Before c x m → Before d x m
+    before [] b = tt
+    before (y ∷ m) b = (sym (same x y) ∙ b .0, before m (b .1))
+
+module _ (text rows : List ℕ) (width from len mark value n : ℕ) where
+  by-bytes : (i j : ℕ) → rowOrder text text rows (byName width from len mark value) i j
+      ≡ cmpBytes (nameAt text rows width from len i) (nameAt text rows width from len j)
+  by-bytes = names-order text text rows width from len mark value
+
+  wanted-is : (e : ℕ) → marked text text rows (byName width from len mark value) e ≡ true ↔ cellOf rows width e mark ≡ value
+  unfolding marked
+  wanted-is e = (eqb-true (cellOf rows width e mark) value, eq-eqb (cellOf rows width e mark) value)
+
+  -- listed as a row, and listed as a name
+  as-name : (e : ℕ) → Listed text text rows (byName width from len mark value) n e ↔ NameListed text rows width from len mark value n e
+  as-name e = (
+    (λ h.
+        record {
+          below = h .below;
+          wanted = wanted-is e .0 (h .wanted);
+          lowest = λ j b w q. h .lowest j b (wanted-is j .1 w) (same-name text text rows width from len mark value e j .1 q);
+        }),
+    λ h.
+        record {
+          below = h .below;
+          wanted = wanted-is e .1 (h .wanted);
+          lowest = λ j b w q. h .lowest j b (wanted-is j .0 w) (same-name text text rows width from len mark value e j .0 q);
+        },
+  )
+
+  pub names-ranked : NamesRanked text rows width from len mark value n (sortedRows text text rows (byName width from len mark value) n)
+  names-ranked =
+      let k = byName width from len mark value in
+      let l = sortedRows text text rows k n in
+      let r = sorted-ranked text text rows k n in
+      record {
+        ascends =
+            ascends-as (rowOrder text text rows k) (on cmpBytes (nameAt text rows width from len)) by-bytes l (r .ascends);
+        each = λ e. ((λ m. as-name e .0 (r .each e .0 m)), λ h. r .each e .1 (as-name e .1 h));
+      }
+
+  pub names-only : (l : List ℕ) → NamesRanked text rows width from len mark value n l
+      → l ≡ sortedRows text text rows (byName width from len mark value) n
+  names-only l r =
+      let k = byName width from len mark value in
+      ranked-only text text rows k n l
+      (record {
+        ascends =
+            ascends-as (on cmpBytes (nameAt text rows width from len)) (rowOrder text text rows k) (λ i j. sym (by-bytes i j)) l
+            (r .ascends);
+        each = λ e. ((λ m. as-name e .1 (r .each e .0 m)), λ h. r .each e .1 (as-name e .0 h));
+      })

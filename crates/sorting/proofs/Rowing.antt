@@ -14,7 +14,7 @@ use Rattle.table.proofs.Cells.{cell-beside}
 use Rattle.sorting.specs.Order.{Lawful}
 use Rattle.sorting.specs.Keys.{byName, nameAt, cellIn, fileOf, nameOf, rowOrder, marked}
 use Rattle.sorting.specs.declared.Keys.{Keys}
-use Rattle.sorting.proofs.Orders.{lawful-nat, lawful-bytes, lawful-on, lawful-then, lawful-tie, nat-same}
+use Rattle.sorting.proofs.Orders.{decided, undecided, lawful-nat, lawful-bytes, lawful-on, lawful-then, lawful-tie, nat-same}
 
 module _ (first second rows : List ℕ) (k : Keys) where
   -- the bytes of a row, from its three cells
@@ -36,6 +36,33 @@ module _ (first second rows : List ℕ) (k : Keys) where
   pub marked-no : {x : ℕ} (i : ℕ) → x ≡ cellIn first second rows k (k .mark) i → (x ≡ k .value → ⊥) → marked first second rows k i ≡ false
   unfolding marked
   marked-no i e q = ne-eqb _ _ (λ h. q (e ∙ h))
+
+  -- the order of two rows, by the first answer that is no tie
+  module _ (i j : ℕ) where
+    abbrev pub byCell : ℕ → Order
+    byCell column = cmpNat (cellIn first second rows k column i) (cellIn first second rows k column j)
+
+    abbrev pub byBytes : Order
+    byBytes = cmpBytes (nameOf first second rows k i) (nameOf first second rows k j)
+
+    pub order-major : {o : Order} → o ≡ byCell (k .major) → ((p : Order) → o ≡ andThen o p) → o ≡ rowOrder first second rows k i j
+    unfolding rowOrder
+    order-major e s = decided _ e (s _)
+
+    module _ (major : byCell (k .major) ≡ Equal) where
+      pub order-bytes : {o : Order} → o ≡ byBytes → ((p : Order) → o ≡ andThen o p) → o ≡ rowOrder first second rows k i j
+      unfolding rowOrder
+      order-bytes e s = undecided major (decided _ e (s _))
+
+      module _ (bytes : byBytes ≡ Equal) where
+        pub order-minor : {o : Order} → o ≡ byCell (k .minor) → ((p : Order) → o ≡ andThen o p) → o ≡ rowOrder first second rows k i j
+        unfolding rowOrder
+        order-minor e s = undecided major (undecided bytes (decided _ e (s _)))
+
+        pub order-row : {o : Order} → byCell (k .minor) ≡ Equal → o ≡ pick (k .every) (cmpNat i j) Equal
+            → o ≡ rowOrder first second rows k i j
+        unfolding rowOrder
+        order-row minor e = undecided major (undecided bytes (undecided minor e))
 
   pub lawful-rows : Lawful (rowOrder first second rows k)
   unfolding rowOrder

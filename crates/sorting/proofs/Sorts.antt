@@ -44,9 +44,9 @@ module _ {A : Type 0} (cmp : A → A → Order) (laws : Lawful cmp) where
           → put cmp x (put cmp y (z ∷ l)) ≡ put cmp y (put cmp x (z ∷ l))
       go Less p e f ih = let g : cmp x z ≡ Less = rw e at j in simp (h, k, e, g)
       go Equal p e f ih = let g : cmp x z ≡ Less = rw e at j in simp (h, k, e, g)
-      go Greater Less e f ih = simp (h, k, e, f)
-      go Greater Equal e f ih = simp (h, k, e, f)
-      go Greater Greater e f ih = simp (h, k, e, f, ih)
+      go Greater Less e f ih = simp (k, e, f)
+      go Greater Equal e f ih = simp (k, e, f)
+      go Greater Greater e f ih = simp (e, f, ih)
 
   pub put-comm : (x y : A) → (cmp x y ≡ Equal → ⊥) → (l : List A) → put cmp x (put cmp y l) ≡ put cmp y (put cmp x l)
   put-comm x y h l = go (cmp x y) refl

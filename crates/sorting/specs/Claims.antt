@@ -4,9 +4,12 @@ use mathlib.Core.Bool.{true}
 use mathlib.Core.Logic.{_↔_}
 use mathlib.Core.List.{List}
 use Prim.Native.Nat.{ℕ, _≤_, _<_}
+use Rattle.text.specs.Order.{cmpBytes}
 use Rattle.text.specs.declared.order.Order.the-variants.{Equal}
 use Rattle.sorting.specs.Sort.{_∈_, Ascending}
-use Rattle.sorting.specs.Keys.{rowOrder, marked}
+use Rattle.table.specs.Table.{cellOf}
+use Rattle.sorting.specs.Order.{on}
+use Rattle.sorting.specs.Keys.{nameAt, rowOrder, marked}
 use Rattle.sorting.specs.declared.Keys.{Keys}
 
 module _ (first second rows : List ℕ) (k : Keys) (n : ℕ) where
@@ -20,3 +23,17 @@ module _ (first second rows : List ℕ) (k : Keys) (n : ℕ) where
   pub record Ranked (l : List ℕ) : Type 0 where
     pub ascends : Ascending (rowOrder first second rows k) l
     pub each : (e : ℕ) → e ∈ l ↔ Listed e
+
+-- the same of rows listed by name: those whose cell `mark` is `value`, by the bytes at cells `from` and `len`
+module _ (text rows : List ℕ) (width from len mark value n : ℕ) where
+  -- row e is below n and wanted, and no lower wanted row has its name
+  pub record NameListed (e : ℕ) : Type 0 where
+    pub below : e < n
+    pub wanted : cellOf rows width e mark ≡ value
+    pub lowest : (j : ℕ) → j < n → cellOf rows width j mark ≡ value
+        → nameAt text rows width from len e ≡ nameAt text rows width from len j → e ≤ j
+
+  -- the list has exactly these rows, and its names ascend
+  pub record NamesRanked (l : List ℕ) : Type 0 where
+    pub ascends : Ascending (on cmpBytes (nameAt text rows width from len)) l
+    pub each : (e : ℕ) → e ∈ l ↔ NameListed e

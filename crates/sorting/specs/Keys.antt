@@ -1,15 +1,17 @@
 -- docs/RULES.md, "Tables", sorted lists: which rows are listed, in which order, and what the table lent for them holds.
 use mathlib.Core.Path.{_≡_}
 use mathlib.Core.Bool.{Bool, false}
-use mathlib.Core.List.{List, []}
+use mathlib.Core.List.{List}
 use Prim.Native.Nat.{ℕ}
-use lib.Dec.{eqb, leb}
+use lib.Dec.{eqb}
 use lib.ListN.{length}
 use Rattle.refusal.specs.Pick.{pick}
 use Rattle.text.specs.Order.{cmpNat, andThen, cmpBytes}
 use Rattle.text.specs.declared.order.Order.{Order}
 use Rattle.text.specs.declared.order.Order.the-variants.{Equal}
+use Rattle.refusal.specs.Said.{Said, accepted, refused}
 use Rattle.table.specs.Table.{laid, cellOf, rangeOf}
+use Rattle.table.specs.Entries.{finished, fitting}
 use Rattle.sorting.specs.Sort.{sort, keep, upFrom}
 use Rattle.sorting.specs.declared.Keys.{Keys}
 use Rattle.sorting.specs.declared.Sorted.{Sorted}
@@ -62,7 +64,12 @@ module _ (first second rows : List ℕ) (k : Keys) where
   unfoldable pub sortedRows : ℕ → List ℕ
   sortedRows n = sort rowOrder (keep marked (upFrom 0 n))
 
--- a list in a table of n cells: all of it, then zeros; or Full, and zeros throughout
+-- the answer in the paper's words, for a table with the number tn
+abbrev pub saidSorted : ℕ → Sorted → Said ℕ
+saidSorted tn (Rows n) = accepted n
+saidSorted tn Full = refused 13 tn
+
+-- a list in a table that is lent: all of it, then zeros; or 13, whatever the table's number, and zeros throughout
 pub record Sorts (l before after : List ℕ) (r : Sorted) : Type 0 where
-  pub answer-is : r ≡ pick (leb (length l) (length before)) (Rows (length l)) Full
-  pub table-is : after ≡ laid (length before) (pick (leb (length l) (length before)) l [])
+  pub answer-is : (tn : ℕ) → saidSorted tn r ≡ finished tn (length before) l
+  pub table-is : after ≡ laid (length before) (fitting (length before) l)

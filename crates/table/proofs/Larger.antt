@@ -1,6 +1,6 @@
 -- More room: what is accepted with some room is accepted with any more, with the same value, so that "accepted" says something of the
 -- input alone. A law for each way in which outcomes are made. Assumes nothing.
-use Prim.Native.Nat.{ℕ, zero, suc, _-_, _*_, _/_, _≤_, _<_}
+use Prim.Native.Nat.{ℕ, zero, suc, _-_, _/_, _≤_, _<_}
 use native.Mathlib.Nat.{le-div-iff-mul-le, div-mul-le-self, div-zero}
 use native.Mathlib.Omega.{arith}
 use mathlib.Core.Path.{_≡_, refl}

@@ -1,14 +1,18 @@
 -- Laws of a run of entries, stated once over row, width, definition of an entry and table number. Assumes nothing.
-use mathlib.Core.Path.{_≡_, sym, ap, _∙_}
+use mathlib.Core.Path.{_≡_, refl, sym, ap, _∙_}
+use mathlib.Core.Bool.{Bool, true, false}
 use mathlib.Core.List.{List, [], _∷_, _++_}
 use Prim.Native.Nat.{ℕ, suc, _+_, _-_, _*_, _≤_, _<_}
 use native.Mathlib.Omega.{arith}
 use lib.ListN.{length, length-append}
-use borrow.Author.Tests.{lt-ltb, le-ltb}
+use lib.Dec.{leb}
+use borrow.Author.Tests.{lt-ltb, le-ltb, le-leb, lt-leb, leb-false}
+use Rattle.refusal.specs.Pick.{pick}
+use Rattle.refusal.proofs.Following.{never}
 use Rattle.refusal.specs.Said.{Said, accepted, refused, Got, got, onward}
 use Rattle.table.specs.Table.{Lies, laid, cells, putRow}
 use Rattle.table.specs.Told.{Told}
-use Rattle.table.specs.Entries.{entriesFrom}
+use Rattle.table.specs.Entries.{entriesFrom, finished, fitting}
 use Rattle.table.proofs.Laws.{put-row-laid}
 use Rattle.table.proofs.Telling.{tell-stop, tell-got}
 
@@ -76,3 +80,28 @@ module _ {R : Type 0} (f : R → List ℕ) (w : ℕ) (wide : (r : R) → length 
           goes-on =
               sym (entries-more read tn room left at (h .rows) row next l e (omega (arith, h .count-is))) ∙ h .goes-on;
         }
+
+-- ---- a finished list: 13 exactly where it has more rows than there is room for
+module _ {R : Type 0} (tn room : ℕ) (rows : List R) where
+  pub finished-room : length rows ≤ room → finished tn room rows ≡ accepted (length rows)
+  unfolding finished
+  finished-room h = rw (le-leb (length rows) room h)
+
+  pub finished-full : room < length rows → finished tn room rows ≡ refused 13 tn
+  unfolding finished
+  finished-full h = rw (lt-leb (length rows) room h)
+
+  pub full-exactly : finished tn room rows ≡ refused 13 tn → room < length rows
+  unfolding finished
+  full-exactly e = by (leb (length rows) room) refl e where
+    by : (t : Bool) → leb (length rows) room ≡ t → pick t (accepted (length rows)) (refused 13 tn) ≡ refused 13 tn → room < length rows
+    by true q f = absurd (never (sym f))
+    by false q f = leb-false (length rows) room q
+
+  pub fitting-room : length rows ≤ room → fitting room rows ≡ rows
+  unfolding fitting
+  fitting-room h = rw (le-leb (length rows) room h)
+
+  pub fitting-full : room < length rows → fitting room rows ≡ []
+  unfolding fitting
+  fitting-full h = rw (lt-leb (length rows) room h)

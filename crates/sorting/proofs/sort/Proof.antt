@@ -1,5 +1,5 @@
 -- `sorting::sort` meets its contract: the table is filled with the wanted rows from i on, sorted. Assumes nothing.
-use mathlib.Core.Path.{_≡_, refl, ap, sym, _∙_, subst}
+use mathlib.Core.Path.{_≡_, refl, ap, sym, _∙_}
 use mathlib.Core.List.{List, [], _∷_}
 use mathlib.Core.Bool.{Bool}
 use Prim.Native.Nat.{ℕ, _-_, _≤_}
@@ -9,7 +9,7 @@ use Rattle.text.specs.declared.order.Order.{Order}
 use Rattle.table.specs.Table.{laid}
 use Rattle.sorting.specs.Sort.{sort}
 use Rattle.sorting.specs.Keys.{marked, rowOrder, sortedRows}
-use Rattle.sorting.specs.Filling.{Ordered, Filled, Inserted}
+use Rattle.sorting.specs.Filling.{Ordered, Filled}
 use Rattle.sorting.proofs.Rowing.{marked-yes, marked-no, lawful-rows}
 use Rattle.sorting.proofs.Listing.{filled-ordered, filled-step, full-step, filled-as}
 use Rattle.sorting.proofs.Listing.{keptFrom, kept-none, kept-yes, kept-no, kept-all, kept-grows, sorts-rows, sorts-full}
@@ -68,8 +68,8 @@ returns c =
     let call = c .before .before .before .before .before .before .before .before in
     let at = call .before .before .before .before .before .before in
     let s = start at in
-    let no-room = subst (Inserted _ _ _) (c .before .before .before .before .enum-told .given .1) (call .insert .ensures) in
-    let longer = full-step (order s) (lawful-rows _ _ _ _) (left at) _ _ _ (at .loop .inv .2) _ _ no-room in
+    let told = c .before .before .before .before .enum-told .given .1 in
+    let longer = full-step (order s) (lawful-rows _ _ _ _) (left at) _ _ _ (at .loop .inv .2) _ _ told (call .insert .ensures) in
     let grows = kept-grows (order s) (wanted s) (s .args .n) (at .loop .i - 1) (omega arith) in
     let one = ap (λ (l : List ℕ). length (sort (order s) l)) (chosen (call .before .before)) in
     let long = call .insert .kept .1 .1 .1 .1 .0 ∙ at .loop .inv .1 ∙ at .before .before .before .clear .kept .0 in
@@ -84,7 +84,7 @@ loop-again c =
       call .insert .kept .1 .1 .1 .1 .0 ∙ at .loop .inv .1,
       filled-as (order s) (sym (chosen (call .before .before)))
           (filled-step (order s) (lawful-rows _ _ _ _) (left at) _ _ _ (at .loop .inv .2) _ _ _
-          (subst (Inserted _ _ _) (c .before .put .given .1) (call .insert .ensures))),
+          (c .before .put .given .1) (call .insert .ensures)),
     )
 
 loop-again-2 : tie.Need-loop-again-2 Inv-loop μ-loop
