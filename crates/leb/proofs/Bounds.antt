@@ -44,7 +44,8 @@ u32-in s at v d e =
 pub byte-in : (s : List ℕ) (at v d : ℕ) → byteAt s at ≡ accepted (got v d) → Ahead s at d
 unfolding byteAt
 byte-in s at v d e = go (ltb at (length s)) refl e where
-  go : (b : Bool) → ltb at (length s) ≡ b → pick b (accepted (got (getD s at 0) (at + 1))) (refused 1 at) ≡ accepted (got v d) → Ahead s at d
+  go : (b : Bool) → ltb at (length s) ≡ b → pick b (accepted (got (getD s at 0) (at + 1))) (refused 1 at) ≡ accepted (got v d)
+      → Ahead s at d
   go true t f = let a : at + 1 ≡ d = cc in record { past = omega arith; in-s = omega (arith, ltb-true at (length s) t) }
   go false t f = absurd (never f)
 
@@ -58,7 +59,8 @@ pub record Taken (s : List ℕ) (at n : ℕ) (p : Part) (d : ℕ) : Type 0 where
 pub take-in : (s : List ℕ) (at n : ℕ) (p : Part) (d : ℕ) → takeAt s at n ≡ accepted (got p d) → Taken s at n p d
 unfolding takeAt
 take-in s at n p d e = one (ltb (length s) at) e where
-  three : (t : Bool) → leb (at + n) (length s) ≡ t → pick t (accepted (got (part at n) (at + n))) (refused 1 at) ≡ accepted (got p d) → Taken s at n p d
+  three : (t : Bool) → leb (at + n) (length s) ≡ t → pick t (accepted (got (part at n) (at + n))) (refused 1 at) ≡ accepted (got p d)
+      → Taken s at n p d
   three true t f =
       let c : part at n ≡ p = cc in
       record {

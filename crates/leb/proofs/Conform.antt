@@ -83,7 +83,8 @@ unfolding ulebAt told
 u64-read s at v k r = rw (accepts r)
 
 -- a number that was told was there
-pub told-value : {X : Type 0} (at : ℕ) (o : Out X) {v : X} {d : ℕ} → told at o ≡ accepted (got v d) → (k : ℕ) × (o ≡ value v k) × (d ≡ at + k)
+pub told-value : {X : Type 0} (at : ℕ) (o : Out X) {v : X} {d : ℕ} → told at o ≡ accepted (got v d) → (k : ℕ) × (o ≡ value v k) ×
+    (d ≡ at + k)
 unfolding told
 told-value at (value w k) e = (k, cc, cc)
 told-value at (ends k) e = absurd (never e)
@@ -97,7 +98,8 @@ u64-only s at v d e = let t = told-value at (uN 64 (drop at s)) e in (t .0, only
 pub narrow-only : (w e v d : ℕ) → narrowed w e ≡ accepted (got v d) → (w ≡ v) × (e ≡ d) × (w ≤ 4294967295)
 unfolding narrowed
 narrow-only w e v d h = go (leb w 4294967295) refl h where
-  go : (b : Bool) → leb w 4294967295 ≡ b → pick b (accepted (got w e)) (refused 3 e) ≡ accepted (got v d) → (w ≡ v) × (e ≡ d) × (w ≤ 4294967295)
+  go : (b : Bool) → leb w 4294967295 ≡ b → pick b (accepted (got w e)) (refused 3 e) ≡ accepted (got v d) → (w ≡ v) × (e ≡ d) ×
+      (w ≤ 4294967295)
   go true t f = (cc, cc, leb-true w 4294967295 t)
   go false t f = absurd (never f)
 

@@ -1,7 +1,9 @@
--- The loop of `sleb128`, on values: the invariant `SReading` over the bits of the i64, how a turn keeps it, and the answer at each way out.
+-- The loop of `sleb128`, on values: the invariant `SReading` over the bits of the i64, how a turn keeps it, and the answer at each way
+-- out.
 -- Assumes nothing.
 use Prim.Native.Nat.{ℕ, suc, _+_, _-_, _*_, _%_, _^_, _≤_, _<_, min}
-use native.Mathlib.Nat.{add-zero, mul-comm, mul-add, mul-assoc, lt-of-le-of-lt, lt-of-lt-of-le, mod-le, mod-lt, mod-eq-of-lt, min-eq-left, min-eq-right, sub-add-eq}
+use native.Mathlib.Nat.{add-zero, mul-comm, mul-add, mul-assoc, lt-of-le-of-lt, lt-of-lt-of-le, mod-le, mod-lt, mod-eq-of-lt, min-eq-left}
+use native.Mathlib.Nat.{min-eq-right, sub-add-eq}
 use native.Mathlib.Numerals.{add-one}
 use native.Mathlib.Omega.{arith}
 use mathlib.Core.Path.{_≡_, refl, sym, _∙_, ap, ap₂, subst}
@@ -170,7 +172,8 @@ module _ (s : List ℕ) (begin i shift acc : ℕ) (r : SReading s begin i shift 
       where
         go : (t : Bool) → ltb (shift + 7) 64 ≡ t
             → grown (λ m. aboveZ acc shift (pos (getD s i 0 - 128) +ℤ pos 128 *ℤ m)) (i - begin + 1) (left sN (shift + 7) (drop (suc i) s))
-            ≡ grown (aboveZ (acc + (bitAnd (getD s i 0) 127 % 2 ^ (64 - shift)) * 2 ^ shift) (shift + 7)) (suc i - begin) (left sN (shift + 7) (drop (suc i) s))
+            ≡ grown (aboveZ (acc + (bitAnd (getD s i 0) 127 % 2 ^ (64 - shift)) * 2 ^ shift) (shift + 7)) (suc i - begin)
+            (left sN (shift + 7) (drop (suc i) s))
         go true t =
             let f = ltb-true (shift + 7) 64 t in
             let hb = top-set 7 (getD s i 0) byte z in
@@ -217,7 +220,8 @@ module _ (s : List ℕ) (begin i shift acc : ℕ) (r : SReading s begin i shift 
       last-plus f n =
           let hb = top-clear 7 (getD s i 0) byte z in
           let hc = top-clear 6 (getD s i 0) hb n in
-          let a : acc + getD s i 0 * 2 ^ shift < 2 ^ 63 = lt-of-lt-of-le (place-lt shift 6 acc (getD s i 0) (r .under) hc) (pow-mono {j = 63} (omega arith)) in
+          let a : acc + getD s i 0 * 2 ^ shift < 2 ^ 63 = lt-of-lt-of-le (place-lt shift 6 acc (getD s i 0) (r .under) hc)
+          (pow-mono {j = 63} (omega arith)) in
           answer _ (rw (seven f, toZ-pos w64 (acc + getD s i 0 * 2 ^ shift) a) (plus acc shift (getD s i 0) f hc))
 
       -- the tenth group has one bit

@@ -17,7 +17,8 @@ use Rattle.refusal.specs.Said.{accepted, refused, got}
 use Rattle.leb.specs.Groups.{Out, value, ends, bad, grown, spent, uN}
 use Rattle.leb.specs.Reads.{told, ulebAt}
 use Rattle.bits.proofs.Masks.{or-fits, place-lt, top-clear, top-set, low-small, low-large, low-lt}
-use Rattle.leb.proofs.Groups.{above, above-group, left, grown-none, grown-twice, grown-same, left-none, left-over, left-last, left-big, left-big', left-more}
+use Rattle.leb.proofs.Groups.{above, above-group, left, grown-none, grown-twice, grown-same, left-none, left-over, left-last}
+use Rattle.leb.proofs.Groups.{left-big, left-big', left-more}
 
 big : (b : ℕ) (l : List ℕ) → b < 256 → 1 < bitAnd b 127 → left uN 63 (b ∷ l) ≡ bad
 big b l h g = go (ltb b 128) refl

@@ -1,4 +1,5 @@
--- docs/RULES.md, "Numbers and names": what each read finds in s at an offset: a value and the offset after it, or a refusal. Assumes nothing.
+-- docs/RULES.md, "Numbers and names": what each read finds in s at an offset: a value and the offset after it, or a refusal. Assumes
+-- nothing.
 use Prim.Native.Nat.{ℕ, _+_, _-_, _*_, _^_}
 use mathlib.Core.List.{List}
 use lib.ListN.{length, getD, take, drop}

@@ -1,4 +1,5 @@
--- The checked examples that are marked P, as one list under a single claim: each holds of the definitions that the promises cite. Assumes nothing.
+-- The checked examples that are marked P, as one list under a single claim: each holds of the definitions that the promises cite.
+-- Assumes nothing.
 use Prim.Native.Nat.{ℕ, zero, suc}
 use mathlib.Core.Path.{_≡_, refl}
 use mathlib.Core.List.{List, [], _∷_}

@@ -17,7 +17,8 @@ use Rattle.leb.proofs.Cursor.uleb128.Kinds as uleb128-kinds
 use Rattle.leb.proofs.Cursor.uleb128.Reads as uleb128
 
 -- a reader that refuses a number of the specification, and so one that refuses everything
-pub refuses-number : (κs : Lfts 1) (a : Dens κs uleb128-kinds.ps) (s : AtExit (endedOf 1 uleb128-kinds.ps uleb128-kinds.r) κs) (why : Refusal) (back : Cursor) (v k : ℕ)
+pub refuses-number : (κs : Lfts 1) (a : Dens κs uleb128-kinds.ps) (s : AtExit (endedOf 1 uleb128-kinds.ps uleb128-kinds.r) κs)
+    (why : Refusal) (back : Cursor) (v k : ℕ)
     → U 64 (drop (a .0 .at) (now (a .1 .0))) v k → uleb128.Post κs a (U64Read.Refused why back) s → ⊥
 unfolding from
 refuses-number κs a s why back v k u p =
