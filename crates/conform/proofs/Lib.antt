@@ -1,0 +1,4 @@
+-- Laws of the reader against the grammar.
+pub mod Parts
+pub mod Conform
+pub mod Whole
