@@ -2,3 +2,4 @@
 pub mod Parts
 pub mod Conform
 pub mod Whole
+pub mod Larger

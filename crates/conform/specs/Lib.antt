@@ -1,4 +1,5 @@
--- The specification's grammar of modules, and what is claimed of the reader against it.
+-- The specification's grammar of modules, and what is claimed of the reader: against it, beyond it, and of every row that it leaves.
 pub mod Grammar
 pub mod Claims
 pub mod Loose
+pub mod Sound
