@@ -1,5 +1,7 @@
 -- Laws of the reader against the grammar.
 pub mod Parts
+pub mod Header
 pub mod Conform
 pub mod Whole
 pub mod Larger
+pub mod Sound

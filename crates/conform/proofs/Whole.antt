@@ -27,8 +27,9 @@ use Rattle.conform.specs.Grammar.{SubG, SubsG, ContentG, SectionOf, Sect
 use Rattle.conform.specs.Claims.{Bytes, All, nil, cons, titleOf, SectionHere, ImportHere, ExportHere, FunctionHere}
 use Rattle.conform.specs.Claims.{Called, unnamed, called, CalledHere, importsOr, exportsOr, nameOr, functionsOf, nameIn, functionsIn}
 use Rattle.conform.specs.Claims.{subsOf, importsLast, exportsLast, nameLast, functionsAll, Fits, FitsIn, Room, ReadAs, ModulesConform}
-use Rattle.conform.specs.Loose.{LooseSub, LooseSubs, LooseContent, LooseSections, LooseModule}
+use Rattle.conform.specs.Loose.{LooseSub, LooseSubs, LooseContent, LooseSections, versionOf, LooseHeader, LooseModule}
 use Rattle.conform.proofs.Parts.{In, same-part, in-part, in-bytes}
+use Rattle.conform.proofs.Header.{header-reads}
 use Rattle.conform.proofs.Conform.{Stands, PartStands, byte-reads, part-reads, NameStands, name-reads, ImportRow, ExportRow}
 use Rattle.conform.proofs.Conform.{FunctionRow, imports-read, exports-read, functions-read}
 
@@ -337,33 +338,17 @@ module _ (b : List ℕ) (bytes : Bytes b) (size : length b < 1844674407370955161
         name-is = i .name-is;
       }
 
--- ---- the header, with any version
-pub header-reads : (v0 v1 v2 v3 : ℕ) (l : List ℕ) → 0 < v0 + 256 * v1 + 65536 * v2 + 16777216 * v3
-    → headerAt (0x00 ∷ 0x61 ∷ 0x73 ∷ 0x6D ∷ v0 ∷ v1 ∷ v2 ∷ v3 ∷ l)
-    ≡ accepted (got (v0 + 256 * v1 + 65536 * v2 + 16777216 * v3) 8)
-unfolding headerAt onward takeAt fixedAt magic same
-header-reads v0 v1 v2 v3 l h =
-    let b : List ℕ = 0x00 ∷ 0x61 ∷ 0x73 ∷ 0x6D ∷ v0 ∷ v1 ∷ v2 ∷ v3 ∷ l in
-    let n : length b ≡ 8 + length l = omega arith in
-    simp (
-      le-ltb (length b) 0 (omega arith),
-      le-leb 4 (length b) (omega arith),
-      le-leb 8 (length b) (omega arith),
-      ne-eqb (v0 + 256 * v1 + 65536 * v2 + 16777216 * v3) 0 (λ e. omega arith),
-    )
-
--- a module of the looser grammar
-pub loose-conform : (b : List ℕ) (z : Sizes) (version : ℕ) (vs : List SectionOf) → Bytes b → length b ≤ 16777216 → Room z vs
-    → LooseModule b version vs → ReadAs b z version vs
+-- ---- a module of the looser grammar
+pub loose-conform : (b : List ℕ) (z : Sizes) (vs : List SectionOf) → Bytes b → length b ≤ 16777216 → Room z vs → LooseModule b vs
+    → ReadAs b z (versionOf b) vs
 unfolding moduleAt onward noTables
-loose-conform b z version vs bytes short room (LooseModule.modul {l = l} v0 v1 v2 v3 h s) =
-    let k : 8 ≤ length b = omega arith in
+loose-conform b z vs bytes short room (LooseModule.modul h s) =
     let i =
-    sections-read b bytes (omega arith) z 8 l vs noTables [] [] [] [] unnamed refl k s (room .entries) (omega (arith, room .sections))
-    (omega (arith, room .functions)) nil nil nil nil refl in
+    sections-read b bytes (omega arith) z 8 (drop 8 b) vs noTables [] [] [] [] unnamed refl (h .long) s (room .entries)
+    (omega (arith, room .sections)) (omega (arith, room .functions)) nil nil nil nil refl in
     record {
       tables = i .tables;
-      is = rw (le-ltb 16777216 (length b) short, header-reads v0 v1 v2 v3 l h, i .is);
+      is = rw (le-ltb 16777216 (length b) short, header-reads b h, i .is);
       sections-are = i .sections-are;
       imports-are = i .imports-are;
       exports-are = i .exports-are;
@@ -401,4 +386,5 @@ loose-sections last l (v ∷ vs) (SectionsG.then {place = place} {r = r} h k x m
 -- whatever the specification's grammar derives is read as exactly that
 pub module-conform : ModulesConform
 module-conform b z vs bytes short room (ModuleG.modul {l = l} s) =
-    loose-conform b z 1 vs bytes short room (LooseModule.modul 1 0 0 0 (omega arith) (loose-sections 0 l vs s))
+    let h : LooseHeader b = record { long = omega arith; starts = refl; some = omega arith } in
+    loose-conform b z vs bytes short room (LooseModule.modul h (loose-sections 0 l vs s))

@@ -1,9 +1,9 @@
 -- docs/DIFFERENCES.md, "The module": the grammar of modules with what the port accepts beyond it, entries apart: sections and subsections
 -- in any order and repeated, bytes after the last entry, any section id, any version but zero. Assumes nothing.
-use Prim.Native.Nat.{ℕ, _+_, _*_, _≤_, _<_}
+use Prim.Native.Nat.{ℕ, _+_, _*_, _^_, _≤_, _<_}
 use mathlib.Core.Path.{_≡_}
 use mathlib.Core.List.{List, [], _∷_, _++_}
-use lib.ListN.{length}
+use lib.ListN.{length, getD, take, drop}
 use Rattle.conform.specs.Grammar.{U32, NameG, Vec, ImportOf, ImportG, ExportOf, ExportG, FunctionOf, AssocG}
 use Rattle.conform.specs.Grammar.{SubOf, moduleName, functionNames, nameBytes, Content, SectionOf}
 
@@ -33,7 +33,14 @@ pub data LooseSections : List ℕ → List SectionOf → Type 0 where
   then : {id : ℕ} {l p r : List ℕ} {c : Content} {vs : List SectionOf} → U32 l (length p) (p ++ r) → LooseContent id p c
       → LooseSections r vs → LooseSections (id ∷ l) (record { id = id; payload = p; holds = c } ∷ vs)
 
--- any four bytes of a version but zeros
-pub data LooseModule : List ℕ → ℕ → List SectionOf → Type 0 where
-  modul : {l : List ℕ} {vs : List SectionOf} (v0 v1 v2 v3 : ℕ) → 0 < v0 + 256 * v1 + 65536 * v2 + 16777216 * v3 → LooseSections l vs
-      → LooseModule (0x00 ∷ 0x61 ∷ 0x73 ∷ 0x6D ∷ v0 ∷ v1 ∷ v2 ∷ v3 ∷ l) (v0 + 256 * v1 + 65536 * v2 + 16777216 * v3) vs
+-- magic, and any version but zero
+abbrev pub versionOf : List ℕ → ℕ
+versionOf b = getD b 4 0 + 2 ^ 8 * getD b 5 0 + 2 ^ 16 * getD b 6 0 + 2 ^ 24 * getD b 7 0
+
+pub record LooseHeader (b : List ℕ) : Type 0 where
+  pub long : 8 ≤ length b
+  pub starts : take 4 b ≡ 0x00 ∷ 0x61 ∷ 0x73 ∷ 0x6D ∷ []
+  pub some : 0 < versionOf b
+
+pub data LooseModule : List ℕ → List SectionOf → Type 0 where
+  modul : {b : List ℕ} {vs : List SectionOf} → LooseHeader b → LooseSections (drop 8 b) vs → LooseModule b vs
