@@ -5,3 +5,6 @@ pub mod Conform
 pub mod Whole
 pub mod Larger
 pub mod Sound
+pub mod Beyond
+pub mod Unused
+pub mod Smallest

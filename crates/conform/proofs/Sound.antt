@@ -269,12 +269,12 @@ apart-up a c e [] (last h) k = let w : a ≤ e = omega (arith, h, k) in last w
 apart-up a c e (x ∷ rs) (next h more) k = next h (apart-up (x .from + x .size) c e rs more k)
 
 -- a section's row is added, and the table had room
-record Added (z : Sizes) (new : Section) (d : ℕ) (t u : Tables) (e : ℕ) : Type 0 where
-  is : u ≡ withSection t new
-  next-is : e ≡ d
-  room : length (t .sections) < capacityOf (z .sections) 5 256
+pub record Added (z : Sizes) (new : Section) (d : ℕ) (t u : Tables) (e : ℕ) : Type 0 where
+  pub is : u ≡ withSection t new
+  pub next-is : e ≡ d
+  pub room : length (t .sections) < capacityOf (z .sections) 5 256
 
-added : (z : Sizes) (new : Section) (d : ℕ) (t u : Tables) (e : ℕ) → addSection (z .sections) new d t ≡ accepted (got u e)
+pub added : (z : Sizes) (new : Section) (d : ℕ) (t u : Tables) (e : ℕ) → addSection (z .sections) new d t ≡ accepted (got u e)
     → Added z new d t u e
 unfolding addSection
 added z new d t u e h = by (ltb (length (t .sections)) (capacityOf (z .sections) 5 256)) refl h where
@@ -306,25 +306,27 @@ module _ (b : List ℕ) (bytes : Bytes b) (z : Sizes) where
       let k = contents-ok (length b) z (bytesOf b p) (part-bytes b p bytes) (p .from) f (x .what) t (h .rows-ok) (got w (c .next)) (c .first) in
       let r = k .tables-ok in
       let kept = contents-keep (x .what) (bytesOf b p) (p .from) z t w (c .next) (c .first) in
-      let ends : p .from + p .len ≤ d = omega (arith, two .end, o .next-is) in
-      (omega (arith, one .past, two .past, ends), record {
-        rows-ok = rw (o .is) (record {
-          sections-ok = each-last (SectionOk (length b)) (w .tables .sections) new (r .sections-ok)
-              (record {
-                id-byte = byte-small b bytes at (x .what) (x .next) (x .first);
-                payload-in = omega (arith, two .end, two .in-s);
-                name-in-file = k .name-in-file;
-              });
-          sections-few = omega (arith, o .room, length-append (w .tables .sections) (new ∷ []));
-          imports-ok = r .imports-ok;
-          imports-few = r .imports-few;
-          exports-ok = r .exports-ok;
-          exports-few = r .exports-few;
-          names-ok = r .names-ok;
-        });
-        apart = rw (o .is) (apart-last 8 at d (w .tables .sections) new (rw kept (h .apart)) (omega (arith, one .past, two .past)) ends);
-        in-b = omega (arith, o .next-is, two .in-s);
-      })
+      let ends : p .from + p .len ≤ d = omega (arith, two .end, o .next-is) in (
+        omega (arith, one .past, two .past, ends),
+        record {
+          rows-ok = rw (o .is) (record {
+            sections-ok = each-last (SectionOk (length b)) (w .tables .sections) new (r .sections-ok)
+                (record {
+                  id-byte = byte-small b bytes at (x .what) (x .next) (x .first);
+                  payload-in = omega (arith, two .end, two .in-s);
+                  name-in-file = k .name-in-file;
+                });
+            sections-few = omega (arith, o .room, length-append (w .tables .sections) (new ∷ []));
+            imports-ok = r .imports-ok;
+            imports-few = r .imports-few;
+            exports-ok = r .exports-ok;
+            exports-few = r .exports-few;
+            names-ok = r .names-ok;
+          });
+          apart = rw (o .is) (apart-last 8 at d (w .tables .sections) new (rw kept (h .apart)) (omega (arith, one .past, two .past)) ends);
+          in-b = omega (arith, o .next-is, two .in-s);
+        },
+      )
 
   nothing-yet : 8 ≤ length b → Before 8 noTables
   unfolding noTables

@@ -359,7 +359,7 @@ loose-conform b z vs bytes short room (LooseModule.modul h s) =
 -- ---- the specification's modules are among them
 loose-sub : (id : ℕ) (p : List ℕ) (v : SubOf) → SubG id p v → LooseSub id p v
 loose-sub id p v (SubG.modulenamesubsec w) = LooseSub.modulename w
-loose-sub id p v (SubG.funcnamesubsec w) = LooseSub.funcnames w
+loose-sub id p v (SubG.funcnamesubsec w h) = LooseSub.funcnames w
 loose-sub id p v (SubG.othersubsec h) = LooseSub.others h
 
 loose-subs : (low : ℕ) (l : List ℕ) (vs : List SubOf) → SubsG low l vs → LooseSubs l vs

@@ -1,5 +1,5 @@
 -- The WebAssembly Core Specification 2.0, binary format, as the specification writes it and apart from what the port reads: values (5.2),
--- types (5.3), sections (5.5.2 to 5.5.10), modules (5.5.16) and the name section (appendix 7.4.1). Integers and names are leb's, specs/Grammar.
+-- types (5.3), sections (5.5.2 to 5.5.10), modules (5.5.16), the name section (appendix 7.4.1). Integers and names are those of leb, Grammar.
 -- `X l v r`: the front of l, up to r, is an X whose value is v. Assumes nothing.
 use Prim.Native.Nat.{ℕ, zero, suc, _≤_, _<_}
 use mathlib.Core.Path.{_≡_}
@@ -136,6 +136,11 @@ pub record FunctionOf : Type 0 where
 pub data AssocG : List ℕ → FunctionOf → List ℕ → Type 0 where
   nameassoc : {l m r : List ℕ} {x : ℕ} {a : List ℕ} → U32 l x m → NameG m a r → AssocG l (record { index = x; name = a }) r
 
+-- a name map's indices increase, each once, from `low` on
+pub data Rising : ℕ → List FunctionOf → Type 0 where
+  end : {low : ℕ} → Rising low []
+  then : {low : ℕ} {f : FunctionOf} {fs : List FunctionOf} → low ≤ f .index → Rising (suc (f .index)) fs → Rising low (f ∷ fs)
+
 -- namesubsection_N(B) ::= N:byte size:u32 B (if size = ||B||): the module's name, the functions' names; of any other the bytes
 pub data SubOf : Type 0 where
   moduleName : List ℕ → SubOf
@@ -144,7 +149,7 @@ pub data SubOf : Type 0 where
 
 pub data SubG : ℕ → List ℕ → SubOf → Type 0 where
   modulenamesubsec : {p a : List ℕ} → NameG p a [] → SubG 0 p (moduleName a)
-  funcnamesubsec : {p : List ℕ} {vs : List FunctionOf} → Vec AssocG p vs [] → SubG 1 p (functionNames vs)
+  funcnamesubsec : {p : List ℕ} {vs : List FunctionOf} → Vec AssocG p vs [] → Rising 0 vs → SubG 1 p (functionNames vs)
   othersubsec : {p : List ℕ} {id : ℕ} → 2 ≤ id → SubG id p (SubOf.other p)
 
 -- namedata: subsections to the end, each at most once and in order of their ids, from `low` on

@@ -3,3 +3,4 @@ pub mod Grammar
 pub mod Claims
 pub mod Loose
 pub mod Sound
+pub mod Beyond

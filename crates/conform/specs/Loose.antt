@@ -1,5 +1,5 @@
 -- docs/DIFFERENCES.md, "The module": the grammar of modules with what the port accepts beyond it, entries apart: sections and subsections
--- in any order and repeated, bytes after the last entry, any section id, any version but zero. Assumes nothing.
+-- in any order and repeated, bytes after the last entry, name maps in any order, any section id, any version but zero. Assumes nothing.
 use Prim.Native.Nat.{ℕ, _+_, _*_, _^_, _≤_, _<_}
 use mathlib.Core.Path.{_≡_}
 use mathlib.Core.List.{List, [], _∷_, _++_}
