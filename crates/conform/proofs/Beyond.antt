@@ -6,19 +6,19 @@ use mathlib.Core.List.{List}
 use lib.ListN.{length}
 use borrow.Author.Tests.{le-ltb, le-leb, ne-eqb}
 use Rattle.refusal.specs.Said.{Said, accepted, Got, got, onward}
-use Rattle.refusal.proofs.Following.{read-on}
 use Rattle.table.specs.Walking.{walkFrom}
 use Rattle.table.proofs.Walking.{from-stop, from-go}
-use Rattle.leb.specs.Reads.{bytesOf, byteAt, u32At, takeAt, countedAt}
+use Rattle.leb.specs.Reads.{byteAt, u32At, takeAt, countedAt}
 use Rattle.leb.proofs.Beyond.{u32-long}
-use Rattle.leb.proofs.Bounds.{byte-in, counted-in}
+use Rattle.leb.proofs.Bounds.{byte-in}
 use Rattle.wasm.specs.Entry.{limitsAt, tableAt, globalAt, exportAt}
 use Rattle.wasm.specs.Module.{Tables, Sizes, contentsAt, sectionAt, moduleAt}
 use Rattle.conform.specs.Loose.{versionOf}
 use Rattle.conform.specs.Beyond.{AnyVersion, StartAnew, AnyId, FlagBits, ExportKinds, ElementTypes, GlobalTypes, LongSizes}
-use Rattle.conform.specs.Beyond.{Comes, start, after, FirstRefusal, FaultyNames}
+use Rattle.conform.specs.Beyond.{FirstRefusal, FaultyNames}
+use Rattle.conform.specs.Sound.{Comes, start, after}
 use Rattle.conform.proofs.Header.{header-reads, header-only}
-use Rattle.conform.proofs.Sound.{added}
+use Rattle.conform.proofs.Sections.{took}
 
 pub any-version : (b : List ℕ) → AnyVersion b
 any-version b =
@@ -61,28 +61,16 @@ long-sizes s at n k u small fits whole =
     )
 
 -- ---- refusals
--- a section takes bytes of the file
-section-ahead : (b : List ℕ) (z : Sizes) (at d : ℕ) (t u : Tables) → sectionAt b z at t ≡ accepted (got u d) → (at < d) × (d ≤ length b)
-unfolding sectionAt
-section-ahead b z at d t u e =
-    let x = read-on (byteAt b at) _ e in
-    let y = read-on (countedAt b (x .next)) _ (x .then) in
-    let c = read-on (contentsAt (x .what) (bytesOf b (y .what)) (y .what .from) z t) _ (y .then) in
-    let o = added z _ (y .next) (c .what .tables) u d (c .then) in
-    let one = byte-in b at (x .what) (x .next) (x .first) in
-    let two = counted-in b (x .next) (y .what) (y .next) (y .first) in
-    (omega (arith, one .past, two .past, two .end, o .next-is), omega (arith, o .next-is, two .in-s))
-
 -- what is left decides
 comes : (b : List ℕ) (z : Sizes) (at : ℕ) (t : Tables) → Comes b z at t
     → moduleAt b z ≡ onward (walkFrom (sectionAt b z) b at t) (λ u d. accepted (record { version = versionOf b; tables = u }))
 unfolding moduleAt onward
 comes b z at t (start h short) = rw (le-ltb 16777216 (length b) short, header-reads b h)
 comes b z d u (after {at = at} {t = t} c e) =
-    let k = section-ahead b z at d t u e in
+    let k = took b z at t u d e in
     comes b z at t c
     ∙ ap (λ (x : Said (Got Tables)). onward x (λ u d. accepted (record { version = versionOf b; tables = u })))
-    (from-go (sectionAt b z) b at t u d e (k .0) (k .1))
+    (from-go (sectionAt b z) b at t u d e (omega (arith, k .past, k .ends)) (k .in-b))
 
 pub first-refusal : FirstRefusal
 unfolding onward

@@ -31,6 +31,7 @@ use Rattle.conform.specs.Claims.{Bytes}
 use Rattle.conform.specs.Sound.{InFile, ImportOk, ExportOk, SymbolOk, SectionOk, NamesOk, TablesOk, Apart, last, next, ModuleOk}
 use Rattle.conform.specs.Sound.{RowsSound}
 use Rattle.conform.proofs.Parts.{part-bytes, part-length}
+use Rattle.conform.proofs.Sections.{Took, took, rowOf}
 use Rattle.conform.proofs.Header.{header-only, version-small}
 
 -- ---- no more rows than there is room for
@@ -76,7 +77,7 @@ module _ {T : Type 0} (P : ℕ → T → Type 0) (step : ℕ → T → Said (Got
         ih v (c - suc at) (subst (λ (i : ℕ). P i v) n (k .1)) f
     by ih (refused n p) q f = absurd (never f)
 
-  placed-from : (b : List ℕ) (at : ℕ) (t : T) → P at t → (u : T) (e : ℕ) → walkFrom step b at t ≡ accepted (got u e) → (d : ℕ) × P d u
+  pub placed-from : (b : List ℕ) (at : ℕ) (t : T) → P at t → (u : T) (e : ℕ) → walkFrom step b at t ≡ accepted (got u e) → (d : ℕ) × P d u
   unfolding walkFrom
   placed-from b at t h u e q =
       let z : at ≡ at + 0 = omega arith in
@@ -268,67 +269,44 @@ apart-up : (a c e : ℕ) (rs : List Section) → Apart a rs c → c ≤ e → Ap
 apart-up a c e [] (last h) k = let w : a ≤ e = omega (arith, h, k) in last w
 apart-up a c e (x ∷ rs) (next h more) k = next h (apart-up (x .from + x .size) c e rs more k)
 
--- a section's row is added, and the table had room
-pub record Added (z : Sizes) (new : Section) (d : ℕ) (t u : Tables) (e : ℕ) : Type 0 where
-  pub is : u ≡ withSection t new
-  pub next-is : e ≡ d
-  pub room : length (t .sections) < capacityOf (z .sections) 5 256
-
-pub added : (z : Sizes) (new : Section) (d : ℕ) (t u : Tables) (e : ℕ) → addSection (z .sections) new d t ≡ accepted (got u e)
-    → Added z new d t u e
-unfolding addSection
-added z new d t u e h = by (ltb (length (t .sections)) (capacityOf (z .sections) 5 256)) refl h where
-  by : (x : Bool) → ltb (length (t .sections)) (capacityOf (z .sections) 5 256) ≡ x
-      → pick x (accepted (got (withSection t new) d)) (refused 13 1) ≡ accepted (got u e) → Added z new d t u e
-  by true x f = record { is = cc; next-is = cc; room = ltb-true _ _ x }
-  by false x f = absurd (never f)
-
 module _ (b : List ℕ) (bytes : Bytes b) (z : Sizes) where
   -- what holds before the section at an offset
-  record Before (at : ℕ) (t : Tables) : Type 0 where
-    rows-ok : TablesOk (length b) z t
-    apart : Apart 8 (t .sections) at
-    in-b : at ≤ length b
+  pub record Before (at : ℕ) (t : Tables) : Type 0 where
+    pub rows-ok : TablesOk (length b) z t
+    pub apart : Apart 8 (t .sections) at
+    pub in-b : at ≤ length b
 
-  section-ok : (at : ℕ) (t u : Tables) (d : ℕ) → Before at t → sectionAt b z at t ≡ accepted (got u d) → (at < d) × Before d u
-  unfolding sectionAt Gives Of
+  pub section-ok : (at : ℕ) (t u : Tables) (d : ℕ) → Before at t → sectionAt b z at t ≡ accepted (got u d) → (at < d) × Before d u
+  unfolding Gives Of
   section-ok at t u d h e =
-      let x = read-on (byteAt b at) _ e in
-      let y = read-on (countedAt b (x .next)) _ (x .then) in
-      let p = y .what in
-      let c = read-on (contentsAt (x .what) (bytesOf b p) (p .from) z t) _ (y .then) in
-      let w = c .what in
-      let new : Section = record { id = x .what; from = p .from; size = p .len; name = w .name } in
-      let o = added z new (y .next) (w .tables) u d (c .then) in
-      let one = byte-in b at (x .what) (x .next) (x .first) in
-      let two = counted-in b (x .next) p (y .next) (y .first) in
-      let f : p .from + length (bytesOf b p) ≤ length b = omega (arith, two .end, two .in-s, part-length b p) in
-      let k = contents-ok (length b) z (bytesOf b p) (part-bytes b p bytes) (p .from) f (x .what) t (h .rows-ok) (got w (c .next)) (c .first) in
-      let r = k .tables-ok in
-      let kept = contents-keep (x .what) (bytesOf b p) (p .from) z t w (c .next) (c .first) in
-      let ends : p .from + p .len ≤ d = omega (arith, two .end, o .next-is) in (
-        omega (arith, one .past, two .past, ends),
-        record {
-          rows-ok = rw (o .is) (record {
-            sections-ok = each-last (SectionOk (length b)) (w .tables .sections) new (r .sections-ok)
-                (record {
-                  id-byte = byte-small b bytes at (x .what) (x .next) (x .first);
-                  payload-in = omega (arith, two .end, two .in-s);
-                  name-in-file = k .name-in-file;
-                });
-            sections-few = omega (arith, o .room, length-append (w .tables .sections) (new ∷ []));
-            imports-ok = r .imports-ok;
-            imports-few = r .imports-few;
-            exports-ok = r .exports-ok;
-            exports-few = r .exports-few;
-            names-ok = r .names-ok;
-          });
-          apart = rw (o .is) (apart-last 8 at d (w .tables .sections) new (rw kept (h .apart)) (omega (arith, one .past, two .past)) ends);
-          in-b = omega (arith, o .next-is, two .in-s);
-        },
-      )
+      let k = took b z at t u d e in
+      let p = k .payload in
+      let w = k .inner in
+      let new = rowOf (k .id) p w in
+      let f : p .from + length (bytesOf b p) ≤ length b = omega (arith, k .ends, k .in-b, part-length b p) in
+      let o = contents-ok (length b) z (bytesOf b p) (part-bytes b p bytes) (p .from) f (k .id) t (h .rows-ok) (got w (k .end)) (k .three) in
+      let r = o .tables-ok in
+      let kept = contents-keep (k .id) (bytesOf b p) (p .from) z t w (k .end) (k .three) in
+      (omega (arith, k .past, k .ends), record {
+        rows-ok = rw (k .is) (record {
+          sections-ok = each-last (SectionOk (length b)) (w .tables .sections) new (r .sections-ok)
+              (record {
+                id-byte = byte-small b bytes at (k .id) (k .a) (k .one);
+                payload-in = omega (arith, k .ends, k .in-b);
+                name-in-file = o .name-in-file;
+              });
+          sections-few = omega (arith, k .room, length-append (w .tables .sections) (new ∷ []));
+          imports-ok = r .imports-ok;
+          imports-few = r .imports-few;
+          exports-ok = r .exports-ok;
+          exports-few = r .exports-few;
+          names-ok = r .names-ok;
+        });
+        apart = rw (k .is) (apart-last 8 at d (w .tables .sections) new (rw kept (h .apart)) (k .past) (omega (arith, k .ends)));
+        in-b = k .in-b;
+      })
 
-  nothing-yet : 8 ≤ length b → Before 8 noTables
+  pub nothing-yet : 8 ≤ length b → Before 8 noTables
   unfolding noTables
   nothing-yet h =
       let start : 8 ≤ 8 = omega arith in

@@ -17,7 +17,7 @@ use Rattle.wasm.specs.Module.{Tables, Sizes, withImports, withExports, plain, c
 use Rattle.conform.specs.Grammar.{SectionOf}
 use Rattle.conform.specs.Claims.{Bytes, Room, ReadAs}
 use Rattle.conform.specs.Loose.{versionOf, LooseHeader, LooseModule}
-use Rattle.conform.specs.Sound.{limits}
+use Rattle.conform.specs.Sound.{Comes, limits}
 
 -- ---- accepted beyond the grammar
 -- the header: exactly the magic with any version but zero
@@ -83,11 +83,6 @@ LongSizes =
     → countedAt s at ≡ accepted (got (part (at + k) n) (at + k + n))
 
 -- ---- refused although the specification forgives it
--- the reader of b comes to an offset with the tables t: from the header on, section after section
-pub data Comes (b : List ℕ) (z : Sizes) : ℕ → Tables → Type 0 where
-  start : LooseHeader b → length b ≤ 16777216 → Comes b z 8 noTables
-  after : {at d : ℕ} {t u : Tables} → Comes b z at t → sectionAt b z at t ≡ accepted (got u d) → Comes b z d u
-
 -- the first section that is refused refuses the file
 abbrev pub FirstRefusal : Type 0
 FirstRefusal =
