@@ -275,14 +275,16 @@ module _ (s : List ℕ) (bytes : Bytes s) (size : length s < 1844674407370955161
         → (es : List Import) × Stands (importsOf s base cells) es r × All (ImportRow base) es vs
     unfolding importsOf
     imports-read vs w h =
-        let i = vec-reads ImportG (ImportRow base) (importAt s base) (import-reads base) 2 (capacityOf cells 5 1024) r vs [] (omega arith) w in
+        let i =
+        vec-reads ImportG (ImportRow base) (importAt s base) (import-reads base) 2 (capacityOf cells 5 1024) r vs [] (omega arith) w in
         (i .new, i .stands, i .agree)
 
     pub exports-read : (vs : List ExportOf) → Vec ExportG s vs r → length vs ≤ capacityOf cells 4 1024
         → (es : List Export) × Stands (exportsOf s base cells) es r × All (ExportRow base) es vs
     unfolding exportsOf
     exports-read vs w h =
-        let i = vec-reads ExportG (ExportRow base) (exportAt s base) (export-reads base) 3 (capacityOf cells 4 1024) r vs [] (omega arith) w in
+        let i =
+        vec-reads ExportG (ExportRow base) (exportAt s base) (export-reads base) 3 (capacityOf cells 4 1024) r vs [] (omega arith) w in
         (i .new, i .stands, i .agree)
 
     pub functions-read : (vs : List FunctionOf) (rows : List Symbol) → Vec AssocG s vs r

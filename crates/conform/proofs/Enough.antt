@@ -1,7 +1,7 @@
 -- Room: the tables never hold more than they have room for, and need no more than what is read into them. Assumes nothing.
 use Prim.Native.Nat.{ℕ, zero, suc, _+_, _-_, _≤_, _<_}
 use native.Mathlib.Omega.{arith}
-use mathlib.Core.Path.{_≡_, refl, sym, _∙_, ap, subst}
+use mathlib.Core.Path.{_≡_, refl, sym, ap, subst}
 use mathlib.Core.Bool.{Bool, true, false}
 use mathlib.Core.List.{List, [], _∷_, _++_}
 use lib.ListN.{length, drop, length-append}
@@ -17,11 +17,10 @@ use Rattle.table.specs.Entries.{entriesFrom}
 use Rattle.table.specs.Walking.{turned, walkFrom}
 use Rattle.table.proofs.Giving.{Of}
 use Rattle.leb.specs.Reads.{bytesOf, byteAt, u32At, nameAt, countedAt}
-use Rattle.wasm.specs.Shapes.{Section}
 use Rattle.wasm.specs.Entry.{importAt, exportAt, symbolAt}
 use Rattle.wasm.specs.Rows.{importsOf, exportsOf, symbolsOf}
 use Rattle.wasm.specs.Custom.{Names, labelAt, toldBy, subsectionAt, nameWord, Spoken, customAt}
-use Rattle.wasm.specs.Module.{Tables, Sizes, Inner, plain, withSection, contentsAt, addSection, sectionAt, headerAt, noTables, moduleAt, Parsed}
+use Rattle.wasm.specs.Module.{Tables, Sizes, Inner, plain, withSection, contentsAt, addSection, sectionAt, headerAt, noTables, moduleAt}
 use Rattle.conform.specs.Claims.{Bytes}
 use Rattle.conform.specs.Sound.{Comes, start, after, Fit, AlwaysFit, EnoughRoom}
 use Rattle.conform.proofs.Header.{header-only}
@@ -157,7 +156,8 @@ module _ {T : Type 0} (P : ℕ → T → Type 0) (step step1 : ℕ → T → Sai
         rw (k .2) (ih v (c - suc at) (subst (λ (i : ℕ). P i v) n (k .1)) f)
     by ih (refused n p) q f = absurd (never f)
 
-  along-from : (b : List ℕ) (at : ℕ) (t : T) → P at t → (u : Got T) → walkFrom step b at t ≡ accepted u → walkFrom step1 b at t ≡ accepted u
+  along-from : (b : List ℕ) (at : ℕ) (t : T) → P at t → (u : Got T) → walkFrom step b at t ≡ accepted u
+      → walkFrom step1 b at t ≡ accepted u
   unfolding walkFrom
   along-from b at t h u q =
       let z : at ≡ at + 0 = omega arith in
@@ -197,9 +197,11 @@ module _ (n m : ℕ) where
   enough-walk : (s : List ℕ) (base : ℕ) (t : Names) (at : ℕ)
       → Back (Unit {0}) (Of (NamesFit m)) (walkFrom (subsectionAt s base n) s at t) (walkFrom (subsectionAt s base m) s at t)
   unfolding Of Back
-  enough-walk s base t at (got v c) f k =
-      (tt, back-from (NamesFit m) (subsectionAt s base n) (subsectionAt s base m) (λ i t u d q g. enough-sub s base i t (got u d) q g)
-      s at t v c f k)
+  enough-walk s base t at (got v c) f k = (
+    tt,
+    back-from (NamesFit m) (subsectionAt s base n) (subsectionAt s base m) (λ i t u d q g. enough-sub s base i t (got u d) q g)
+        s at t v c f k,
+  )
 
   unfoldable SpokenFit : Spoken → Type 0
   SpokenFit u = NamesFit m (u .inner)

@@ -1,19 +1,19 @@
 -- The header: what is accepted is exactly the magic with a version that is not zero. Assumes nothing.
-use Prim.Native.Nat.{ℕ, _+_, _*_, _^_, _≤_, _<_}
+use Prim.Native.Nat.{ℕ, _^_, _≤_, _<_}
 use native.Mathlib.Omega.{arith}
-use mathlib.Core.Path.{_≡_, refl, sym, _∙_, ap, subst}
+use mathlib.Core.Path.{_≡_, refl, sym, _∙_, subst}
 use mathlib.Core.Bool.{Bool, true, false}
 use mathlib.Core.List.{List, [], _∷_}
-use lib.ListN.{length, getD, take, drop}
+use lib.ListN.{length, take}
 use lib.Dec.{leb, eqb}
 use borrow.Author.Tests.{le-ltb, le-leb, leb-true, eqb-false, ne-eqb}
 use Rattle.refusal.specs.Pick.{pick}
-use Rattle.refusal.specs.Said.{Said, accepted, refused, Got, got, onward}
+use Rattle.refusal.specs.Said.{accepted, refused, got, onward}
 use Rattle.refusal.specs.declared.Part.{Part}
 use Rattle.refusal.proofs.Following.{never, read-on}
 use Rattle.text.specs.Find.{same}
 use Rattle.text.proofs.FindLaws.{same-is, same-self}
-use Rattle.leb.specs.Reads.{part, bytesOf, takeAt, fixedAt}
+use Rattle.leb.specs.Reads.{bytesOf, takeAt, fixedAt}
 use Rattle.leb.proofs.Bounds.{take-in}
 use Rattle.wasm.specs.Module.{headerAt, magic}
 use Rattle.conform.specs.Claims.{Bytes}
@@ -53,7 +53,8 @@ header-only b v d e =
     let f : bytesOf b (x .what) ≡ take 4 b = rw (t .start, t .size) in
     by (x .next) (x .what) f (omega (arith, t .next)) (same (0x00 ∷ 0x61 ∷ 0x73 ∷ 0x6D ∷ []) (bytesOf b (x .what))) refl (x .then)
   where
-    nonzero : (w c : ℕ) → (8 ≤ length b) × (w ≡ versionOf b) × (c ≡ 8) → take 4 b ≡ 0x00 ∷ 0x61 ∷ 0x73 ∷ 0x6D ∷ [] → (t : Bool) → eqb w 0 ≡ t
+    nonzero : (w c : ℕ) → (8 ≤ length b) × (w ≡ versionOf b) × (c ≡ 8) → take 4 b ≡ 0x00 ∷ 0x61 ∷ 0x73 ∷ 0x6D ∷ []
+        → (t : Bool) → eqb w 0 ≡ t
         → pick t (refused 2 4) (accepted (got w c)) ≡ accepted (got v d) → HeaderOnly b v d
     nonzero w c k s true t f = absurd (never f)
     nonzero w c k s false t f =

@@ -1,10 +1,10 @@
--- Larger tables: what is accepted with some tables is accepted with any larger ones, with the same rows, so that "accepted" says something of the file alone. Assumes nothing.
+-- Larger tables: what is accepted with some tables is accepted with any larger ones, with the same rows, so that "accepted" says something
+-- of the file alone. Assumes nothing.
 use Prim.Native.Nat.{ℕ, _+_, _≤_}
 use native.Mathlib.Omega.{arith}
 use mathlib.Core.List.{List, []}
 use lib.ListN.{length}
 use lib.Dec.{ltb, eqb}
-use Rattle.refusal.specs.Said.{Said}
 use Rattle.text.specs.Find.{same}
 use Rattle.table.specs.Table.{capacityOf}
 use Rattle.table.proofs.Larger.{Sure, sure-same, sure-pick, sure-room, sure-onward, sure-from, sure-entries, capacity-up}

@@ -1,9 +1,9 @@
 -- Parts of a file: their bytes, and ranges of a part as ranges of the file. Assumes nothing.
-use Prim.Native.Nat.{ℕ, zero, suc, _+_, _≤_, _<_}
+use Prim.Native.Nat.{ℕ, zero, suc, _+_, _≤_}
 use native.Mathlib.Omega.{arith}
 use mathlib.Core.Path.{_≡_, refl, sym, _∙_, ap, subst}
 use mathlib.Core.List.{List, [], _∷_}
-use lib.ListN.{length, getD, take, drop, length-take}
+use lib.ListN.{length, take, drop, length-take}
 use lib.Seq.{drop-drop, getD-drop, take-take}
 use Rattle.refusal.specs.declared.Part.{Part}
 use Rattle.leb.specs.Reads.{part, bytesOf}

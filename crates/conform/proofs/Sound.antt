@@ -1,37 +1,37 @@
 -- The rows that the reader leaves: ranges lie in the file, kinds and indices are small, tables hold them, and payloads follow one another.
 -- So they never give 15. Assumes nothing.
-use Prim.Native.Nat.{ℕ, zero, suc, _+_, _-_, _*_, _^_, _≤_, _<_}
+use Prim.Native.Nat.{ℕ, zero, suc, _+_, _-_, _≤_, _<_}
 use native.Mathlib.Omega.{arith}
-use mathlib.Core.Path.{_≡_, refl, sym, _∙_, ap, subst}
+use mathlib.Core.Path.{_≡_, refl, subst}
 use mathlib.Core.Bool.{Bool, true, false}
 use mathlib.Core.List.{List, [], _∷_, _++_}
 use lib.ListN.{length, getD, drop, length-append}
-use lib.Dec.{ltb, leb, eqb}
-use borrow.Author.Tests.{ltb-true, leb-true, eqb-true, eqb-false}
+use lib.Dec.{ltb, eqb}
+use borrow.Author.Tests.{ltb-true, eqb-true}
 use Rattle.refusal.specs.Pick.{pick}
-use Rattle.refusal.specs.Said.{Said, accepted, refused, Got, got, onward}
+use Rattle.refusal.specs.Said.{Said, accepted, refused, Got, got}
 use Rattle.refusal.specs.declared.Part.{Part}
-use Rattle.refusal.proofs.Following.{never, read-on}
+use Rattle.refusal.proofs.Following.{never}
 use Rattle.text.specs.Walk.{stop, go, walk}
 use Rattle.text.specs.Find.{same}
 use Rattle.table.specs.Table.{capacityOf}
 use Rattle.table.specs.Entries.{entriesFrom}
 use Rattle.table.specs.Walking.{turned, walkFrom}
 use Rattle.table.proofs.Giving.{Gives, Of, Each, no-row, row, gives-done, gives-stop, gives-pick, gives-onward, gives-from, gives-entries}
-use Rattle.leb.specs.Reads.{part, bytesOf, byteAt, u32At, nameAt, countedAt, fixedAt, takeAt}
-use Rattle.leb.proofs.Bounds.{u32-in, byte-in, counted-in, name-in, take-in}
-use Rattle.wasm.specs.Shapes.{Import, Export, Symbol, Section}
-use Rattle.wasm.specs.Entry.{descAt, importAt, exportAt, symbolAt, moved}
+use Rattle.leb.specs.Reads.{bytesOf, byteAt, u32At, nameAt, countedAt}
+use Rattle.leb.proofs.Bounds.{u32-in, counted-in, name-in}
+use Rattle.wasm.specs.Shapes.{Section}
+use Rattle.wasm.specs.Entry.{descAt, importAt, exportAt, symbolAt}
 use Rattle.wasm.specs.Rows.{importsOf, exportsOf, symbolsOf}
 use Rattle.wasm.specs.Custom.{Names, labelAt, toldBy, subsectionAt, nameWord, Spoken, customAt}
-use Rattle.wasm.specs.Module.{Tables, withSection, Sizes, Inner, plain, contentsAt, addSection, sectionAt, headerAt, magic, noTables}
+use Rattle.wasm.specs.Module.{Tables, Sizes, Inner, contentsAt, sectionAt, headerAt, noTables}
 use Rattle.wasm.specs.Module.{Parsed, moduleAt}
 use Rattle.wasm.proofs.Framing.{contents-keep}
 use Rattle.conform.specs.Claims.{Bytes}
 use Rattle.conform.specs.Sound.{InFile, ImportOk, ExportOk, SymbolOk, SectionOk, NamesOk, TablesOk, Apart, last, next, ModuleOk}
 use Rattle.conform.specs.Sound.{RowsSound}
 use Rattle.conform.proofs.Parts.{part-bytes, part-length}
-use Rattle.conform.proofs.Sections.{Took, took, rowOf}
+use Rattle.conform.proofs.Sections.{took, rowOf}
 use Rattle.conform.proofs.Header.{header-only, version-small}
 
 -- ---- no more rows than there is room for
@@ -261,7 +261,8 @@ each-last : {E : Type 0} (P : E → Type 0) (es : List E) (e : E) → Each P es 
 each-last P [] e no-row h = row h no-row
 each-last P (x ∷ es) e (row p a) h = row p (each-last P es e a h)
 
-apart-last : (a c e : ℕ) (rs : List Section) (r : Section) → Apart a rs c → c < r .from → r .from + r .size ≤ e → Apart a (rs ++ (r ∷ [])) e
+apart-last : (a c e : ℕ) (rs : List Section) (r : Section) → Apart a rs c → c < r .from → r .from + r .size ≤ e
+    → Apart a (rs ++ (r ∷ [])) e
 apart-last a c e [] r (last h) f w = let k : a < r .from = omega (arith, h, f) in next k (last w)
 apart-last a c e (x ∷ rs) r (next h more) f w = next h (apart-last (x .from + x .size) c e rs r more f w)
 
@@ -284,27 +285,30 @@ module _ (b : List ℕ) (bytes : Bytes b) (z : Sizes) where
       let w = k .inner in
       let new = rowOf (k .id) p w in
       let f : p .from + length (bytesOf b p) ≤ length b = omega (arith, k .ends, k .in-b, part-length b p) in
-      let o = contents-ok (length b) z (bytesOf b p) (part-bytes b p bytes) (p .from) f (k .id) t (h .rows-ok) (got w (k .end)) (k .three) in
+      let o =
+      contents-ok (length b) z (bytesOf b p) (part-bytes b p bytes) (p .from) f (k .id) t (h .rows-ok) (got w (k .end)) (k .three) in
       let r = o .tables-ok in
-      let kept = contents-keep (k .id) (bytesOf b p) (p .from) z t w (k .end) (k .three) in
-      (omega (arith, k .past, k .ends), record {
-        rows-ok = rw (k .is) (record {
-          sections-ok = each-last (SectionOk (length b)) (w .tables .sections) new (r .sections-ok)
-              (record {
-                id-byte = byte-small b bytes at (k .id) (k .a) (k .one);
-                payload-in = omega (arith, k .ends, k .in-b);
-                name-in-file = o .name-in-file;
-              });
-          sections-few = omega (arith, k .room, length-append (w .tables .sections) (new ∷ []));
-          imports-ok = r .imports-ok;
-          imports-few = r .imports-few;
-          exports-ok = r .exports-ok;
-          exports-few = r .exports-few;
-          names-ok = r .names-ok;
-        });
-        apart = rw (k .is) (apart-last 8 at d (w .tables .sections) new (rw kept (h .apart)) (k .past) (omega (arith, k .ends)));
-        in-b = k .in-b;
-      })
+      let kept = contents-keep (k .id) (bytesOf b p) (p .from) z t w (k .end) (k .three) in (
+        omega (arith, k .past, k .ends),
+        record {
+          rows-ok = rw (k .is) (record {
+            sections-ok = each-last (SectionOk (length b)) (w .tables .sections) new (r .sections-ok)
+                (record {
+                  id-byte = byte-small b bytes at (k .id) (k .a) (k .one);
+                  payload-in = omega (arith, k .ends, k .in-b);
+                  name-in-file = o .name-in-file;
+                });
+            sections-few = omega (arith, k .room, length-append (w .tables .sections) (new ∷ []));
+            imports-ok = r .imports-ok;
+            imports-few = r .imports-few;
+            exports-ok = r .exports-ok;
+            exports-few = r .exports-few;
+            names-ok = r .names-ok;
+          });
+          apart = rw (k .is) (apart-last 8 at d (w .tables .sections) new (rw kept (h .apart)) (k .past) (omega (arith, k .ends)));
+          in-b = k .in-b;
+        },
+      )
 
   pub nothing-yet : 8 ≤ length b → Before 8 noTables
   unfolding noTables

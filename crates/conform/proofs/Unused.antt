@@ -1,5 +1,5 @@
 -- Bytes after those that are read change nothing of what is accepted: reader by reader. Assumes nothing.
-use Prim.Native.Nat.{ℕ, zero, suc, _+_, _-_, _%_, _≤_, _<_}
+use Prim.Native.Nat.{ℕ, zero, suc, _+_, _-_, _%_, _≤_}
 use native.Mathlib.Omega.{arith}
 use mathlib.Core.Path.{_≡_, refl, sym, _∙_, ap, subst}
 use mathlib.Core.Bool.{Bool, true, false}
@@ -11,8 +11,7 @@ use borrow.Author.Tests.{lt-ltb, le-ltb, le-leb, ltb-true, ltb-false, leb-true}
 use Rattle.refusal.specs.Pick.{pick}
 use Rattle.refusal.specs.Said.{Said, accepted, refused, Got, got, onward}
 use Rattle.refusal.specs.declared.Part.{Part}
-use Rattle.refusal.proofs.Following.{never, read-on}
-use Rattle.table.specs.Table.{capacityOf}
+use Rattle.refusal.proofs.Following.{read-on}
 use Rattle.table.specs.Entries.{entriesFrom}
 use Rattle.table.proofs.Larger.{Sure, sure-same, sure-stop, sure-pick, sure-onward}
 use Rattle.leb.specs.Grammar.{U, lastU, moreU}

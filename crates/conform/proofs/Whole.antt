@@ -1,44 +1,46 @@
 -- A module of the specification is accepted, where the tables have room, with rows that say exactly what it says; and so is one of the
 -- looser grammar. Assumes nothing.
-use Prim.Native.Nat.{ℕ, suc, _+_, _*_, _^_, _≤_, _<_}
+use Prim.Native.Nat.{ℕ, suc, _+_, _≤_, _<_}
 use native.Mathlib.Omega.{arith}
-use mathlib.Core.Path.{_≡_, refl, sym, _∙_, ap, subst}
+use mathlib.Core.Path.{_≡_, refl, _∙_, ap}
 use mathlib.Core.Bool.{Bool, true, false}
 use mathlib.Core.List.{List, [], _∷_, _++_, append-assoc, append-nil}
 use lib.ListN.{length, drop, length-drop, length-append}
-use lib.Dec.{eqb}
-use borrow.Author.Tests.{lt-ltb, le-ltb, le-leb, ne-eqb}
-use Rattle.refusal.specs.Said.{Said, accepted, Got, got, onward}
-use Rattle.refusal.specs.declared.Part.{Part}
+use borrow.Author.Tests.{lt-ltb, le-ltb, ne-eqb}
+use Rattle.refusal.specs.Said.{accepted, got, onward}
 use Rattle.text.specs.Find.{same}
 use Rattle.text.proofs.FindLaws.{same-is, same-self}
 use Rattle.table.specs.Table.{capacityOf}
 use Rattle.table.specs.Walking.{walkFrom}
 use Rattle.table.proofs.Walking.{from-end, from-go}
 use Rattle.table.proofs.Giving.{Each, no-row, row}
-use Rattle.leb.specs.Reads.{part, bytesOf, byteAt, nameAt, fixedAt, takeAt}
+use Rattle.leb.specs.Reads.{part, bytesOf, byteAt}
 use Rattle.wasm.specs.Shapes.{Import, Export, Symbol, Section}
 use Rattle.wasm.specs.Entry.{moved}
 use Rattle.wasm.specs.Custom.{Names, labelAt, toldBy, subsectionAt, nameWord, customAt}
 use Rattle.wasm.specs.Module.{Tables, withSection, withImports, withExports, withNames, Sizes, Inner, plain, contentsAt, addSection}
-use Rattle.wasm.specs.Module.{sectionAt, noTables, headerAt, magic, moduleAt}
-use Rattle.conform.specs.Grammar.{U32, Vec, ImportOf, ExportOf, FunctionOf, SubOf, moduleName, functionNames, nameBytes, Content}
+use Rattle.wasm.specs.Module.{sectionAt, noTables, moduleAt}
+use Rattle.conform.specs.Grammar.{ImportOf, ExportOf, FunctionOf, SubOf, nameBytes, Content}
 use Rattle.conform.specs.Grammar.{SubG, SubsG, ContentG, SectionOf, SectionG, section, SectionsG, ModuleG}
 use Rattle.conform.specs.Claims.{Bytes, All, nil, cons, titleOf, SectionHere, ImportHere, ExportHere, FunctionHere}
-use Rattle.conform.specs.Claims.{Called, unnamed, called, CalledHere, importsOr, exportsOr, nameOr, functionsOf, nameIn, functionsIn}
-use Rattle.conform.specs.Claims.{subsOf, importsLast, exportsLast, nameLast, functionsAll, Fits, FitsIn, Room, ReadAs, ModulesConform}
-use Rattle.conform.specs.Loose.{LooseSub, LooseSubs, LooseContent, LooseSections, versionOf, LooseHeader, LooseModule}
+use Rattle.conform.specs.Claims.{Called, unnamed, CalledHere, importsOr, exportsOr, nameOr, functionsOf, nameIn, functionsIn}
+use Rattle.conform.specs.Claims.{subsOf, importsLast, exportsLast, nameLast, functionsAll, Fits, FitsIn, ModulesConform}
+use Rattle.conform.specs.Loose.{LooseSub, LooseSubs, LooseContent, LooseSections, LooseHeader, LooseModule}
+use Rattle.conform.specs.Beyond.{LooseConform}
 use Rattle.conform.proofs.Parts.{In, same-part, in-part, in-bytes}
+use Rattle.conform.proofs.Sections.{rowOf}
 use Rattle.conform.proofs.Header.{header-reads}
-use Rattle.conform.proofs.Conform.{Stands, PartStands, byte-reads, part-reads, NameStands, name-reads, ImportRow, ExportRow}
+use Rattle.conform.proofs.Conform.{PartStands, byte-reads, part-reads, name-reads, ImportRow, ExportRow}
 use Rattle.conform.proofs.Conform.{FunctionRow, imports-read, exports-read, functions-read}
 
 -- ---- rows that agree
-all-map : {X E : Type 0} {R S : E → X → Type 0} → ((e : E) (v : X) → R e v → S e v) → (es : List E) (vs : List X) → All R es vs → All S es vs
+all-map : {X E : Type 0} {R S : E → X → Type 0} → ((e : E) (v : X) → R e v → S e v) → (es : List E) (vs : List X) → All R es vs
+    → All S es vs
 all-map f [] [] nil = nil
 all-map f (e ∷ es) (v ∷ vs) (cons r a) = cons (f e v r) (all-map f es vs a)
 
-all-append : {X E : Type 0} {R : E → X → Type 0} (es fs : List E) (vs ws : List X) → All R es vs → All R fs ws → All R (es ++ fs) (vs ++ ws)
+all-append : {X E : Type 0} {R : E → X → Type 0} (es fs : List E) (vs ws : List X) → All R es vs → All R fs ws
+    → All R (es ++ fs) (vs ++ ws)
 all-append [] fs [] ws nil b = b
 all-append (e ∷ es) fs (v ∷ vs) ws (cons r a) b = cons r (all-append es fs vs ws a b)
 
@@ -271,7 +273,7 @@ module _ (b : List ℕ) (bytes : Bytes b) (size : length b < 1844674407370955161
       → (g : PartStands b bytes size (at + 1) p r) → contentsAt id p (g .start) z t ≡ accepted (got u e)
       → length (u .tables .sections) < capacityOf (z .sections) 5 256
       → sectionAt b z at t
-      ≡ accepted (got (withSection (u .tables) (record { id = id; from = g .start; size = length p; name = u .name })) (g .start + length p))
+      ≡ accepted (got (withSection (u .tables) (rowOf id (part (g .start) (length p)) u)) (g .start + length p))
   unfolding sectionAt onward addSection
   frame at id e p r t u one g c room = rw (one, g .is, g .holds, c, lt-ltb _ _ room)
 
@@ -307,7 +309,8 @@ module _ (b : List ℕ) (bytes : Bytes b) (size : length b < 1844674407370955161
         functions-are = rw (append-nil fs) hf;
         name-is = hc;
       }
-  sections-read at l (v ∷ vs) t ss xs ys fs c e k (LooseSections.then {id = id} {l = m} {p = p} {r = r} {c = d} u x more) (row f others) room names hs hx hy hf hc =
+  sections-read at l (v ∷ vs) t ss xs ys fs c e k (LooseSections.then {id = id} {l = m} {p = p} {r = r} {c = d} u x more)
+      (row f others) room names hs hx hy hf hc =
       let one = byte-reads b bytes size at id m e in
       let g = part-reads b bytes size (at + 1) m p r (one .1) u in
       let fd = functionsIn (subsOf d) in
@@ -315,7 +318,7 @@ module _ (b : List ℕ) (bytes : Bytes b) (size : length b < 1844674407370955161
       let in-b : In b (g .start) p = record { holds = g .holds; inside = g .inside } in
       let o = content-reads id p (g .start) t d in-b x f (omega (arith, n)) in
       let w = o .inner in
-      let new : Section = record { id = id; from = g .start; size = length p; name = w .name } in
+      let new = rowOf id (part (g .start) (length p)) w in
       let sections-kept : length (w .tables .sections) ≡ length (t .sections) = ap length (o .keeps) in
       let step = frame at id (o .next) p r t w (one .0) g (o .is) (omega (arith, sections-kept)) in
       let a = o .adds in
@@ -330,7 +333,9 @@ module _ (b : List ℕ) (bytes : Bytes b) (size : length b < 1844674407370955161
       record {
         tables = i .tables;
         next = i .next;
-        is = from-go (sectionAt b z) b at t (withSection (w .tables) new) (g .start + length p) step (omega (arith, g .past)) (g .inside) ∙ i .is;
+        is =
+            from-go (sectionAt b z) b at t (withSection (w .tables) new) (g .start + length p) step (omega (arith, g .past)) (g .inside)
+            ∙ i .is;
         sections-are = rw append-assoc at (i .sections-are);
         imports-are = i .imports-are;
         exports-are = i .exports-are;
@@ -339,8 +344,7 @@ module _ (b : List ℕ) (bytes : Bytes b) (size : length b < 1844674407370955161
       }
 
 -- ---- a module of the looser grammar
-pub loose-conform : (b : List ℕ) (z : Sizes) (vs : List SectionOf) → Bytes b → length b ≤ 16777216 → Room z vs → LooseModule b vs
-    → ReadAs b z (versionOf b) vs
+pub loose-conform : LooseConform
 unfolding moduleAt onward noTables
 loose-conform b z vs bytes short room (LooseModule.modul h s) =
     let i =

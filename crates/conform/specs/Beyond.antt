@@ -5,7 +5,7 @@ use mathlib.Core.Path.{_≡_}
 use mathlib.Core.Bool.{true, false}
 use mathlib.Core.List.{List, [], _∷_, _++_}
 use lib.ListN.{length, drop}
-use Rattle.refusal.specs.Said.{Said, accepted, refused, Got, got}
+use Rattle.refusal.specs.Said.{accepted, refused, got}
 use Rattle.refusal.specs.declared.Part.{Part}
 use Rattle.leb.specs.Grammar.{U}
 use Rattle.leb.specs.Reads.{part, bytesOf, byteAt, u32At, nameAt, countedAt}
@@ -35,9 +35,12 @@ LooseConform =
 -- whatever is accepted as the contents of an import or export section or of a name subsection is accepted with any bytes after it: the
 -- same rows
 pub record UnusedBytes (s more : List ℕ) (base n : ℕ) : Type 0 where
-  pub imports : (rows : List Import) (d : ℕ) → importsOf s base n ≡ accepted (got rows d) → importsOf (s ++ more) base n ≡ accepted (got rows d)
-  pub exports : (rows : List Export) (d : ℕ) → exportsOf s base n ≡ accepted (got rows d) → exportsOf (s ++ more) base n ≡ accepted (got rows d)
-  pub names : (id : ℕ) (t u : Names) (d : ℕ) → toldBy id s base n t ≡ accepted (got u d) → toldBy id (s ++ more) base n t ≡ accepted (got u d)
+  pub imports : (rows : List Import) (d : ℕ) → importsOf s base n ≡ accepted (got rows d)
+      → importsOf (s ++ more) base n ≡ accepted (got rows d)
+  pub exports : (rows : List Export) (d : ℕ) → exportsOf s base n ≡ accepted (got rows d)
+      → exportsOf (s ++ more) base n ≡ accepted (got rows d)
+  pub names : (id : ℕ) (t u : Names) (d : ℕ) → toldBy id s base n t ≡ accepted (got u d)
+      → toldBy id (s ++ more) base n t ≡ accepted (got u d)
 
 -- an import or export section starts its table anew, whatever the tables t hold
 pub record StartAnew (s : List ℕ) (base : ℕ) (z : Sizes) (t : Tables) : Type 0 where
@@ -53,7 +56,8 @@ AnyId =
     → contentsAt id s base z t ≡ accepted (got (plain t) 0)
 
 -- of a limits flag only bit 0 counts
-pub record FlagBits (s : List ℕ) (at f a n c : ℕ) (flag : byteAt s at ≡ accepted (got f a)) (low : u32At s a ≡ accepted (got n c)) : Type 0 where
+pub record FlagBits (s : List ℕ) (at f a n c : ℕ) (flag : byteAt s at ≡ accepted (got f a)) (low : u32At s a ≡ accepted (got n c))
+    : Type 0 where
   pub even : f % 2 ≡ 0 → limitsAt s at ≡ accepted (got (record { flag = f; least = n; bounded = false; most = 0 }) c)
   pub odd : f % 2 ≡ 1 → (m d : ℕ) → u32At s c ≡ accepted (got m d)
       → limitsAt s at ≡ accepted (got (record { flag = f; least = n; bounded = true; most = m }) d)
@@ -62,7 +66,8 @@ pub record FlagBits (s : List ℕ) (at f a n c : ℕ) (flag : byteAt s at ≡ ac
 abbrev pub ExportKinds : Type 0
 ExportKinds =
     (s : List ℕ) (base at : ℕ) (p : Part) (a kind c index d : ℕ) → nameAt s at ≡ accepted (got p a) → byteAt s a ≡ accepted (got kind c)
-    → u32At s c ≡ accepted (got index d) → exportAt s base at ≡ accepted (got (record { name = moved base p; kind = kind; index = index }) d)
+    → u32At s c ≡ accepted (got index d)
+    → exportAt s base at ≡ accepted (got (record { name = moved base p; kind = kind; index = index }) d)
 
 -- so may a table's element type
 abbrev pub ElementTypes : Type 0
@@ -93,7 +98,8 @@ FirstRefusal =
 abbrev pub FaultyNames : Type 0
 FaultyNames =
     (b : List ℕ) (z : Sizes) (at a d n q : ℕ) (t : Tables) (p : Part) → Comes b z at t → byteAt b at ≡ accepted (got 0 a)
-    → countedAt b a ≡ accepted (got p d) → customAt (bytesOf b p) (p .from) (z .names) (t .names) ≡ refused n q → moduleAt b z ≡ refused n q
+    → countedAt b a ≡ accepted (got p d) → customAt (bytesOf b p) (p .from) (z .names) (t .names) ≡ refused n q
+    → moduleAt b z ≡ refused n q
 
 -- ---- smallest inputs
 abbrev pub file : List ℕ → List ℕ

@@ -1,5 +1,5 @@
--- docs/PROMISES.md, "Against the specification": what a module of the grammar says, and what it is to be read as that: rows whose ranges of
--- the file hold the names. Assumes nothing.
+-- docs/PROMISES.md, "Against the specification": what a module of the grammar says, and what it is to be read as that: rows whose ranges
+-- of the file hold the names. Assumes nothing.
 use Prim.Native.Nat.{ℕ, _≤_, _<_}
 use mathlib.Core.Path.{_≡_}
 use mathlib.Core.Bool.{true, false}

@@ -1,5 +1,5 @@
 -- The WebAssembly Core Specification 2.0, binary format, as the specification writes it and apart from what the port reads: values (5.2),
--- types (5.3), sections (5.5.2 to 5.5.10), modules (5.5.16), the name section (appendix 7.4.1). Integers and names are those of leb, Grammar.
+-- types (5.3), sections (5.5.2 to 5.5.10), modules (5.5.16), the name section (appendix 7.4.1). Integers and names are leb's, in Grammar.
 -- `X l v r`: the front of l, up to r, is an X whose value is v. Assumes nothing.
 use Prim.Native.Nat.{ℕ, zero, suc, _≤_, _<_}
 use mathlib.Core.Path.{_≡_}
