@@ -1,4 +1,5 @@
 -- Laws of the reader against the grammar.
+pub mod Example
 pub mod Parts
 pub mod Header
 pub mod Sections

@@ -18,8 +18,8 @@ use Rattle.conform.specs.Beyond.{Smallest}
 
 pub smallest : Smallest
 unfolding moduleAt headerAt magic takeAt fixedAt onward same walkFrom turned walk sectionAt byteAt countedAt u32At ulebAt told narrowed uN
-    grown spent contentsAt customAt nameWord subsectionAt nameAt checked upTo scan seqLen after covers follow followIn importsOf entriesFrom
-    capacityOf importAt descAt funcAt addSection noTables limitsAt exportAt tableAt globalAt
+    grown spent contentsAt customAt nameWord subsectionAt nameAt checked upTo scan seqLen after covers follow followIn importsOf
+    entriesFrom capacityOf importAt descAt funcAt addSection noTables limitsAt exportAt tableAt globalAt
 smallest =
     record {
       version = refl;

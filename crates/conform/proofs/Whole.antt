@@ -15,7 +15,7 @@ use Rattle.table.specs.Walking.{walkFrom}
 use Rattle.table.proofs.Walking.{from-end, from-go}
 use Rattle.table.proofs.Giving.{Each, no-row, row}
 use Rattle.leb.specs.Reads.{part, bytesOf, byteAt}
-use Rattle.wasm.specs.Shapes.{Import, Export, Symbol, Section}
+use Rattle.wasm.specs.Shapes.{Import, Export, Symbol}
 use Rattle.wasm.specs.Entry.{moved}
 use Rattle.wasm.specs.Custom.{Names, labelAt, toldBy, subsectionAt, nameWord, customAt}
 use Rattle.wasm.specs.Module.{Tables, withSection, withImports, withExports, withNames, Sizes, Inner, plain, contentsAt, addSection}
