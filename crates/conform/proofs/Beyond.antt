@@ -13,7 +13,7 @@ use Rattle.leb.proofs.Beyond.{u32-long}
 use Rattle.leb.proofs.Bounds.{byte-in}
 use Rattle.wasm.specs.Entry.{limitsAt, tableAt, globalAt, exportAt}
 use Rattle.wasm.specs.Module.{Tables, Sizes, contentsAt, sectionAt, moduleAt}
-use Rattle.conform.specs.Loose.{versionOf}
+use Rattle.conform.specs.Port.{versionOf}
 use Rattle.conform.specs.Beyond.{AnyVersion, StartAnew, AnyId, FlagBits, ExportKinds, ElementTypes, GlobalTypes, LongSizes}
 use Rattle.conform.specs.Beyond.{FirstRefusal, FaultyNames}
 use Rattle.conform.specs.Sound.{Comes, start, after}

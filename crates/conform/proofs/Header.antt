@@ -17,9 +17,9 @@ use Rattle.leb.specs.Reads.{bytesOf, takeAt, fixedAt}
 use Rattle.leb.proofs.Bounds.{take-in}
 use Rattle.wasm.specs.Module.{headerAt, magic}
 use Rattle.conform.specs.Claims.{Bytes}
-use Rattle.conform.specs.Loose.{versionOf, LooseHeader}
+use Rattle.conform.specs.Port.{versionOf, AnyHeader}
 
-pub header-reads : (b : List ℕ) → LooseHeader b → headerAt b ≡ accepted (got (versionOf b) 8)
+pub header-reads : (b : List ℕ) → AnyHeader b → headerAt b ≡ accepted (got (versionOf b) 8)
 unfolding headerAt onward takeAt fixedAt magic
 header-reads b h =
     let m : same (0x00 ∷ 0x61 ∷ 0x73 ∷ 0x6D ∷ []) (take 4 b) ≡ true = rw (h .starts) (same-self (0x00 ∷ 0x61 ∷ 0x73 ∷ 0x6D ∷ [])) in
@@ -33,7 +33,7 @@ header-reads b h =
 
 -- what was read of a header
 pub record HeaderOnly (b : List ℕ) (v d : ℕ) : Type 0 where
-  pub header : LooseHeader b
+  pub header : AnyHeader b
   pub version-is : v ≡ versionOf b
   pub next-is : d ≡ 8
 

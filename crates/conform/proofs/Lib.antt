@@ -5,6 +5,7 @@ pub mod Header
 pub mod Sections
 pub mod Conform
 pub mod Whole
+pub mod Strict
 pub mod Larger
 pub mod Sound
 pub mod Enough

@@ -1,5 +1,5 @@
 -- docs/DIFFERENCES.md, "The module": one law for each difference between the reader and the specification's grammar, and smallest inputs.
--- Whole modules are Loose.antt's; entries, numbers and refusals are here. Assumes nothing.
+-- All that is accepted, and as what, is Port.antt's (Claims: `AnyConform`, `OnlyThese`); here are laws on the reader itself. Assumes nothing.
 use Prim.Native.Nat.{ℕ, _+_, _%_, _^_, _≤_, _<_}
 use mathlib.Core.Path.{_≡_}
 use mathlib.Core.Bool.{true, false}
@@ -14,23 +14,14 @@ use Rattle.wasm.specs.Entry.{limitsAt, tableAt, globalAt, exportAt, moved}
 use Rattle.wasm.specs.Rows.{importsOf, exportsOf}
 use Rattle.wasm.specs.Custom.{Names, toldBy, customAt}
 use Rattle.wasm.specs.Module.{Tables, Sizes, withImports, withExports, plain, contentsAt, sectionAt, headerAt, noTables, moduleAt}
-use Rattle.conform.specs.Grammar.{SectionOf}
-use Rattle.conform.specs.Claims.{Bytes, Room, ReadAs}
-use Rattle.conform.specs.Loose.{versionOf, LooseHeader, LooseModule}
+use Rattle.conform.specs.Port.{versionOf, AnyHeader}
 use Rattle.conform.specs.Sound.{Comes, limits}
 
 -- ---- accepted beyond the grammar
 -- the header: exactly the magic with any version but zero
 pub record AnyVersion (b : List ℕ) : Type 0 where
-  pub taken : LooseHeader b → headerAt b ≡ accepted (got (versionOf b) 8)
-  pub only : (v d : ℕ) → headerAt b ≡ accepted (got v d) → LooseHeader b × (v ≡ versionOf b) × (d ≡ 8)
-
--- sections and name subsections in any order and repeated, unused bytes after their entries, any id, any version: the module is accepted
--- with what the grammar says of its entries; of repeated sections the last one's imports and exports stand, and names add up
-abbrev pub LooseConform : Type 0
-LooseConform =
-    (b : List ℕ) (z : Sizes) (vs : List SectionOf) → Bytes b → length b ≤ 16777216 → Room z vs → LooseModule b vs
-    → ReadAs b z (versionOf b) vs
+  pub taken : AnyHeader b → headerAt b ≡ accepted (got (versionOf b) 8)
+  pub only : (v d : ℕ) → headerAt b ≡ accepted (got v d) → AnyHeader b × (v ≡ versionOf b) × (d ≡ 8)
 
 -- whatever is accepted as the contents of an import or export section or of a name subsection is accepted with any bytes after it: the
 -- same rows

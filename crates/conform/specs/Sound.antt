@@ -12,7 +12,7 @@ use Rattle.wasm.specs.Shapes.{Import, Export, Symbol, Section}
 use Rattle.wasm.specs.Custom.{Names}
 use Rattle.wasm.specs.Module.{Tables, Sizes, Parsed, noTables, sectionAt, moduleAt}
 use Rattle.conform.specs.Claims.{Bytes}
-use Rattle.conform.specs.Loose.{LooseHeader}
+use Rattle.conform.specs.Port.{AnyHeader}
 
 -- ---- a file of n bytes
 abbrev pub InFile : ℕ → Part → Type 0
@@ -69,7 +69,7 @@ RowsSound = (b : List ℕ) (z : Sizes) (m : Parsed) → Bytes b → moduleAt b z
 
 -- the reader of b comes to an offset with the tables t: from the header on, section after section
 pub data Comes (b : List ℕ) (z : Sizes) : ℕ → Tables → Type 0 where
-  start : LooseHeader b → length b ≤ 16777216 → Comes b z 8 noTables
+  start : AnyHeader b → length b ≤ 16777216 → Comes b z 8 noTables
   after : {at d : ℕ} {t u : Tables} → Comes b z at t → sectionAt b z at t ≡ accepted (got u d) → Comes b z d u
 
 -- the tables that it comes with never hold more rows than they have room for
