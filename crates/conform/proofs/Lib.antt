@@ -4,6 +4,7 @@ pub mod Parts
 pub mod Header
 pub mod Sections
 pub mod Conform
+pub mod Saying
 pub mod Whole
 pub mod Strict
 pub mod Larger

@@ -24,64 +24,14 @@ use Rattle.conform.specs.Port.{Number, ImportSaid, ExportSaid, AnySub, F
 use Rattle.conform.specs.Port.{AnyModule}
 use Rattle.conform.specs.Claims.{All, nil, cons, titleOf, SectionHere, ImportHere, ExportHere, FunctionHere}
 use Rattle.conform.specs.Claims.{Called, unnamed, CalledHere, importsOr, exportsOr, nameOr, functionsOf, nameIn, functionsIn}
-use Rattle.conform.specs.Claims.{subsOf, importsLast, exportsLast, nameLast, functionsAll, Fits, FitsIn, AnyConform}
+use Rattle.conform.specs.Claims.{subsOf, importsLast, exportsLast, nameLast, functionsAll, Fits, FitsIn, Rows, AnyConform}
+use Rattle.conform.proofs.Saying.{all-map, all-append, all-length, import-here, export-here, function-here, Adds, adds-nothing, adds-more}
+use Rattle.conform.proofs.Saying.{Leaves, Says, grown, Tells, tells-nothing, tells-more}
 use Rattle.conform.proofs.Parts.{In, same-part, in-part}
 use Rattle.conform.proofs.Sections.{rowOf}
 use Rattle.conform.proofs.Header.{header-reads}
 use Rattle.conform.proofs.Conform.{PartStands, byte-reads, part-reads, name-reads, ImportRow, ExportRow}
 use Rattle.conform.proofs.Conform.{FunctionRow, imports-read, exports-read, functions-read}
-
--- ---- rows that agree
-all-map : {X E : Type 0} {R S : E → X → Type 0} → ((e : E) (v : X) → R e v → S e v) → (es : List E) (vs : List X) → All R es vs
-    → All S es vs
-all-map f [] [] nil = nil
-all-map f (e ∷ es) (v ∷ vs) (cons r a) = cons (f e v r) (all-map f es vs a)
-
-all-append : {X E : Type 0} {R : E → X → Type 0} (es fs : List E) (vs ws : List X) → All R es vs → All R fs ws
-    → All R (es ++ fs) (vs ++ ws)
-all-append [] fs [] ws nil b = b
-all-append (e ∷ es) fs (v ∷ vs) ws (cons r a) b = cons r (all-append es fs vs ws a b)
-
-all-length : {X E : Type 0} {R : E → X → Type 0} (es : List E) (vs : List X) → All R es vs → length es ≡ length vs
-all-length [] [] nil = refl
-all-length (e ∷ es) (v ∷ vs) (cons r a) = ap suc (all-length es vs a)
-
--- rows of a part are rows of the file
-module _ (b s : List ℕ) (base : ℕ) (in-b : In b base s) (size : length s < 18446744073709551616) where
-  import-here : (e : Import) (v : ImportSaid) → ImportRow s size base e v → ImportHere b e v
-  import-here e v h =
-      record {
-        module-is = ap (λ (x : Import). bytesOf b (x .«module»)) (h .row-is) ∙ same-part in-b (h .first) (h .first-in) ∙ h .module-is;
-        field-is = ap (λ (x : Import). bytesOf b (x .field)) (h .row-is) ∙ same-part in-b (h .second) (h .second-in) ∙ h .field-is;
-        kind-is = ap (λ (x : Import). x .kind) (h .row-is);
-        desc-is = ap (λ (x : Import). x .desc) (h .row-is);
-      }
-
-  export-here : (e : Export) (v : ExportSaid) → ExportRow s size base e v → ExportHere b e v
-  export-here e v h =
-      record {
-        name-is = ap (λ (x : Export). bytesOf b (x .name)) (h .row-is) ∙ same-part in-b (h .first) (h .first-in) ∙ h .name-is;
-        kind-is = ap (λ (x : Export). x .kind) (h .row-is);
-        index-is = ap (λ (x : Export). x .index) (h .row-is);
-      }
-
-  function-here : (e : Symbol) (v : FunctionOf) → FunctionRow s size base e v → FunctionHere b e v
-  function-here e v h =
-      record {
-        index-is = ap (λ (x : Symbol). x .index) (h .row-is);
-        name-is = ap (λ (x : Symbol). bytesOf b (x .name)) (h .row-is) ∙ same-part in-b (h .first) (h .first-in) ∙ h .name-is;
-      }
-
--- ---- the name section
--- the names u say what t said and then what fs and f add
-record Adds (b : List ℕ) (t u : Names) (fs : List FunctionOf) (f : Called → Called) : Type 0 where
-  grows : length (u .symbols) ≡ length (t .symbols) + length fs
-  functions-are : (gs : List FunctionOf) → All (FunctionHere b) (t .symbols) gs → All (FunctionHere b) (u .symbols) (gs ++ fs)
-  name-is : (c : Called) → CalledHere b (t .label) c → CalledHere b (u .label) (f c)
-
-adds-nothing : (b : List ℕ) (t : Names) → Adds b t t [] (λ c. c)
-adds-nothing b t =
-    record { grows = omega arith; functions-are = λ gs h. rw (append-nil gs) h; name-is = λ c h. h }
 
 -- what a subsection's bytes q, from a in the file, tell
 module _ (b q : List ℕ) (a : ℕ) (in-b : In b a q) (size : length q < 18446744073709551616) (cells : ℕ) where
@@ -157,18 +107,12 @@ module _ (b s : List ℕ) (base : ℕ) (in-b : In b base s) (size : length s < 1
       (omega (arith, n)) in
       let step : subsectionAt s base cells at t ≡ accepted (got (o .names) (g .start + length p)) =
       rw (one .0, g .is, g .holds, o .is) in
-      let a = o .adds in
-      let i = subs-tell (g .start + length p) r (o .names) vs (g .rest) (g .inside) more (omega (arith, n, a .grows)) in
-      let c = i .adds in
+      let i = subs-tell (g .start + length p) r (o .names) vs (g .rest) (g .inside) more (omega (arith, n, o .adds .grows)) in
       record {
         names = i .names;
         next = i .next;
         is = from-go (subsectionAt s base cells) s at t (o .names) (g .start + length p) step (omega (arith, g .past)) (g .inside) ∙ i .is;
-        adds = record {
-          grows = omega (arith, n, a .grows, c .grows);
-          functions-are = λ gs h. rw append-assoc at (c .functions-are (gs ++ functionsOf v) (a .functions-are gs h));
-          name-is = λ d h. c .name-is (nameOr d v) (a .name-is d h);
-        };
+        adds = adds-more b t (o .names) (i .names) _ _ (λ c. nameOr c v) (λ c. nameIn c vs) (o .adds) (i .adds);
       }
 
 -- ---- sections
@@ -178,13 +122,7 @@ module _ (b : List ℕ) (size : length b < 18446744073709551616) (z : Sizes) whe
     inner : Inner
     next : ℕ
     is : contentsAt id p a z t ≡ accepted (got inner next)
-    keeps : inner .tables .sections ≡ t .sections
-    title-is : bytesOf b (inner .name) ≡ titleOf c
-    imports-are : (xs : List ImportSaid) → All (ImportHere b) (t .imports) xs
-        → All (ImportHere b) (inner .tables .imports) (importsOr xs c)
-    exports-are : (xs : List ExportSaid) → All (ExportHere b) (t .exports) xs
-        → All (ExportHere b) (inner .tables .exports) (exportsOr xs c)
-    adds : Adds b (t .names) (inner .tables .names) (functionsIn (subsOf c)) (λ d. nameIn d (subsOf c))
+    leaves : Leaves b t inner c
 
   content-reads : (id : ℕ) (p : List ℕ) (a : ℕ) (t : Tables) (c : Held) → In b a p → AnyContent id p c → Fits z c
       → length (t .names .symbols) + length (functionsIn (subsOf c)) ≤ capacityOf (z .names) 3 4096 → Contained id p a t c
@@ -197,11 +135,13 @@ module _ (b : List ℕ) (size : length b < 18446744073709551616) (z : Sizes) whe
         inner = plain (withImports t (o .0));
         next = st .next;
         is = rw (st .is);
-        keeps = refl;
-        title-is = refl;
-        imports-are = λ xs h. all-map (import-here b p a i ps) (o .0) vs (o .2);
-        exports-are = λ xs h. h;
-        adds = adds-nothing b (t .names);
+        leaves = record {
+          keeps = refl;
+          title-is = refl;
+          imports-are = λ xs h. all-map (import-here b p a i ps) (o .0) vs (o .2);
+          exports-are = λ xs h. h;
+          adds = adds-nothing b (t .names);
+        };
       }
   content-reads id p a t c i (AnyContent.exports {r = r} {vs = vs} w) fits room =
       let ps : length p < 18446744073709551616 = omega (arith, i .inside) in
@@ -211,22 +151,26 @@ module _ (b : List ℕ) (size : length b < 18446744073709551616) (z : Sizes) whe
         inner = plain (withExports t (o .0));
         next = st .next;
         is = rw (st .is);
-        keeps = refl;
-        title-is = refl;
-        imports-are = λ xs h. h;
-        exports-are = λ xs h. all-map (export-here b p a i ps) (o .0) vs (o .2);
-        adds = adds-nothing b (t .names);
+        leaves = record {
+          keeps = refl;
+          title-is = refl;
+          imports-are = λ xs h. h;
+          exports-are = λ xs h. all-map (export-here b p a i ps) (o .0) vs (o .2);
+          adds = adds-nothing b (t .names);
+        };
       }
   content-reads id p a t c i (AnyContent.unread n0 n2 n7) fits room =
       record {
         inner = plain t;
         next = 0;
         is = rw (ne-eqb id 0 n0, ne-eqb id 2 n2, ne-eqb id 7 n7);
-        keeps = refl;
-        title-is = refl;
-        imports-are = λ xs h. h;
-        exports-are = λ xs h. h;
-        adds = adds-nothing b (t .names);
+        leaves = record {
+          keeps = refl;
+          title-is = refl;
+          imports-are = λ xs h. h;
+          exports-are = λ xs h. h;
+          adds = adds-nothing b (t .names);
+        };
       }
   content-reads id p a t c i (AnyContent.custom {n = n} {q = q} w other) fits room =
       let ps : length p < 18446744073709551616 = omega (arith, i .inside) in
@@ -236,11 +180,13 @@ module _ (b : List ℕ) (size : length b < 18446744073709551616) (z : Sizes) whe
         inner = record { name = moved a (m .range); tables = withNames t (t .names) };
         next = m .next;
         is = rw (m .is, f);
-        keeps = refl;
-        title-is = same-part i (m .range) (m .inside) ∙ m .holds;
-        imports-are = λ xs h. h;
-        exports-are = λ xs h. h;
-        adds = adds-nothing b (t .names);
+        leaves = record {
+          keeps = refl;
+          title-is = same-part i (m .range) (m .inside) ∙ m .holds;
+          imports-are = λ xs h. h;
+          exports-are = λ xs h. h;
+          adds = adds-nothing b (t .names);
+        };
       }
     where
       different : (x : Bool) → same nameBytes n ≡ x → same nameBytes n ≡ false
@@ -255,11 +201,13 @@ module _ (b : List ℕ) (size : length b < 18446744073709551616) (z : Sizes) whe
         inner = record { name = moved a (m .range); tables = withNames t (o .names) };
         next = o .next;
         is = rw (m .is, f, o .is);
-        keeps = refl;
-        title-is = same-part i (m .range) (m .inside) ∙ m .holds;
-        imports-are = λ xs h. h;
-        exports-are = λ xs h. h;
-        adds = o .adds;
+        leaves = record {
+          keeps = refl;
+          title-is = same-part i (m .range) (m .inside) ∙ m .holds;
+          imports-are = λ xs h. h;
+          exports-are = λ xs h. h;
+          adds = o .adds;
+        };
       }
 
   -- a section that was framed and whose contents were read
@@ -279,12 +227,7 @@ module _ (b : List ℕ) (size : length b < 18446744073709551616) (z : Sizes) whe
     rest : drop next b ≡ r
     past : at < next
     in-b : next ≤ length b
-    row : Section
-    added : tables .sections ≡ t .sections ++ (row ∷ [])
-    row-is : SectionHere b row v
-    imports-are : (xs : List ImportSaid) → All (ImportHere b) (t .imports) xs → All (ImportHere b) (tables .imports) (importsOr xs (v .holds))
-    exports-are : (xs : List ExportSaid) → All (ExportHere b) (t .exports) xs → All (ExportHere b) (tables .exports) (exportsOr xs (v .holds))
-    adds : Adds b (t .names) (tables .names) (functionsIn (subsOf (v .holds))) (λ d. nameIn d (subsOf (v .holds)))
+    says : Says b t tables v
 
   section-reads : (at id : ℕ) (l m p r : List ℕ) (t : Tables) (c : Held) → drop at b ≡ id ∷ m → Number m (length p) (p ++ r)
       → AnyContent id p c → Fits z c → length (t .sections) < capacityOf (z .sections) 5 256
@@ -296,7 +239,7 @@ module _ (b : List ℕ) (size : length b < 18446744073709551616) (z : Sizes) whe
       let o = content-reads id p (g .start) t c (record { holds = g .holds; inside = g .inside }) x fits names in
       let w = o .inner in
       let new = rowOf id (part (g .start) (length p)) w in
-      let kept : length (w .tables .sections) ≡ length (t .sections) = ap length (o .keeps) in
+      let kept : length (w .tables .sections) ≡ length (t .sections) = ap length (o .leaves .keeps) in
       record {
         tables = withSection (w .tables) new;
         next = g .start + length p;
@@ -304,25 +247,15 @@ module _ (b : List ℕ) (size : length b < 18446744073709551616) (z : Sizes) whe
         rest = g .rest;
         past = omega (arith, g .past);
         in-b = g .inside;
-        row = new;
-        added = ap (λ (k : List Section). k ++ (new ∷ [])) (o .keeps);
-        row-is = record { id-is = refl; payload-is = g .holds; name-is = o .title-is };
-        imports-are = o .imports-are;
-        exports-are = o .exports-are;
-        adds = o .adds;
+        says = record {
+          row = new;
+          added = ap (λ (k : List Section). k ++ (new ∷ [])) (o .leaves .keeps);
+          row-is = record { id-is = refl; payload-is = g .holds; name-is = o .leaves .title-is };
+          imports-are = o .leaves .imports-are;
+          exports-are = o .leaves .exports-are;
+          adds = o .leaves .adds;
+        };
       }
-
-  -- sections to the end of the file
-  record Read (at : ℕ) (t : Tables) (ss : List SectionSaid) (xs : List ImportSaid) (ys : List ExportSaid) (fs : List FunctionOf) (c : Called)
-      : Type 0 where
-    tables : Tables
-    next : ℕ
-    is : walkFrom (sectionAt b z) b at t ≡ accepted (got tables next)
-    sections-are : All (SectionHere b) (tables .sections) ss
-    imports-are : All (ImportHere b) (tables .imports) xs
-    exports-are : All (ExportHere b) (tables .exports) ys
-    functions-are : All (FunctionHere b) (tables .names .symbols) fs
-    name-is : CalledHere b (tables .names .label) c
 
   step-reads : (at : ℕ) (l r : List ℕ) (v : SectionSaid) (t : Tables) → drop at b ≡ l → Framed AnySection l v r → FitsIn z v
       → length (t .sections) < capacityOf (z .sections) 5 256
@@ -331,64 +264,59 @@ module _ (b : List ℕ) (size : length b < 18446744073709551616) (z : Sizes) whe
   step-reads at l r v t e (framed {id = id} {l = m} {p = p} u (AnySection.section {c = c} x)) fits room names =
       section-reads at id l m p r t c e u x fits room names
 
-  sections-read : (at : ℕ) (l : List ℕ) (vs : List SectionSaid) (t : Tables) (ss : List SectionSaid) (xs : List ImportSaid)
-      (ys : List ExportSaid) (fs : List FunctionOf) (c : Called) → drop at b ≡ l → at ≤ length b → Row (Framed AnySection) l vs []
-      → Each (FitsIn z) vs → length (t .sections) + length vs ≤ capacityOf (z .sections) 5 256
-      → length (t .names .symbols) + length (functionsAll vs) ≤ capacityOf (z .names) 3 4096
-      → All (SectionHere b) (t .sections) ss → All (ImportHere b) (t .imports) xs → All (ExportHere b) (t .exports) ys
-      → All (FunctionHere b) (t .names .symbols) fs → CalledHere b (t .names .label) c
-      → Read at t (ss ++ vs) (importsLast xs vs) (exportsLast ys vs) (fs ++ functionsAll vs) (nameLast c vs)
-  unfolding importsLast exportsLast functionsAll nameLast
-  sections-read at l [] t ss xs ys fs c e k Row.done no-row room names hs hx hy hf hc =
+  -- sections to the end of the file
+  record Read (at : ℕ) (t : Tables) (vs : List SectionSaid) : Type 0 where
+    tables : Tables
+    next : ℕ
+    is : walkFrom (sectionAt b z) b at t ≡ accepted (got tables next)
+    tells : Tells b t tables vs
+
+  sections-read : (at : ℕ) (l : List ℕ) (vs : List SectionSaid) (t : Tables) → drop at b ≡ l → at ≤ length b
+      → Row (Framed AnySection) l vs [] → Each (FitsIn z) vs → length (t .sections) + length vs ≤ capacityOf (z .sections) 5 256
+      → length (t .names .symbols) + length (functionsAll vs) ≤ capacityOf (z .names) 3 4096 → Read at t vs
+  unfolding functionsAll
+  sections-read at l [] t e k Row.done no-row room names =
       let n : length (drop at b) ≡ 0 = ap length e in
       record {
         tables = t;
         next = at;
         is = from-end (sectionAt b z) b at t (omega (arith, n, length-drop at b));
-        sections-are = rw (append-nil ss) hs;
-        imports-are = hx;
-        exports-are = hy;
-        functions-are = rw (append-nil fs) hf;
-        name-is = hc;
+        tells = tells-nothing b t;
       }
-  sections-read at l (v ∷ vs) t ss xs ys fs c e k (Row.then {m = m} x more) (row f others) room names hs hx hy hf hc =
-      let fd = functionsIn (subsOf (v .holds)) in
-      let n = length-append fd (functionsAll vs) in
+  sections-read at l (v ∷ vs) t e k (Row.then {m = m} x more) (row f others) room names =
+      let n = length-append (functionsIn (subsOf (v .holds))) (functionsAll vs) in
       let o = step-reads at l m v t e x f (omega arith) (omega (arith, n)) in
-      let a = o .adds in
-      let grown : length (o .tables .sections) ≡ length (t .sections) + 1 =
-      ap length (o .added) ∙ length-append (t .sections) (o .row ∷ []) in
       let i =
-      sections-read (o .next) m vs (o .tables) (ss ++ (v ∷ [])) (importsOr xs (v .holds)) (exportsOr ys (v .holds)) (fs ++ fd)
-      (nameIn c (subsOf (v .holds))) (o .rest) (o .in-b) more others (omega (arith, grown)) (omega (arith, n, a .grows))
-      (rw (o .added) (all-append (t .sections) (o .row ∷ []) ss (v ∷ []) hs (cons (o .row-is) nil)))
-      (o .imports-are xs hx) (o .exports-are ys hy) (a .functions-are fs hf) (a .name-is c hc) in
+      sections-read (o .next) m vs (o .tables) (o .rest) (o .in-b) more others (omega (arith, grown (o .says)))
+      (omega (arith, n, o .says .adds .grows)) in
       record {
         tables = i .tables;
         next = i .next;
         is = from-go (sectionAt b z) b at t (o .tables) (o .next) (o .is) (o .past) (o .in-b) ∙ i .is;
-        sections-are = rw append-assoc at (i .sections-are);
-        imports-are = i .imports-are;
-        exports-are = i .exports-are;
-        functions-are = rw append-assoc at (i .functions-are);
-        name-is = i .name-is;
+        tells = tells-more b t (o .tables) (i .tables) v vs (o .says) (i .tells);
       }
 
 -- ---- a module
+-- from empty tables
+pub rows-of : (b : List ℕ) (t : Tables) (vs : List SectionSaid) → Tells b noTables t vs → Rows b t vs
+unfolding noTables
+rows-of b t vs h =
+    record {
+      sections-are = h .sections-are [] nil;
+      imports-are = h .imports-are [] nil;
+      exports-are = h .exports-are [] nil;
+      functions-are = h .adds .functions-are [] nil;
+      name-is = h .adds .name-is unnamed refl;
+    }
+
 pub any-conform : AnyConform
 unfolding moduleAt onward noTables
 any-conform b z vs short room (AnyModule.modul h s) =
     let i =
-    sections-read b (omega arith) z 8 (drop 8 b) vs noTables [] [] [] [] unnamed refl (h .long) s (room .entries)
-    (omega (arith, room .sections)) (omega (arith, room .functions)) nil nil nil nil refl in
+    sections-read b (omega arith) z 8 (drop 8 b) vs noTables refl (h .long) s (room .entries)
+    (omega (arith, room .sections)) (omega (arith, room .functions)) in
     record {
       tables = i .tables;
       is = rw (le-ltb 16777216 (length b) short, header-reads b h, i .is);
-      rows = record {
-        sections-are = i .sections-are;
-        imports-are = i .imports-are;
-        exports-are = i .exports-are;
-        functions-are = i .functions-are;
-        name-is = i .name-is;
-      };
+      rows = rows-of b (i .tables) vs (i .tells);
     }
