@@ -7,6 +7,7 @@ pub mod Conform
 pub mod Saying
 pub mod Whole
 pub mod Strict
+pub mod Only
 pub mod Larger
 pub mod Sound
 pub mod Enough
