@@ -1,7 +1,7 @@
 -- Room: the tables never hold more than they have room for, and need no more than what is read into them. Assumes nothing.
 use Prim.Native.Nat.{ℕ, zero, suc, _+_, _-_, _≤_, _<_}
 use native.Mathlib.Omega.{arith}
-use mathlib.Core.Path.{_≡_, refl, sym, ap, subst}
+use mathlib.Core.Path.{_≡_, refl, sym, _∙_, ap, subst}
 use mathlib.Core.Bool.{Bool, true, false}
 use mathlib.Core.List.{List, [], _∷_, _++_}
 use lib.ListN.{length, drop, length-append}
@@ -10,11 +10,11 @@ use borrow.Author.Tests.{lt-ltb, ltb-false}
 use Rattle.refusal.specs.Pick.{pick}
 use Rattle.refusal.specs.Said.{Said, accepted, refused, Got, got, onward}
 use Rattle.refusal.proofs.Following.{never, read-on, goes}
-use Rattle.text.specs.Walk.{stop, go, walk}
 use Rattle.text.specs.Find.{same}
 use Rattle.table.specs.Table.{capacityOf}
 use Rattle.table.specs.Entries.{entriesFrom}
-use Rattle.table.specs.Walking.{turned, walkFrom}
+use Rattle.table.specs.Walking.{walkFrom}
+use Rattle.table.proofs.Walking.{from-end, from-go}
 use Rattle.table.proofs.Giving.{Of}
 use Rattle.leb.specs.Reads.{bytesOf, byteAt, u32At, nameAt, countedAt}
 use Rattle.wasm.specs.Entry.{importAt, exportAt, symbolAt}
@@ -24,7 +24,8 @@ use Rattle.wasm.specs.Module.{Tables, Sizes, Inner, plain, withSection, content
 use Rattle.conform.specs.Claims.{Bytes}
 use Rattle.conform.specs.Sound.{Comes, start, after, Fit, AlwaysFit, EnoughRoom}
 use Rattle.conform.proofs.Header.{header-only}
-use Rattle.conform.proofs.Sections.{took, rowOf}
+use Rattle.conform.proofs.Walks.{walk-out}
+use Rattle.conform.proofs.Sections.{took, took-sub, rowOf}
 use Rattle.conform.proofs.Sound.{Before, section-ok, nothing-yet}
 
 -- ---- whatever x accepts that has Q, y accepts; and then Q0 was there before
@@ -96,73 +97,6 @@ module _ {R : Type 0} (read : ℕ → Said (Got R)) (tn room room1 : ℕ) where
       let i = enough-entries (o .what) (o .next) rows all d (o .then) in
       (omega (arith, i .0), λ h. sym (goes (λ n at. entriesFrom read tn room1 n at rows) (o .first) (sym (i .1 h))))
 
--- ---- a walk that needs Q of what it comes to, where Q goes back from step to step
-module _ {T : Type 0} (Q : T → Type 0) (step step1 : ℕ → T → Said (Got T))
-    (back : (i : ℕ) (t u : T) (d : ℕ) → step i t ≡ accepted (got u d) → Q u → Q t × (step1 i t ≡ accepted (got u d))) where
-  back-walk : (t : T) (at k : ℕ) (l : List ℕ) (u : T) (e : ℕ)
-      → walk (λ st i rest. turned i (step i st)) (λ st i. accepted (got st i)) t at k l ≡ accepted (got u e) → Q u
-      → Q t × (walk (λ st i rest. turned i (step1 i st)) (λ st i. accepted (got st i)) t at k l ≡ accepted (got u e))
-  unfolding walk turned
-  back-walk t at k [] u e q h = let x : t ≡ u = cc in (subst Q (sym x) h, q)
-  back-walk t at (suc k) (x ∷ l) u e q h = back-walk t (suc at) k l u e q h
-  back-walk t at zero (x ∷ l) u e q h = by (λ v k f. back-walk v (suc at) k l u e f h) (step at t) refl q where
-    by : ((v : T) (k : ℕ) → walk (λ st i rest. turned i (step i st)) (λ st i. accepted (got st i)) v (suc at) k l ≡ accepted (got u e)
-        → Q v × (walk (λ st i rest. turned i (step1 i st)) (λ st i. accepted (got st i)) v (suc at) k l ≡ accepted (got u e)))
-        → (y : Said (Got T)) → step at t ≡ y
-        → elim (turned at y)
-        [ stop r ↦ r | go st k ↦ walk (λ st i rest. turned i (step i st)) (λ st i. accepted (got st i)) st (suc at) k l ]
-        ≡ accepted (got u e)
-        → Q t
-        × (elim (turned at (step1 at t))
-        [ stop r ↦ r | go st k ↦ walk (λ st i rest. turned i (step1 i st)) (λ st i. accepted (got st i)) st (suc at) k l ]
-        ≡ accepted (got u e))
-    by ih (accepted (got v c)) q f =
-        let i = ih v (c - suc at) f in
-        let o = back at t v c q (i .0) in
-        (o .0, rw (o .1) (i .1))
-    by ih (refused n p) q f = absurd (never f)
-
-  back-from : (b : List ℕ) (at : ℕ) (t u : T) (e : ℕ) → walkFrom step b at t ≡ accepted (got u e) → Q u
-      → walkFrom step1 b at t ≡ accepted (got u e)
-  unfolding walkFrom
-  back-from b at t u e q h = back-walk t at 0 (drop at b) u e q h .1
-
--- ---- a walk that needs P of each place that it comes to
-module _ {T : Type 0} (P : ℕ → T → Type 0) (step step1 : ℕ → T → Said (Got T))
-    (along : (i : ℕ) (t u : T) (d : ℕ) → P i t → step i t ≡ accepted (got u d) → (i < d) × P d u × (step1 i t ≡ accepted (got u d))) where
-  along-walk : (t : T) (at k : ℕ) (l : List ℕ) → P (at + k) t → (u : Got T)
-      → walk (λ st i rest. turned i (step i st)) (λ st i. accepted (got st i)) t at k l ≡ accepted u
-      → walk (λ st i rest. turned i (step1 i st)) (λ st i. accepted (got st i)) t at k l ≡ accepted u
-  unfolding walk turned
-  along-walk t at k [] h u q = q
-  along-walk t at (suc k) (x ∷ l) h u q =
-      let n : at + suc k ≡ suc at + k = omega arith in
-      along-walk t (suc at) k l (subst (λ (i : ℕ). P i t) n h) u q
-  along-walk t at zero (x ∷ l) h u q = by (λ v k p f. along-walk v (suc at) k l p u f) (step at t) refl q where
-    by : ((v : T) (k : ℕ) → P (suc at + k) v
-        → walk (λ st i rest. turned i (step i st)) (λ st i. accepted (got st i)) v (suc at) k l ≡ accepted u
-        → walk (λ st i rest. turned i (step1 i st)) (λ st i. accepted (got st i)) v (suc at) k l ≡ accepted u)
-        → (y : Said (Got T)) → step at t ≡ y
-        → elim (turned at y)
-        [ stop r ↦ r | go st k ↦ walk (λ st i rest. turned i (step i st)) (λ st i. accepted (got st i)) st (suc at) k l ]
-        ≡ accepted u
-        → elim (turned at (step1 at t))
-        [ stop r ↦ r | go st k ↦ walk (λ st i rest. turned i (step1 i st)) (λ st i. accepted (got st i)) st (suc at) k l ]
-        ≡ accepted u
-    by ih (accepted (got v c)) q f =
-        let z : at + 0 ≡ at = omega arith in
-        let k = along at t v c (subst (λ (i : ℕ). P i t) z h) q in
-        let n : c ≡ suc at + (c - suc at) = omega (arith, k .0) in
-        rw (k .2) (ih v (c - suc at) (subst (λ (i : ℕ). P i v) n (k .1)) f)
-    by ih (refused n p) q f = absurd (never f)
-
-  along-from : (b : List ℕ) (at : ℕ) (t : T) → P at t → (u : Got T) → walkFrom step b at t ≡ accepted u
-      → walkFrom step1 b at t ≡ accepted u
-  unfolding walkFrom
-  along-from b at t h u q =
-      let z : at ≡ at + 0 = omega arith in
-      along-walk t at 0 (drop at b) (subst (λ (i : ℕ). P i t) z h) u q
-
 -- ---- names
 unfoldable NamesFit : ℕ → Names → Type 0
 NamesFit m t = length (t .symbols) ≤ capacityOf m 3 4096
@@ -194,14 +128,22 @@ module _ (n m : ℕ) where
       back-next (NamesFit m t) (Of (NamesFit m)) (countedAt s a) _ _ (λ p next e2.
       back-made (NamesFit m t) (Of (NamesFit m)) _ _ _ (λ u e q h. enough-told id (bytesOf s p) (base + p .from) t (got u e) q h)))
 
+  -- names grow from subsection to subsection, so that there was room at each where there is at the end
   enough-walk : (s : List ℕ) (base : ℕ) (t : Names) (at : ℕ)
       → Back (Unit {0}) (Of (NamesFit m)) (walkFrom (subsectionAt s base n) s at t) (walkFrom (subsectionAt s base m) s at t)
   unfolding Of Back
-  enough-walk s base t at (got v c) f k = (
-    tt,
-    back-from (NamesFit m) (subsectionAt s base n) (subsectionAt s base m) (λ i t u d q g. enough-sub s base i t (got u d) q g)
-        s at t v c f k,
-  )
+  enough-walk s base t at (got v c) f k =
+      (tt, walk-out (subsectionAt s base n) s ahead
+      (λ i t e u. NamesFit m u → NamesFit m t × (walkFrom (subsectionAt s base m) s i t ≡ accepted (got u e)))
+      (λ i t h w. (w, from-end (subsectionAt s base m) s i t h))
+      (λ i t v u d e q more w.
+      let o = more w in
+      let g = enough-sub s base i t (got v d) q (o .0) in
+      let a = ahead i t v d q in
+      (g .0, from-go (subsectionAt s base m) s i t v d (g .1) (a .0) (a .1) ∙ o .1)) at t v c f k .1)
+    where
+      ahead : (i : ℕ) (t u : Names) (d : ℕ) → subsectionAt s base n i t ≡ accepted (got u d) → (i < d) × (d ≤ length s)
+      ahead i t u d q = let k = took-sub s base n i t u d q in (omega (arith, k .past, k .ends), k .in-s)
 
   unfoldable SpokenFit : Spoken → Type 0
   SpokenFit u = NamesFit m (u .inner)
@@ -267,17 +209,21 @@ enough-room b z w m e fits = by (ltb 16777216 (length b)) refl e where
       let h = header-only b (o .what) (o .next) (o .first) in
       let y = read-on (walkFrom (sectionAt b z) b (o .next) noTables) _ (o .then) in
       let first : Comes b z (o .next) noTables = rw (h .next-is) (start (h .header) (ltb-false 16777216 (length b) x)) in
+      let ahead : (i : ℕ) (t u : Tables) (d : ℕ) → sectionAt b z i t ≡ accepted (got u d) → (i < d) × (d ≤ length b) =
+      λ i t u d q. let k = took b z i t u d q in (omega (arith, k .past, k .ends), k .in-b) in
       let walked =
-      along-from (Comes b z) (sectionAt b z) (sectionAt b w) (λ i t u d c q.
-      let k = took b z i t u d q in
-      (omega (arith, k .past, k .ends), after c q, enough-section b z w i d t u q (fits d u (after c q)))) b (o .next) noTables first
-      (got (y .what) (y .next)) (y .first) in
+      walk-out (sectionAt b z) b ahead (λ i t e u. Comes b z i t → walkFrom (sectionAt b w) b i t ≡ accepted (got u e))
+      (λ i t h c. from-end (sectionAt b w) b i t h)
+      (λ i t v u d e q more c.
+      let a = ahead i t v d q in
+      from-go (sectionAt b w) b i t v d (enough-section b z w i d t v q (fits d v (after c q))) (a .0) (a .1) ∙ more (after c q))
+      (o .next) noTables (y .what) (y .next) (y .first) first in
       sym (goes _ (o .first) (goes _ walked (sym (y .then))))
 
 -- the tables that the reader comes with
 before : (b : List ℕ) (z : Sizes) (at : ℕ) (t : Tables) (bytes : Bytes b) → Comes b z at t → Before b bytes z at t
 before b z at t bytes (start h short) = nothing-yet b bytes z (h .long)
-before b z d u bytes (after {at = at} {t = t} c e) = section-ok b bytes z at t u d (before b z at t bytes c) e .1
+before b z d u bytes (after {at = at} {t = t} c e) = section-ok b bytes z at t u d (before b z at t bytes c) e
 
 pub always-fit : AlwaysFit
 always-fit b z at t bytes c =

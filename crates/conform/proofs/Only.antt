@@ -25,11 +25,8 @@ use Rattle.conform.specs.Grammar.{Many, none, more, FunctionOf}
 use Rattle.conform.specs.Port.{Number, number, Named, named, Counted, counted, AnyLimits, even, odd, AnyDesc, function, tables, memories}
 use Rattle.conform.specs.Port.{globals, ImportSaid, AnyImport, imported, ExportSaid, AnyExport, exported, AnyAssoc, assoc}
 use Rattle.conform.specs.Claims.{All, nil, cons}
+use Rattle.conform.proofs.Walks.{same-got}
 use Rattle.conform.proofs.Conform.{ImportRow, ExportRow, FunctionRow}
-
--- what was read, and where it ended
-pub same-got : {X : Type 0} {v w : X} {c d : ℕ} → accepted (got v c) ≡ accepted (got w d) → (v ≡ w) × (c ≡ d)
-same-got e = (cc, cc)
 
 -- a test that was passed or not
 pub either : {T : Type 0} (k n : ℕ) (x y : Said T) (t : T) (C : Type 0) → pick (eqb k n) x y ≡ accepted t

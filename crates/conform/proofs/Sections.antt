@@ -1,4 +1,4 @@
--- A section that was accepted, taken apart: what was read of it, and where it lies. Assumes nothing.
+-- A section or subsection that was accepted, taken apart: what was read of it, and where it lies. Assumes nothing.
 use Prim.Native.Nat.{ℕ, _+_, _≤_, _<_}
 use native.Mathlib.Omega.{arith}
 use mathlib.Core.Path.{_≡_, refl}
@@ -15,7 +15,9 @@ use Rattle.table.specs.Table.{capacityOf}
 use Rattle.leb.specs.Reads.{bytesOf, byteAt, countedAt}
 use Rattle.leb.proofs.Bounds.{byte-in, counted-in}
 use Rattle.wasm.specs.Shapes.{Section}
+use Rattle.wasm.specs.Custom.{Names, toldBy, subsectionAt}
 use Rattle.wasm.specs.Module.{Tables, withSection, Sizes, Inner, contentsAt, addSection, sectionAt}
+use Rattle.conform.proofs.Walks.{same-got}
 
 abbrev pub rowOf : ℕ → Part → Inner → Section
 rowOf id p u = record { id = id; from = p .from; size = p .len; name = u .name }
@@ -70,4 +72,40 @@ took b z at t u d e =
       past = omega (arith, v .past, w .past);
       ends = omega (arith, w .end, o .1);
       in-b = omega (arith, o .1, w .in-s);
+    }
+
+-- a subsection that was accepted
+pub record TookSub (s : List ℕ) (base n at : ℕ) (t u : Names) (d : ℕ) : Type 0 where
+  pub id : ℕ
+  pub a : ℕ
+  pub payload : Part
+  pub end : ℕ
+  pub one : byteAt s at ≡ accepted (got id a)
+  pub two : countedAt s a ≡ accepted (got payload d)
+  pub three : toldBy id (bytesOf s payload) (base + payload .from) n t ≡ accepted (got u end)
+  pub past : at < payload .from
+  pub ends : payload .from + payload .len ≡ d
+  pub in-s : d ≤ length s
+
+pub took-sub : (s : List ℕ) (base n at : ℕ) (t u : Names) (d : ℕ) → subsectionAt s base n at t ≡ accepted (got u d)
+    → TookSub s base n at t u d
+unfolding subsectionAt
+took-sub s base n at t u d e =
+    let x = read-on (byteAt s at) _ e in
+    let y = read-on (countedAt s (x .next)) _ (x .then) in
+    let c = read-on (toldBy (x .what) (bytesOf s (y .what)) (base + y .what .from) n t) _ (y .then) in
+    let o = same-got (c .then) in
+    let v = byte-in s at (x .what) (x .next) (x .first) in
+    let w = counted-in s (x .next) (y .what) (y .next) (y .first) in
+    record {
+      id = x .what;
+      a = x .next;
+      payload = y .what;
+      end = c .next;
+      one = x .first;
+      two = rw (o .1) at (y .first);
+      three = rw (o .0) at (c .first);
+      past = omega (arith, v .past, w .past);
+      ends = omega (arith, w .end, o .1);
+      in-s = omega (arith, o .1, w .in-s);
     }

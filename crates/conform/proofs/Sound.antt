@@ -31,6 +31,7 @@ use Rattle.conform.specs.Claims.{Bytes}
 use Rattle.conform.specs.Sound.{InFile, ImportOk, ExportOk, SymbolOk, SectionOk, NamesOk, TablesOk, Apart, last, next, ModuleOk}
 use Rattle.conform.specs.Sound.{RowsSound}
 use Rattle.conform.proofs.Parts.{part-bytes, part-length}
+use Rattle.conform.proofs.Walks.{walk-out}
 use Rattle.conform.proofs.Sections.{took, rowOf}
 use Rattle.conform.proofs.Header.{header-only, version-small}
 
@@ -51,37 +52,6 @@ module _ {E : Type 0} (read : ℕ → Said (Got E)) (tn room : ℕ) where
           → Gives (Of (Few room)) (pick t (entriesFrom read tn room n d (rows ++ (v ∷ []))) (refused 13 tn))
       by v d ih true t = ih (omega (arith, ltb-true (length rows) room t, length-append rows (v ∷ [])))
       by v d ih false t = gives-stop (Of (Few room)) 13 tn
-
--- ---- a walk whose steps keep P, which speaks of the offset too
-module _ {T : Type 0} (P : ℕ → T → Type 0) (step : ℕ → T → Said (Got T))
-    (keeps : (i : ℕ) (t u : T) (d : ℕ) → P i t → step i t ≡ accepted (got u d) → (i < d) × P d u) where
-  placed-walk : (t : T) (at k : ℕ) (l : List ℕ) → P (at + k) t → (u : T) (e : ℕ)
-      → walk (λ st i rest. turned i (step i st)) (λ st i. accepted (got st i)) t at k l ≡ accepted (got u e) → (d : ℕ) × P d u
-  unfolding walk turned
-  placed-walk t at k [] h u e q = let x : t ≡ u = cc in (at + k, subst (P (at + k)) x h)
-  placed-walk t at (suc k) (x ∷ l) h u e q =
-      let n : at + suc k ≡ suc at + k = omega arith in
-      placed-walk t (suc at) k l (subst (λ (i : ℕ). P i t) n h) u e q
-  placed-walk t at zero (x ∷ l) h u e q = by (λ v k p f. placed-walk v (suc at) k l p u e f) (step at t) refl q where
-    by : ((v : T) (k : ℕ) → P (suc at + k) v
-        → walk (λ st i rest. turned i (step i st)) (λ st i. accepted (got st i)) v (suc at) k l ≡ accepted (got u e) → (d : ℕ) × P d u)
-        → (y : Said (Got T)) → step at t ≡ y
-        → elim (turned at y)
-        [ stop r ↦ r | go st k ↦ walk (λ st i rest. turned i (step i st)) (λ st i. accepted (got st i)) st (suc at) k l ]
-        ≡ accepted (got u e)
-        → (d : ℕ) × P d u
-    by ih (accepted (got v c)) q f =
-        let z : at + 0 ≡ at = omega arith in
-        let k = keeps at t v c (subst (λ (i : ℕ). P i t) z h) q in
-        let n : c ≡ suc at + (c - suc at) = omega (arith, k .0) in
-        ih v (c - suc at) (subst (λ (i : ℕ). P i v) n (k .1)) f
-    by ih (refused n p) q f = absurd (never f)
-
-  pub placed-from : (b : List ℕ) (at : ℕ) (t : T) → P at t → (u : T) (e : ℕ) → walkFrom step b at t ≡ accepted (got u e) → (d : ℕ) × P d u
-  unfolding walkFrom
-  placed-from b at t h u e q =
-      let z : at ≡ at + 0 = omega arith in
-      placed-walk t at 0 (drop at b) (subst (λ (i : ℕ). P i t) z h) u e q
 
 -- ---- numbers
 byte-small : (s : List ℕ) → Bytes s → (at v d : ℕ) → byteAt s at ≡ accepted (got v d) → v < 256
@@ -277,7 +247,7 @@ module _ (b : List ℕ) (bytes : Bytes b) (z : Sizes) where
     pub apart : Apart 8 (t .sections) at
     pub in-b : at ≤ length b
 
-  pub section-ok : (at : ℕ) (t u : Tables) (d : ℕ) → Before at t → sectionAt b z at t ≡ accepted (got u d) → (at < d) × Before d u
+  pub section-ok : (at : ℕ) (t u : Tables) (d : ℕ) → Before at t → sectionAt b z at t ≡ accepted (got u d) → Before d u
   unfolding Gives Of
   section-ok at t u d h e =
       let k = took b z at t u d e in
@@ -288,8 +258,7 @@ module _ (b : List ℕ) (bytes : Bytes b) (z : Sizes) where
       let o =
       contents-ok (length b) z (bytesOf b p) (part-bytes b p bytes) (p .from) f (k .id) t (h .rows-ok) (got w (k .end)) (k .three) in
       let r = o .tables-ok in
-      let kept = contents-keep (k .id) (bytesOf b p) (p .from) z t w (k .end) (k .three) in (
-        omega (arith, k .past, k .ends),
+      let kept = contents-keep (k .id) (bytesOf b p) (p .from) z t w (k .end) (k .three) in
         record {
           rows-ok = rw (k .is) (record {
             sections-ok = each-last (SectionOk (length b)) (w .tables .sections) new (r .sections-ok)
@@ -307,8 +276,7 @@ module _ (b : List ℕ) (bytes : Bytes b) (z : Sizes) where
           });
           apart = rw (k .is) (apart-last 8 at d (w .tables .sections) new (rw kept (h .apart)) (k .past) (omega (arith, k .ends)));
           in-b = k .in-b;
-        },
-      )
+        }
 
   pub nothing-yet : 8 ≤ length b → Before 8 noTables
   unfolding noTables
@@ -334,7 +302,11 @@ module _ (b : List ℕ) (bytes : Bytes b) (z : Sizes) where
       (gives-onward (ModuleOk b z) (headerAt b) _ (λ v c e1.
       gives-onward (ModuleOk b z) (walkFrom (sectionAt b z) b c noTables) _ (λ t d e2.
       let h = header-only b v c e1 in
-      let w = placed-from Before (sectionAt b z) section-ok b c noTables (rw (h .next-is) (nothing-yet (h .header .long))) t d e2 in
+      let w =
+      walk-out (sectionAt b z) b (λ i t u d q. let k = took b z i t u d q in (omega (arith, k .past, k .ends), k .in-b))
+      (λ at t e u. Before at t → (d : ℕ) × Before d u) (λ at t k p. (at, p))
+      (λ at t v u d e q more p. more (section-ok at t v d p q)) c noTables t d e2
+      (rw (h .next-is) (nothing-yet (h .header .long))) in
       let k = w .1 in
       gives-done (ModuleOk b z) _
       (record {
