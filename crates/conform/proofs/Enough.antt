@@ -1,10 +1,10 @@
 -- Room: the tables never hold more than they have room for, and need no more than what is read into them. Assumes nothing.
-use Prim.Native.Nat.{ℕ, zero, suc, _+_, _-_, _≤_, _<_}
+use Prim.Native.Nat.{ℕ, zero, suc, _+_, _≤_, _<_}
 use native.Mathlib.Omega.{arith}
 use mathlib.Core.Path.{_≡_, refl, sym, _∙_, ap, subst}
 use mathlib.Core.Bool.{Bool, true, false}
 use mathlib.Core.List.{List, [], _∷_, _++_}
-use lib.ListN.{length, drop, length-append}
+use lib.ListN.{length, length-append}
 use lib.Dec.{ltb, eqb}
 use borrow.Author.Tests.{lt-ltb, ltb-false}
 use Rattle.refusal.specs.Pick.{pick}
@@ -132,15 +132,17 @@ module _ (n m : ℕ) where
   enough-walk : (s : List ℕ) (base : ℕ) (t : Names) (at : ℕ)
       → Back (Unit {0}) (Of (NamesFit m)) (walkFrom (subsectionAt s base n) s at t) (walkFrom (subsectionAt s base m) s at t)
   unfolding Of Back
-  enough-walk s base t at (got v c) f k =
-      (tt, walk-out (subsectionAt s base n) s ahead
-      (λ i t e u. NamesFit m u → NamesFit m t × (walkFrom (subsectionAt s base m) s i t ≡ accepted (got u e)))
-      (λ i t h w. (w, from-end (subsectionAt s base m) s i t h))
-      (λ i t v u d e q more w.
-      let o = more w in
-      let g = enough-sub s base i t (got v d) q (o .0) in
-      let a = ahead i t v d q in
-      (g .0, from-go (subsectionAt s base m) s i t v d (g .1) (a .0) (a .1) ∙ o .1)) at t v c f k .1)
+  enough-walk s base t at (got v c) f k = (
+    tt,
+    walk-out (subsectionAt s base n) s ahead
+        (λ i t e u. NamesFit m u → NamesFit m t × (walkFrom (subsectionAt s base m) s i t ≡ accepted (got u e)))
+        (λ i t h w. (w, from-end (subsectionAt s base m) s i t h))
+        (λ i t v u d e q more w.
+        let o = more w in
+        let g = enough-sub s base i t (got v d) q (o .0) in
+        let a = ahead i t v d q in
+        (g .0, from-go (subsectionAt s base m) s i t v d (g .1) (a .0) (a .1) ∙ o .1)) at t v c f k .1,
+  )
     where
       ahead : (i : ℕ) (t u : Names) (d : ℕ) → subsectionAt s base n i t ≡ accepted (got u d) → (i < d) × (d ≤ length s)
       ahead i t u d q = let k = took-sub s base n i t u d q in (omega (arith, k .past, k .ends), k .in-s)

@@ -15,15 +15,15 @@ use Rattle.refusal.specs.Said.{Said, accepted, refused, Got, got, onward}
 use Rattle.refusal.specs.declared.Part.{Part}
 use Rattle.refusal.proofs.Following.{never, read-on}
 use Rattle.table.specs.Entries.{entriesFrom}
-use Rattle.leb.specs.Reads.{bytesOf, byteAt, u32At, takeAt, countedAt, nameAt}
+use Rattle.leb.specs.Reads.{bytesOf, byteAt, u32At, countedAt, nameAt}
 use Rattle.leb.proofs.Beyond.{u32-only}
 use Rattle.leb.proofs.Bounds.{take-in}
 use Rattle.leb.proofs.Names.{name-only}
-use Rattle.wasm.specs.Shapes.{Limits, Desc, Import, Export, Symbol, func, table, memory, global}
+use Rattle.wasm.specs.Shapes.{Limits, Desc, Import, Export, Symbol}
 use Rattle.wasm.specs.Entry.{limitsAt, funcAt, tableAt, memoryAt, globalAt, descAt, importAt, exportAt, symbolAt}
-use Rattle.conform.specs.Grammar.{Many, none, more, FunctionOf}
+use Rattle.conform.specs.Grammar.{Many, none, more}
 use Rattle.conform.specs.Port.{Number, number, Named, named, Counted, counted, AnyLimits, even, odd, AnyDesc, function, tables, memories}
-use Rattle.conform.specs.Port.{globals, ImportSaid, AnyImport, imported, ExportSaid, AnyExport, exported, AnyAssoc, assoc}
+use Rattle.conform.specs.Port.{globals, AnyImport, imported, AnyExport, exported, AnyAssoc, assoc}
 use Rattle.conform.specs.Claims.{All, nil, cons}
 use Rattle.conform.proofs.Walks.{same-got}
 use Rattle.conform.proofs.Conform.{ImportRow, ExportRow, FunctionRow}
@@ -61,9 +61,10 @@ module _ (s : List ℕ) (size : length s < 18446744073709551616) where
   -- a range that lies in s, and what comes after it
   split : (p : Part) → p .from + p .len ≤ length s
       → (length (bytesOf s p) ≡ p .len) × (drop (p .from) s ≡ bytesOf s p ++ drop (p .from + p .len) s)
-  split p h =
-      (length-take-le (p .len) (drop (p .from) s) (omega (arith, length-drop (p .from) s)),
-      sym (take-append-drop (p .len) (drop (p .from) s)) ∙ ap (λ (l : List ℕ). bytesOf s p ++ l) (drop-drop (p .len) (p .from) s))
+  split p h = (
+    length-take-le (p .len) (drop (p .from) s) (omega (arith, length-drop (p .from) s)),
+    sym (take-append-drop (p .len) (drop (p .from) s)) ∙ ap (λ (l : List ℕ). bytesOf s p ++ l) (drop-drop (p .len) (p .from) s),
+  )
 
   sized : (at : ℕ) (p : Part) (d : ℕ) → p .from + p .len ≡ d → d ≤ length s → Number (drop at s) (p .len) (drop (p .from) s)
       → Number (drop at s) (length (bytesOf s p)) (bytesOf s p ++ drop d s)

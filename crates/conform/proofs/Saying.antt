@@ -5,15 +5,17 @@ use native.Mathlib.Omega.{arith}
 use mathlib.Core.Path.{_≡_, refl, _∙_, ap}
 use mathlib.Core.List.{List, [], _∷_, _++_, append-assoc, append-nil}
 use lib.ListN.{length, length-append}
+use Rattle.refusal.specs.declared.Part.{Part}
 use Rattle.leb.specs.Reads.{bytesOf}
 use Rattle.wasm.specs.Shapes.{Import, Export, Symbol, Section}
 use Rattle.wasm.specs.Custom.{Names}
-use Rattle.wasm.specs.Module.{Tables, Inner}
+use Rattle.wasm.specs.Module.{Tables, withSection, Inner}
 use Rattle.conform.specs.Grammar.{FunctionOf}
 use Rattle.conform.specs.Port.{ImportSaid, ExportSaid, Held, SectionSaid}
 use Rattle.conform.specs.Claims.{All, nil, cons, titleOf, SectionHere, ImportHere, ExportHere, FunctionHere, Called, CalledHere}
 use Rattle.conform.specs.Claims.{importsOr, exportsOr, nameIn, functionsIn, subsOf, importsLast, exportsLast, nameLast, functionsAll}
 use Rattle.conform.proofs.Parts.{In, same-part}
+use Rattle.conform.proofs.Sections.{rowOf}
 use Rattle.conform.proofs.Conform.{ImportRow, ExportRow, FunctionRow}
 
 -- ---- rows that agree
@@ -94,6 +96,19 @@ pub record Says (b : List ℕ) (t u : Tables) (v : SectionSaid) : Type 0 where
   pub imports-are : (xs : List ImportSaid) → All (ImportHere b) (t .imports) xs → All (ImportHere b) (u .imports) (importsOr xs (v .holds))
   pub exports-are : (xs : List ExportSaid) → All (ExportHere b) (t .exports) xs → All (ExportHere b) (u .exports) (exportsOr xs (v .holds))
   pub adds : Adds b (t .names) (u .names) (functionsIn (subsOf (v .holds))) (λ d. nameIn d (subsOf (v .holds)))
+
+-- contents that were framed
+pub says-of : (b q : List ℕ) (id : ℕ) (p : Part) (t : Tables) (u : Inner) (c : Held) → bytesOf b p ≡ q → Leaves b t u c
+    → Says b t (withSection (u .tables) (rowOf id p u)) (record { id = id; payload = q; holds = c })
+says-of b q id p t u c e l =
+    record {
+      row = rowOf id p u;
+      added = ap (λ (x : List Section). x ++ (rowOf id p u ∷ [])) (l .keeps);
+      row-is = record { id-is = refl; payload-is = e; name-is = l .title-is };
+      imports-are = l .imports-are;
+      exports-are = l .exports-are;
+      adds = l .adds;
+    }
 
 pub grown : {b : List ℕ} {t u : Tables} {v : SectionSaid} → Says b t u v → length (u .sections) ≡ length (t .sections) + 1
 grown {t = t} o = ap length (o .added) ∙ length-append (t .sections) (o .row ∷ [])

@@ -1,22 +1,21 @@
 -- The rows that the reader leaves: ranges lie in the file, kinds and indices are small, tables hold them, and payloads follow one another.
 -- So they never give 15. Assumes nothing.
-use Prim.Native.Nat.{ℕ, zero, suc, _+_, _-_, _≤_, _<_}
+use Prim.Native.Nat.{ℕ, zero, suc, _+_, _≤_, _<_}
 use native.Mathlib.Omega.{arith}
 use mathlib.Core.Path.{_≡_, refl, subst}
 use mathlib.Core.Bool.{Bool, true, false}
 use mathlib.Core.List.{List, [], _∷_, _++_}
-use lib.ListN.{length, getD, drop, length-append}
+use lib.ListN.{length, getD, length-append}
 use lib.Dec.{ltb, eqb}
 use borrow.Author.Tests.{ltb-true, eqb-true}
 use Rattle.refusal.specs.Pick.{pick}
 use Rattle.refusal.specs.Said.{Said, accepted, refused, Got, got}
 use Rattle.refusal.specs.declared.Part.{Part}
 use Rattle.refusal.proofs.Following.{never}
-use Rattle.text.specs.Walk.{stop, go, walk}
 use Rattle.text.specs.Find.{same}
 use Rattle.table.specs.Table.{capacityOf}
 use Rattle.table.specs.Entries.{entriesFrom}
-use Rattle.table.specs.Walking.{turned, walkFrom}
+use Rattle.table.specs.Walking.{walkFrom}
 use Rattle.table.proofs.Giving.{Gives, Of, Each, no-row, row, gives-done, gives-stop, gives-pick, gives-onward, gives-from, gives-entries}
 use Rattle.leb.specs.Reads.{bytesOf, byteAt, u32At, nameAt, countedAt}
 use Rattle.leb.proofs.Bounds.{u32-in, counted-in, name-in}
@@ -259,24 +258,24 @@ module _ (b : List ℕ) (bytes : Bytes b) (z : Sizes) where
       contents-ok (length b) z (bytesOf b p) (part-bytes b p bytes) (p .from) f (k .id) t (h .rows-ok) (got w (k .end)) (k .three) in
       let r = o .tables-ok in
       let kept = contents-keep (k .id) (bytesOf b p) (p .from) z t w (k .end) (k .three) in
-        record {
-          rows-ok = rw (k .is) (record {
-            sections-ok = each-last (SectionOk (length b)) (w .tables .sections) new (r .sections-ok)
-                (record {
-                  id-byte = byte-small b bytes at (k .id) (k .a) (k .one);
-                  payload-in = omega (arith, k .ends, k .in-b);
-                  name-in-file = o .name-in-file;
-                });
-            sections-few = omega (arith, k .room, length-append (w .tables .sections) (new ∷ []));
-            imports-ok = r .imports-ok;
-            imports-few = r .imports-few;
-            exports-ok = r .exports-ok;
-            exports-few = r .exports-few;
-            names-ok = r .names-ok;
-          });
-          apart = rw (k .is) (apart-last 8 at d (w .tables .sections) new (rw kept (h .apart)) (k .past) (omega (arith, k .ends)));
-          in-b = k .in-b;
-        }
+      record {
+        rows-ok = rw (k .is) (record {
+          sections-ok = each-last (SectionOk (length b)) (w .tables .sections) new (r .sections-ok)
+              (record {
+                id-byte = byte-small b bytes at (k .id) (k .a) (k .one);
+                payload-in = omega (arith, k .ends, k .in-b);
+                name-in-file = o .name-in-file;
+              });
+          sections-few = omega (arith, k .room, length-append (w .tables .sections) (new ∷ []));
+          imports-ok = r .imports-ok;
+          imports-few = r .imports-few;
+          exports-ok = r .exports-ok;
+          exports-few = r .exports-few;
+          names-ok = r .names-ok;
+        });
+        apart = rw (k .is) (apart-last 8 at d (w .tables .sections) new (rw kept (h .apart)) (k .past) (omega (arith, k .ends)));
+        in-b = k .in-b;
+      }
 
   pub nothing-yet : 8 ≤ length b → Before 8 noTables
   unfolding noTables

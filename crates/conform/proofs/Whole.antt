@@ -1,9 +1,9 @@
 -- A module of the port's grammar is accepted, where the tables have room, with rows that say exactly what it says. Assumes nothing.
-use Prim.Native.Nat.{ℕ, suc, _+_, _≤_, _<_}
+use Prim.Native.Nat.{ℕ, _+_, _≤_, _<_}
 use native.Mathlib.Omega.{arith}
 use mathlib.Core.Path.{_≡_, refl, _∙_, ap}
 use mathlib.Core.Bool.{Bool, true, false}
-use mathlib.Core.List.{List, [], _∷_, _++_, append-assoc, append-nil}
+use mathlib.Core.List.{List, [], _∷_, _++_, append-nil}
 use lib.ListN.{length, drop, length-drop, length-append}
 use borrow.Author.Tests.{lt-ltb, le-ltb, ne-eqb}
 use Rattle.refusal.specs.Said.{accepted, got, onward}
@@ -14,24 +14,23 @@ use Rattle.table.specs.Walking.{walkFrom}
 use Rattle.table.proofs.Walking.{from-end, from-go}
 use Rattle.table.proofs.Giving.{Each, no-row, row}
 use Rattle.leb.specs.Reads.{part, bytesOf, byteAt}
-use Rattle.wasm.specs.Shapes.{Import, Export, Symbol, Section}
 use Rattle.wasm.specs.Entry.{moved}
 use Rattle.wasm.specs.Custom.{Names, labelAt, toldBy, subsectionAt, nameWord, customAt}
 use Rattle.wasm.specs.Module.{Tables, withSection, withImports, withExports, withNames, Sizes, Inner, plain, contentsAt, addSection}
 use Rattle.wasm.specs.Module.{sectionAt, noTables, moduleAt}
-use Rattle.conform.specs.Grammar.{FunctionOf, SubOf, nameBytes}
-use Rattle.conform.specs.Port.{Number, ImportSaid, ExportSaid, AnySub, Framed, framed, Row, Held, SectionSaid, AnyContent, AnySection}
+use Rattle.conform.specs.Grammar.{SubOf, nameBytes}
+use Rattle.conform.specs.Port.{Number, AnySub, Framed, framed, Row, Held, SectionSaid, AnyContent, AnySection}
 use Rattle.conform.specs.Port.{AnyModule}
-use Rattle.conform.specs.Claims.{All, nil, cons, titleOf, SectionHere, ImportHere, ExportHere, FunctionHere}
-use Rattle.conform.specs.Claims.{Called, unnamed, CalledHere, importsOr, exportsOr, nameOr, functionsOf, nameIn, functionsIn}
-use Rattle.conform.specs.Claims.{subsOf, importsLast, exportsLast, nameLast, functionsAll, Fits, FitsIn, Rows, AnyConform}
+use Rattle.conform.specs.Claims.{nil}
+use Rattle.conform.specs.Claims.{unnamed, nameOr, functionsOf, nameIn, functionsIn}
+use Rattle.conform.specs.Claims.{subsOf, functionsAll, Fits, FitsIn, Rows, AnyConform}
 use Rattle.conform.proofs.Saying.{all-map, all-append, all-length, import-here, export-here, function-here, Adds, adds-nothing, adds-more}
-use Rattle.conform.proofs.Saying.{Leaves, Says, grown, Tells, tells-nothing, tells-more}
+use Rattle.conform.proofs.Saying.{Leaves, Says, says-of, grown, Tells, tells-nothing, tells-more}
 use Rattle.conform.proofs.Parts.{In, same-part, in-part}
 use Rattle.conform.proofs.Sections.{rowOf}
 use Rattle.conform.proofs.Header.{header-reads}
-use Rattle.conform.proofs.Conform.{PartStands, byte-reads, part-reads, name-reads, ImportRow, ExportRow}
-use Rattle.conform.proofs.Conform.{FunctionRow, imports-read, exports-read, functions-read}
+use Rattle.conform.proofs.Conform.{PartStands, byte-reads, part-reads, name-reads}
+use Rattle.conform.proofs.Conform.{imports-read, exports-read, functions-read}
 
 -- what a subsection's bytes q, from a in the file, tell
 module _ (b q : List ℕ) (a : ℕ) (in-b : In b a q) (size : length q < 18446744073709551616) (cells : ℕ) where
@@ -247,14 +246,7 @@ module _ (b : List ℕ) (size : length b < 18446744073709551616) (z : Sizes) whe
         rest = g .rest;
         past = omega (arith, g .past);
         in-b = g .inside;
-        says = record {
-          row = new;
-          added = ap (λ (k : List Section). k ++ (new ∷ [])) (o .leaves .keeps);
-          row-is = record { id-is = refl; payload-is = g .holds; name-is = o .leaves .title-is };
-          imports-are = o .leaves .imports-are;
-          exports-are = o .leaves .exports-are;
-          adds = o .leaves .adds;
-        };
+        says = says-of b p id (part (g .start) (length p)) t w c (g .holds) (o .leaves);
       }
 
   step-reads : (at : ℕ) (l r : List ℕ) (v : SectionSaid) (t : Tables) → drop at b ≡ l → Framed AnySection l v r → FitsIn z v
