@@ -15,7 +15,9 @@ use Rattle.refusal.specs.declared.Part.{Part}
 use Rattle.refusal.proofs.Following.{never, read-on}
 use Rattle.text.specs.Find.{same}
 use Rattle.text.proofs.FindLaws.{same-is, same-self}
+use Rattle.table.specs.Table.{capacityOf}
 use Rattle.table.specs.Walking.{walkFrom}
+use Rattle.table.proofs.Giving.{Gives, Of, Each, no-row, row}
 use Rattle.leb.specs.Reads.{part, bytesOf, nameAt}
 use Rattle.wasm.specs.Shapes.{Import, Export, Symbol}
 use Rattle.wasm.specs.Entry.{importAt, exportAt, symbolAt, moved}
@@ -27,6 +29,9 @@ use Rattle.conform.specs.Grammar.{FunctionOf, SubOf, moduleName, functio
 use Rattle.conform.specs.Port.{Named, AnyImport, AnyExport, AnyAssoc, AnySub, Framed, framed, Row, Held, SectionSaid, AnyContent, AnySection}
 use Rattle.conform.specs.Port.{AnyModule}
 use Rattle.conform.specs.Claims.{All, ImportHere, ExportHere, functionsOf, nameOr, nameIn, functionsIn, Derives, OnlyThese}
+use Rattle.conform.specs.Claims.{functionsAll, Fits, FitsIn}
+use Rattle.conform.specs.Sound.{ModuleOk}
+use Rattle.conform.proofs.Sound.{Few, few-run, rows-sound}
 use Rattle.conform.proofs.Parts.{In, same-part, in-part}
 use Rattle.conform.proofs.Header.{header-only}
 use Rattle.conform.proofs.Walks.{same-got, walk-out}
@@ -144,11 +149,12 @@ module _ (b s : List ℕ) (base : ℕ) (in-b : In b base s) (size : length s < 1
       (λ i t e u. HeardAll i t u) heard-end heard-on at t u e q
 
 -- ---- what a section's contents s come to
-module _ (b s : List ℕ) (base : ℕ) (in-b : In b base s) (size : length s < 18446744073709551616) where
+module _ (b s : List ℕ) (base : ℕ) (in-b : In b base s) (size : length s < 18446744073709551616) (z : Sizes) where
   record Contents (id : ℕ) (t : Tables) (u : Inner) : Type 0 where
     value : Held
     derives : AnyContent id s value
     leaves : Leaves b t u value
+    fits : Fits z value
 
   -- a custom section, by whether it is named `name`
   module _ (n : ℕ) (t : Tables) (p : Part) (at : ℕ) (first : Named s (bytesOf s p) (drop at s)) (whole : p .from + p .len ≤ length s) where
@@ -169,6 +175,7 @@ module _ (b s : List ℕ) (base : ℕ) (in-b : In b base s) (size : length s < 1
             exports-are = λ xs h. h;
             adds = o .adds;
           };
+          fits = tt;
         }
     titled v c false x e =
         let q = same-got e in
@@ -182,6 +189,7 @@ module _ (b s : List ℕ) (base : ℕ) (in-b : In b base s) (size : length s < 1
             exports-are = λ xs h. h;
             adds = subst (λ (k : Names). Adds b (t .names) k [] (λ d. d)) (q .0) (adds-nothing b (t .names));
           };
+          fits = tt;
         }
       where
         differ : bytesOf s p ≡ nameBytes → ⊥
@@ -203,9 +211,9 @@ module _ (b s : List ℕ) (base : ℕ) (in-b : In b base s) (size : length s < 1
       subst (λ (k : Spoken). Contents 0 t (record { name = k .name; tables = withNames t (k .inner) })) (g .0)
       (titled n t p (o .next) (w .0) (w .1) (x .what) (x .next) (same nameBytes (bytesOf s p)) refl (x .first))
 
-  contents : (id : ℕ) (z : Sizes) (t : Tables) (u : Inner) (d : ℕ) → contentsAt id s base z t ≡ accepted (got u d) → Contents id t u
-  unfolding contentsAt importsOf exportsOf functionsIn nameIn
-  contents id z t u d e =
+  contents : (id : ℕ) (t : Tables) (u : Inner) (d : ℕ) → contentsAt id s base z t ≡ accepted (got u d) → Contents id t u
+  unfolding contentsAt importsOf exportsOf functionsIn nameIn Gives Of Few
+  contents id t u d e =
       either id 0 _ _ (got u d) _ e
       (λ h f.
       let o = read-on _ _ f in
@@ -227,6 +235,12 @@ module _ (b s : List ℕ) (base : ℕ) (in-b : In b base s) (size : length s < 1
           exports-are = λ xs k. k;
           adds = adds-nothing b (t .names);
         };
+        fits = omega (
+          arith,
+          few-run (importAt s base) 2 (capacityOf (z .imports) 5 1024) s [] (omega arith) (got (o .what) (o .next)) (o .first),
+          ap length (i .is),
+          all-length (i .new) (i .values) (i .agree),
+        );
       }))
       (λ n2 g.
       either id 7 _ _ (got u d) _ g
@@ -245,6 +259,12 @@ module _ (b s : List ℕ) (base : ℕ) (in-b : In b base s) (size : length s < 1
               (all-map (export-here b s base in-b size) (i .new) (i .values) (i .agree));
           adds = adds-nothing b (t .names);
         };
+        fits = omega (
+          arith,
+          few-run (exportAt s base) 3 (capacityOf (z .exports) 4 1024) s [] (omega arith) (got (o .what) (o .next)) (o .first),
+          ap length (i .is),
+          all-length (i .new) (i .values) (i .agree),
+        );
       }))
       (λ n7 k.
       is id refl (same-got k .0) (record {
@@ -257,6 +277,7 @@ module _ (b s : List ℕ) (base : ℕ) (in-b : In b base s) (size : length s < 1
           exports-are = λ xs k. k;
           adds = adds-nothing b (t .names);
         };
+        fits = tt;
       }))))
     where
       is : (n : ℕ) {v : Inner} → id ≡ n → v ≡ u → Contents n t v → Contents id t u
@@ -268,13 +289,15 @@ module _ (b : List ℕ) (size : length b < 18446744073709551616) (z : Sizes) whe
     values : List SectionSaid
     derives : Row (Framed AnySection) (drop at b) values []
     tells : Tells b t u values
+    fits : Each (FitsIn z) values
 
   told-on : (at : ℕ) (t v u : Tables) (d e : ℕ) → sectionAt b z at t ≡ accepted (got v d) → Told d v u → Told at t u
+  unfolding FitsIn
   told-on at t v u d e q more =
       let k = took b z at t v d q in
       let p = k .payload in
       let i = taken-in b p d (k .ends) (k .in-b) in
-      let o = contents b (bytesOf b p) (p .from) i (omega (arith, i .inside)) (k .id) z t (k .inner) (k .end) (k .three) in
+      let o = contents b (bytesOf b p) (p .from) i (omega (arith, i .inside)) z (k .id) t (k .inner) (k .end) (k .three) in
       let said : SectionSaid = record { id = k .id; payload = bytesOf b p; holds = o .value } in
       let w : Says b t v said =
       subst (λ (x : Tables). Says b t x said) (sym (k .is)) (says-of b (bytesOf b p) (k .id) p t (k .inner) (o .value) refl (o .leaves)) in
@@ -283,25 +306,26 @@ module _ (b : List ℕ) (size : length b < 18446744073709551616) (z : Sizes) whe
         derives = rw (only-byte b size at (k .id) (k .a) (k .one))
             (Row.then (framed (only-counted b size (k .a) p d (k .two)) (AnySection.section (o .derives))) (more .derives));
         tells = tells-more b t v u said (more .values) w (more .tells);
+        fits = row (o .fits) (more .fits);
       }
 
   told-all : (at : ℕ) (t u : Tables) (e : ℕ) → walkFrom (sectionAt b z) b at t ≡ accepted (got u e) → Told at t u
   told-all at t u e q =
       walk-out (sectionAt b z) b (λ i t u d f. let k = took b z i t u d f in (omega (arith, k .past, k .ends), k .in-b))
-      (λ i t e u. Told i t u) (λ i t h. record { values = []; derives = rw (drop-all i b h) Row.done; tells = tells-nothing b t })
+      (λ i t e u. Told i t u) (λ i t h. record { values = []; derives = rw (drop-all i b h) Row.done; tells = tells-nothing b t; fits = no-row })
       told-on at t u e q
 
 -- all that is accepted is derived, with those rows
 pub only-these : OnlyThese
 unfolding moduleAt
-only-these b z m e = by (ltb 16777216 (length b)) refl e where
+only-these b z m bytes e = by (ltb 16777216 (length b)) refl e where
   same-said : {v w : Parsed} → accepted v ≡ accepted w → v ≡ w
   same-said e = cc
 
   by : (x : Bool) → ltb 16777216 (length b) ≡ x
       → pick x (refused 14 0) (onward (headerAt b) (λ v c.
       onward (walkFrom (sectionAt b z) b c noTables) (λ t d. accepted (record { version = v; tables = t })))) ≡ accepted m
-      → Derives b m
+      → Derives b z m
   by true x f = absurd (never f)
   by false x f =
       let short = ltb-false 16777216 (length b) x in
@@ -310,11 +334,18 @@ only-these b z m e = by (ltb 16777216 (length b)) refl e where
       let y = read-on (walkFrom (sectionAt b z) b (o .next) noTables) _ (o .then) in
       let w = told-all b (omega arith) z (o .next) noTables (y .what) (y .next) (y .first) in
       let is : _≡_ {A = Parsed} (record { version = o .what; tables = y .what }) m = same-said (y .then) in
-      subst (Derives b) is (record {
+      let ok = subst (ModuleOk b z) (sym is) (rows-sound b z m bytes e) .rows-ok in
+      let t = rows-of b (y .what) (w .values) (w .tells) in
+      subst (Derives b z) is (record {
         sections = w .values;
         derived = AnyModule.modul (h .header)
             (subst (λ (i : ℕ). Row (Framed AnySection) (drop i b) (w .values) []) (h .next-is) (w .derives));
         short = short;
+        room = record {
+          sections = omega (arith, ok .sections-few, all-length (y .what .sections) (w .values) (t .sections-are));
+          entries = w .fits;
+          functions = omega (arith, ok .names-ok .symbols-few, all-length (y .what .names .symbols) (functionsAll (w .values)) (t .functions-are));
+        };
         version-is = h .version-is;
-        rows = rows-of b (y .what) (w .values) (w .tells);
+        rows = t;
       })

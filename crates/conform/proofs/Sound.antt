@@ -9,11 +9,10 @@ use lib.ListN.{length, getD, length-append}
 use lib.Dec.{ltb, eqb}
 use borrow.Author.Tests.{ltb-true, eqb-true}
 use Rattle.refusal.specs.Pick.{pick}
-use Rattle.refusal.specs.Said.{Said, accepted, refused, Got, got}
+use Rattle.refusal.specs.Said.{Said, accepted, refused, Got, got, onward}
 use Rattle.refusal.specs.declared.Part.{Part}
 use Rattle.refusal.proofs.Following.{never}
 use Rattle.text.specs.Find.{same}
-use Rattle.table.specs.Table.{capacityOf}
 use Rattle.table.specs.Entries.{entriesFrom}
 use Rattle.table.specs.Walking.{walkFrom}
 use Rattle.table.proofs.Giving.{Gives, Of, Each, no-row, row, gives-done, gives-stop, gives-pick, gives-onward, gives-from, gives-entries}
@@ -35,7 +34,7 @@ use Rattle.conform.proofs.Sections.{took, rowOf}
 use Rattle.conform.proofs.Header.{header-only, version-small}
 
 -- ---- no more rows than there is room for
-unfoldable Few : {E : Type 0} → ℕ → List E → Type 0
+unfoldable pub Few : {E : Type 0} → ℕ → List E → Type 0
 Few room es = length es ≤ room
 
 module _ {E : Type 0} (read : ℕ → Said (Got E)) (tn room : ℕ) where
@@ -51,6 +50,10 @@ module _ {E : Type 0} (read : ℕ → Said (Got E)) (tn room : ℕ) where
           → Gives (Of (Few room)) (pick t (entriesFrom read tn room n d (rows ++ (v ∷ []))) (refused 13 tn))
       by v d ih true t = ih (omega (arith, ltb-true (length rows) room t, length-append rows (v ∷ [])))
       by v d ih false t = gives-stop (Of (Few room)) 13 tn
+
+  pub few-run : (s : List ℕ) (rows : List E) → length rows ≤ room
+      → Gives (Of (Few room)) (onward (u32At s 0) (λ n at. entriesFrom read tn room n at rows))
+  few-run s rows h = gives-onward (Of (Few room)) (u32At s 0) _ (λ n at e. few-entries n at rows h)
 
 -- ---- numbers
 byte-small : (s : List ℕ) → Bytes s → (at v d : ℕ) → byteAt s at ≡ accepted (got v d) → v < 256
@@ -138,8 +141,7 @@ module _ (n : ℕ) (z : Sizes) where
           label-in = h .label-in;
           symbols-ok = gives-onward (Of (Each (SymbolOk n))) (u32At s 0) _ (λ count at x.
               gives-entries (SymbolOk n) (symbolAt s base) symbol-ok 4 _ count at (t .symbols) (h .symbols-ok)) (got rows e) q;
-          symbols-few = gives-onward (Of (Few (capacityOf (z .names) 3 4096))) (u32At s 0) _ (λ count at x.
-              few-entries (symbolAt s base) 4 _ count at (t .symbols) (h .symbols-few)) (got rows e) q;
+          symbols-few = few-run (symbolAt s base) 4 _ s (t .symbols) (h .symbols-few) (got rows e) q;
         })))
         (gives-done (Of (NamesOk n z)) _ h))
 
@@ -199,8 +201,7 @@ module _ (n : ℕ) (z : Sizes) where
             sections-few = h .sections-few;
             imports-ok = gives-onward (Of (Each (ImportOk n))) (u32At s 0) _ (λ count at x.
                 gives-entries (ImportOk n) (importAt s base) (import-ok s bytes base fits) 2 _ count at [] no-row) (got rows e) q;
-            imports-few = gives-onward (Of (Few (capacityOf (z .imports) 5 1024))) (u32At s 0) _ (λ count at x.
-                few-entries (importAt s base) 2 _ count at [] (omega arith)) (got rows e) q;
+            imports-few = few-run (importAt s base) 2 _ s [] (omega arith) (got rows e) q;
             exports-ok = h .exports-ok;
             exports-few = h .exports-few;
             names-ok = h .names-ok;
@@ -218,8 +219,7 @@ module _ (n : ℕ) (z : Sizes) where
             imports-few = h .imports-few;
             exports-ok = gives-onward (Of (Each (ExportOk n))) (u32At s 0) _ (λ count at x.
                 gives-entries (ExportOk n) (exportAt s base) (export-ok s bytes base fits) 3 _ count at [] no-row) (got rows e) q;
-            exports-few = gives-onward (Of (Few (capacityOf (z .exports) 4 1024))) (u32At s 0) _ (λ count at x.
-                few-entries (exportAt s base) 3 _ count at [] (omega arith)) (got rows e) q;
+            exports-few = few-run (exportAt s base) 3 _ s [] (omega arith) (got rows e) q;
             names-ok = h .names-ok;
           };
         })))
