@@ -1,6 +1,7 @@
 // wasm.rs: the module reader over lent tables.
 mod custom;
 mod entry;
+pub mod kind;
 mod rows;
 mod section;
 
