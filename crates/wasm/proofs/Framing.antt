@@ -39,7 +39,8 @@ module _ (id : ℕ) (s : List ℕ) (base : ℕ) (z : Sizes) (t : Tables) where
     unfolding contentsAt
     zero-stop e = rw is (tell-after-stop _ zero-here e)
 
-    pub zero-got : (i e : List ℕ) (n : Counts) {m : Counts} {u : Custom} {d : ℕ} → m ≡ nameCount n (u .inner) → n ≡ countsOf t → i ≡ laid (z .imports)
+    pub zero-got : (i e : List ℕ) (n : Counts) {m : Counts} {u : Custom} {d : ℕ} → m ≡ nameCount n (u .inner) → n ≡ countsOf t → i ≡ laid
+        (z .imports)
         (cells importCells (t .imports))
         → e ≡ laid (z .exports) (cells exportCells (t .exports)) → a ≡ accepted (got u d)
         → Told contentsOf (InsideOf i e table z) (contentsAt id s base z t)
@@ -59,7 +60,8 @@ module _ (id : ℕ) (s : List ℕ) (base : ℕ) (z : Sizes) (t : Tables) where
     unfolding contentsAt
     two-stop e = rw is (tell-after-stop _ two-here e)
 
-    pub two-got : (e f : List ℕ) (n : Counts) {m : Counts} {k d : ℕ} → m ≡ importCount n k → n ≡ countsOf t → e ≡ laid (z .exports) (cells exportCells (t .exports))
+    pub two-got : (e f : List ℕ) (n : Counts) {m : Counts} {k d : ℕ} → m ≡ importCount n k → n ≡ countsOf t → e ≡ laid (z .exports)
+        (cells exportCells (t .exports))
         → f ≡ laid (z .names) (cells symbolCells (t .names .symbols)) → a ≡ accepted (got k d)
         → Told contentsOf (InsideOf table e f z) (contentsAt id s base z t)
         (accepted (got (record { name = part 0 0; counts = m }) d))
@@ -78,7 +80,8 @@ module _ (id : ℕ) (s : List ℕ) (base : ℕ) (z : Sizes) (t : Tables) where
     unfolding contentsAt
     seven-stop e = rw is (tell-after-stop _ seven-here e)
 
-    pub seven-got : (i f : List ℕ) (n : Counts) {m : Counts} {k d : ℕ} → m ≡ exportCount n k → n ≡ countsOf t → i ≡ laid (z .imports) (cells importCells (t .imports))
+    pub seven-got : (i f : List ℕ) (n : Counts) {m : Counts} {k d : ℕ} → m ≡ exportCount n k → n ≡ countsOf t → i ≡ laid (z .imports)
+        (cells importCells (t .imports))
         → f ≡ laid (z .names) (cells symbolCells (t .names .symbols)) → a ≡ accepted (got k d)
         → Told contentsOf (InsideOf i table f z) (contentsAt id s base z t)
         (accepted (got (record { name = part 0 0; counts = m }) d))

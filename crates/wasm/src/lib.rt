@@ -2,6 +2,7 @@
 mod custom;
 mod entry;
 pub mod kind;
+pub mod query;
 mod rows;
 mod section;
 
