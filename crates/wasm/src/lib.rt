@@ -1,8 +1,6 @@
 // wasm.rs: the module reader over lent tables.
 mod custom;
 mod entry;
-pub mod kind;
-pub mod query;
 mod rows;
 mod section;
 
