@@ -18,7 +18,7 @@ use Rattle.table.specs.Walking.{turned, walkFrom}
 use Rattle.wasm.specs.Entry.{funcAt, descAt, importAt}
 use Rattle.wasm.specs.Rows.{importsOf}
 use Rattle.wasm.specs.Module.{Sizes, Parsed, noTables, magic, headerAt, contentsAt, addSection, sectionAt, moduleAt}
-use Rattle.wasm.specs.declared.entry.Desc.{Desc}
+use Rattle.wasm.specs.Shapes.{func}
 
 -- bytes, and what reading them from their start answers
 pub data Example : Type 0 where
@@ -58,7 +58,7 @@ oneImportRead =
       version = 1;
       tables = record {
         sections = record { id = 2; from = 10; size = 7; name = part 0 0 } ∷ [];
-        imports = record { «module» = part 12 1; field = part 14 1; kind = 0; desc = Desc.Func 0 } ∷ [];
+        imports = record { «module» = part 12 1; field = part 14 1; kind = 0; desc = func 0 } ∷ [];
         exports = [];
         names = record { label = record { named = false; start = 0; size = 0 }; symbols = [] };
       };

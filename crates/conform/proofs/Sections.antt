@@ -1,0 +1,73 @@
+-- A section that was accepted, taken apart: what was read of it, and where it lies. Assumes nothing.
+use Prim.Native.Nat.{ℕ, _+_, _≤_, _<_}
+use native.Mathlib.Omega.{arith}
+use mathlib.Core.Path.{_≡_, refl}
+use mathlib.Core.Bool.{Bool, true, false}
+use mathlib.Core.List.{List}
+use lib.ListN.{length}
+use lib.Dec.{ltb}
+use borrow.Author.Tests.{ltb-true}
+use Rattle.refusal.specs.Pick.{pick}
+use Rattle.refusal.specs.Said.{accepted, refused, got}
+use Rattle.refusal.specs.declared.Part.{Part}
+use Rattle.refusal.proofs.Following.{never, read-on}
+use Rattle.table.specs.Table.{capacityOf}
+use Rattle.leb.specs.Reads.{bytesOf, byteAt, countedAt}
+use Rattle.leb.proofs.Bounds.{byte-in, counted-in}
+use Rattle.wasm.specs.Shapes.{Section}
+use Rattle.wasm.specs.Module.{Tables, withSection, Sizes, Inner, contentsAt, addSection, sectionAt}
+
+abbrev pub rowOf : ℕ → Part → Inner → Section
+rowOf id p u = record { id = id; from = p .from; size = p .len; name = u .name }
+
+-- id, payload and contents were read, and the row was added
+pub record Took (b : List ℕ) (z : Sizes) (at : ℕ) (t u : Tables) (d : ℕ) : Type 0 where
+  pub id : ℕ
+  pub a : ℕ
+  pub payload : Part
+  pub inner : Inner
+  pub end : ℕ
+  pub one : byteAt b at ≡ accepted (got id a)
+  pub two : countedAt b a ≡ accepted (got payload d)
+  pub three : contentsAt id (bytesOf b payload) (payload .from) z t ≡ accepted (got inner end)
+  pub is : u ≡ withSection (inner .tables) (rowOf id payload inner)
+  pub room : length (inner .tables .sections) < capacityOf (z .sections) 5 256
+  pub past : at < payload .from
+  pub ends : payload .from + payload .len ≡ d
+  pub in-b : d ≤ length b
+
+-- a row that was added had room
+added : (n : ℕ) (row : Section) (next : ℕ) (t u : Tables) (d : ℕ) → addSection n row next t ≡ accepted (got u d)
+    → (u ≡ withSection t row) × (next ≡ d) × (length (t .sections) < capacityOf n 5 256)
+unfolding addSection
+added n row next t u d e = by (ltb (length (t .sections)) (capacityOf n 5 256)) refl e where
+  by : (x : Bool) → ltb (length (t .sections)) (capacityOf n 5 256) ≡ x
+      → pick x (accepted (got (withSection t row) next)) (refused 13 1) ≡ accepted (got u d)
+      → (u ≡ withSection t row) × (next ≡ d) × (length (t .sections) < capacityOf n 5 256)
+  by true x f = (cc, cc, ltb-true (length (t .sections)) (capacityOf n 5 256) x)
+  by false x f = absurd (never f)
+
+pub took : (b : List ℕ) (z : Sizes) (at : ℕ) (t u : Tables) (d : ℕ) → sectionAt b z at t ≡ accepted (got u d) → Took b z at t u d
+unfolding sectionAt
+took b z at t u d e =
+    let x = read-on (byteAt b at) _ e in
+    let y = read-on (countedAt b (x .next)) _ (x .then) in
+    let c = read-on (contentsAt (x .what) (bytesOf b (y .what)) (y .what .from) z t) _ (y .then) in
+    let o = added (z .sections) (rowOf (x .what) (y .what) (c .what)) (y .next) (c .what .tables) u d (c .then) in
+    let v = byte-in b at (x .what) (x .next) (x .first) in
+    let w = counted-in b (x .next) (y .what) (y .next) (y .first) in
+    record {
+      id = x .what;
+      a = x .next;
+      payload = y .what;
+      inner = c .what;
+      end = c .next;
+      one = x .first;
+      two = rw (o .1) at (y .first);
+      three = c .first;
+      is = o .0;
+      room = o .2;
+      past = omega (arith, v .past, w .past);
+      ends = omega (arith, w .end, o .1);
+      in-b = omega (arith, o .1, w .in-s);
+    }

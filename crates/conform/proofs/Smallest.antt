@@ -1,0 +1,36 @@
+-- A smallest input for each difference, computed. Assumes nothing.
+use mathlib.Core.Path.{refl}
+use Rattle.refusal.specs.Said.{onward}
+use Rattle.text.specs.Walk.{walk}
+use Rattle.text.specs.Find.{same}
+use Rattle.text.specs.Scan.{scan}
+use Rattle.text.specs.Utf8.{upTo, seqLen, after, covers, follow, followIn}
+use Rattle.table.specs.Table.{capacityOf}
+use Rattle.table.specs.Entries.{entriesFrom}
+use Rattle.table.specs.Walking.{turned, walkFrom}
+use Rattle.leb.specs.Groups.{uN, grown, spent}
+use Rattle.leb.specs.Reads.{byteAt, u32At, ulebAt, told, narrowed, takeAt, fixedAt, nameAt, checked, countedAt}
+use Rattle.wasm.specs.Entry.{limitsAt, funcAt, tableAt, globalAt, descAt, importAt, exportAt}
+use Rattle.wasm.specs.Rows.{importsOf}
+use Rattle.wasm.specs.Custom.{subsectionAt, nameWord, customAt}
+use Rattle.wasm.specs.Module.{contentsAt, addSection, sectionAt, headerAt, magic, noTables, moduleAt}
+use Rattle.conform.specs.Beyond.{Smallest}
+
+pub smallest : Smallest
+unfolding moduleAt headerAt magic takeAt fixedAt onward same walkFrom turned walk sectionAt byteAt countedAt u32At ulebAt told narrowed uN
+    grown spent contentsAt customAt nameWord subsectionAt nameAt checked upTo scan seqLen after covers follow followIn importsOf
+    entriesFrom capacityOf importAt descAt funcAt addSection noTables limitsAt exportAt tableAt globalAt
+smallest =
+    record {
+      version = refl;
+      unused = refl;
+      disordered = refl;
+      repeated = refl;
+      id = refl;
+      flag = refl;
+      kind = refl;
+      element = refl;
+      mutability = refl;
+      size = refl;
+      names = refl;
+    }

@@ -1,0 +1,112 @@
+-- docs/PROMISES.md, "The module": what holds of the rows that the reader leaves, whatever the file; and of the room that it is lent.
+-- docs/RULES.md, "Numbered answers": a row of which this holds never gives 15. Assumes nothing.
+use Prim.Native.Nat.{ℕ, _+_, _^_, _≤_, _<_}
+use mathlib.Core.Path.{_≡_}
+use mathlib.Core.List.{List, [], _∷_}
+use lib.ListN.{length}
+use Rattle.refusal.specs.Said.{accepted, got}
+use Rattle.refusal.specs.declared.Part.{Part}
+use Rattle.table.specs.Table.{capacityOf}
+use Rattle.table.proofs.Giving.{Each}
+use Rattle.wasm.specs.Shapes.{Import, Export, Symbol, Section}
+use Rattle.wasm.specs.Custom.{Names}
+use Rattle.wasm.specs.Module.{Tables, Sizes, Parsed, noTables, sectionAt, moduleAt}
+use Rattle.conform.specs.Claims.{Bytes}
+use Rattle.conform.specs.Loose.{LooseHeader}
+
+-- ---- a file of n bytes
+abbrev pub InFile : ℕ → Part → Type 0
+InFile n p = p .from + p .len ≤ n
+
+pub record ImportOk (n : ℕ) (r : Import) : Type 0 where
+  pub module-in : InFile n (r .«module»)
+  pub field-in : InFile n (r .field)
+  pub kind-small : r .kind < 4
+
+pub record ExportOk (n : ℕ) (r : Export) : Type 0 where
+  pub name-in-file : InFile n (r .name)
+  pub kind-byte : r .kind < 256
+  pub index-small : r .index < 2 ^ 32
+
+pub record SymbolOk (n : ℕ) (r : Symbol) : Type 0 where
+  pub index-small : r .index < 2 ^ 32
+  pub name-in-file : InFile n (r .name)
+
+pub record SectionOk (n : ℕ) (r : Section) : Type 0 where
+  pub id-byte : r .id < 256
+  pub payload-in : r .from + r .size ≤ n
+  pub name-in-file : InFile n (r .name)
+
+-- rows, and no more of them than the table holds
+pub record NamesOk (n : ℕ) (z : Sizes) (t : Names) : Type 0 where
+  pub label-in : t .label .start + t .label .size ≤ n
+  pub symbols-ok : Each (SymbolOk n) (t .symbols)
+  pub symbols-few : length (t .symbols) ≤ capacityOf (z .names) 3 4096
+
+pub record TablesOk (n : ℕ) (z : Sizes) (t : Tables) : Type 0 where
+  pub sections-ok : Each (SectionOk n) (t .sections)
+  pub sections-few : length (t .sections) ≤ capacityOf (z .sections) 5 256
+  pub imports-ok : Each (ImportOk n) (t .imports)
+  pub imports-few : length (t .imports) ≤ capacityOf (z .imports) 5 1024
+  pub exports-ok : Each (ExportOk n) (t .exports)
+  pub exports-few : length (t .exports) ≤ capacityOf (z .exports) 4 1024
+  pub names-ok : NamesOk n z (t .names)
+
+-- payloads that lie between a and e, each after the one before it
+pub data Apart : ℕ → List Section → ℕ → Type 0 where
+  last : {a e : ℕ} → a ≤ e → Apart a [] e
+  next : {a e : ℕ} {r : Section} {rs : List Section} → a < r .from → Apart (r .from + r .size) rs e → Apart a (r ∷ rs) e
+
+-- ---- the claims
+-- every row that an accepted read leaves is sound, and payloads follow the header one after another, within the file
+pub record ModuleOk (b : List ℕ) (z : Sizes) (m : Parsed) : Type 0 where
+  pub version-is : (0 < m .version) × (m .version < 2 ^ 32)
+  pub rows-ok : TablesOk (length b) z (m .tables)
+  pub payloads-apart : Apart 8 (m .tables .sections) (length b)
+
+abbrev pub RowsSound : Type 0
+RowsSound = (b : List ℕ) (z : Sizes) (m : Parsed) → Bytes b → moduleAt b z ≡ accepted m → ModuleOk b z m
+
+-- the reader of b comes to an offset with the tables t: from the header on, section after section
+pub data Comes (b : List ℕ) (z : Sizes) : ℕ → Tables → Type 0 where
+  start : LooseHeader b → length b ≤ 16777216 → Comes b z 8 noTables
+  after : {at d : ℕ} {t u : Tables} → Comes b z at t → sectionAt b z at t ≡ accepted (got u d) → Comes b z d u
+
+-- the tables that it comes with never hold more rows than they have room for
+pub record Fit (w : Sizes) (t : Tables) : Type 0 where
+  pub sections : length (t .sections) ≤ capacityOf (w .sections) 5 256
+  pub imports : length (t .imports) ≤ capacityOf (w .imports) 5 1024
+  pub exports : length (t .exports) ≤ capacityOf (w .exports) 4 1024
+  pub names : length (t .names .symbols) ≤ capacityOf (w .names) 3 4096
+
+abbrev pub AlwaysFit : Type 0
+AlwaysFit = (b : List ℕ) (z : Sizes) (at : ℕ) (t : Tables) → Bytes b → Comes b z at t → Fit z t
+
+-- and that is all the room it needs: a file accepted with some tables is accepted with any that its rows fit into, section after section
+abbrev pub EnoughRoom : Type 0
+EnoughRoom =
+    (b : List ℕ) (z w : Sizes) (m : Parsed) → moduleAt b z ≡ accepted m → ((at : ℕ) (t : Tables) → Comes b z at t → Fit w t)
+    → moduleAt b w ≡ accepted m
+
+-- w has at least the room of z
+pub record Larger (z w : Sizes) : Type 0 where
+  pub sections : capacityOf (z .sections) 5 256 ≤ capacityOf (w .sections) 5 256
+  pub imports : capacityOf (z .imports) 5 1024 ≤ capacityOf (w .imports) 5 1024
+  pub exports : capacityOf (z .exports) 4 1024 ≤ capacityOf (w .exports) 4 1024
+  pub names : capacityOf (z .names) 3 4096 ≤ capacityOf (w .names) 3 4096
+
+-- a file that is accepted with some tables is accepted with larger ones: the same version and rows
+abbrev pub LargerSame : Type 0
+LargerSame = (b : List ℕ) (z w : Sizes) (m : Parsed) → Larger z w → moduleAt b z ≡ accepted m → moduleAt b w ≡ accepted m
+
+-- tables at the limits
+abbrev pub limits : Sizes
+limits = record { sections = 1280; imports = 5120; exports = 4096; names = 12288 }
+
+-- so "accepted" can be said of the file alone: what some tables accept, tables at the limits do
+abbrev pub LimitsDecide : Type 0
+LimitsDecide = (b : List ℕ) (z : Sizes) (m : Parsed) → moduleAt b z ≡ accepted m → moduleAt b limits ≡ accepted m
+
+-- and no two sizes of tables give two modules
+abbrev pub OneModule : Type 0
+OneModule = (b : List ℕ) (z w : Sizes) (m n : Parsed) → moduleAt b z ≡ accepted m → moduleAt b w ≡ accepted n → m ≡ n
