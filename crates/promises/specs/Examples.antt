@@ -2,6 +2,7 @@
 -- Assumes nothing.
 use Prim.Native.Nat.{ℕ, zero, suc}
 use mathlib.Core.Path.{_≡_, refl}
+use mathlib.Core.Bool.{false}
 use mathlib.Core.List.{List, [], _∷_, _++_}
 use lib.IntN.{ℤ, pos, negsuc}
 use Rattle.refusal.specs.Said.{Said, accepted, refused, Got, got, onward}
@@ -81,6 +82,6 @@ examples =
 
 pub examples-hold : AllHold examples
 unfolding ulebAt u32At slebAt told narrowed onward uN sN twos grown spent byteAt fixedAt takeAt countedAt checked nameAt moduleAt headerAt magic same
-  walkFrom walk turned sectionAt contentsAt addSection capacityOf noTables importsOf entriesFrom importAt descAt funcAt upTo scan seqLen after follow8
-  followIn covers table
+    walkFrom walk turned sectionAt contentsAt addSection capacityOf noTables importsOf entriesFrom importAt descAt funcAt upTo scan seqLen after follow8
+    followIn covers table
 examples-hold = (refl, (refl, (refl, (refl, (refl, (refl, (refl, (refl, (refl, (refl, (refl, tt)))))))))))
