@@ -2,22 +2,41 @@
 -- Assumes nothing.
 use Prim.Native.Nat.{ℕ, zero, suc}
 use mathlib.Core.Path.{_≡_, refl}
-use mathlib.Core.List.{List, [], _∷_}
+use mathlib.Core.Bool.{false}
+use mathlib.Core.List.{List, [], _∷_, _++_}
 use lib.IntN.{ℤ, pos, negsuc}
 use Rattle.refusal.specs.Said.{Said, accepted, refused, Got, got, onward}
 use Rattle.leb.specs.Groups.{uN, sN, twos, grown, spent}
-use Rattle.leb.specs.Reads.{told, narrowed, ulebAt, u32At, slebAt}
+use Rattle.leb.specs.Reads.{told, narrowed, ulebAt, u32At, slebAt, part, byteAt, fixedAt, takeAt, countedAt, checked, nameAt}
+use Rattle.text.specs.Find.{same}
+use Rattle.text.specs.Scan.{scan}
+use Rattle.text.specs.Utf8.{upTo, seqLen, after, followIn, covers, table}
+use Rattle.text.specs.Utf8.{follow as follow8}
+use Rattle.text.specs.Walk.{walk}
+use Rattle.table.specs.Table.{capacityOf}
+use Rattle.table.specs.Entries.{entriesFrom}
+use Rattle.table.specs.Walking.{turned, walkFrom}
+use Rattle.wasm.specs.Entry.{funcAt, descAt, importAt}
+use Rattle.wasm.specs.Rows.{importsOf}
+use Rattle.wasm.specs.Module.{Sizes, Parsed, noTables, magic, headerAt, contentsAt, addSection, sectionAt, moduleAt}
+use Rattle.wasm.specs.Shapes.{func}
 
 -- bytes, and what reading them from their start answers
 pub data Example : Type 0 where
   unsigned : List ℕ → Said (Got ℕ) → Example
   unsigned32 : List ℕ → Said (Got ℕ) → Example
   signed : List ℕ → Said (Got ℤ) → Example
+  file : List ℕ → Said Parsed → Example
+
+-- room for two rows in each table
+abbrev pub two : Sizes
+two = record { sections = 10; imports = 10; exports = 8; names = 6 }
 
 abbrev pub Holds : Example → Type 0
 Holds (unsigned s r) = ulebAt s 0 ≡ r
 Holds (unsigned32 s r) = u32At s 0 ≡ r
 Holds (signed s r) = slebAt s 0 ≡ r
+Holds (file b r) = moduleAt b two ≡ r
 
 abbrev pub AllHold : List Example → Type 0
 AllHold [] = Unit {0}
@@ -26,6 +45,25 @@ AllHold (e ∷ l) = Holds e × AllHold l
 -- nine times b, then l
 abbrev pub nine : ℕ → List ℕ → List ℕ
 nine b l = b ∷ b ∷ b ∷ b ∷ b ∷ b ∷ b ∷ b ∷ b ∷ l
+
+abbrev pub header : List ℕ
+header = 0x00 ∷ 0x61 ∷ 0x73 ∷ 0x6d ∷ 0x01 ∷ 0x00 ∷ 0x00 ∷ 0x00 ∷ []
+
+abbrev pub oneImport : List ℕ
+oneImport = header ++ (0x02 ∷ 0x07 ∷ 0x01 ∷ 0x01 ∷ 0x6d ∷ 0x01 ∷ 0x66 ∷ 0x00 ∷ 0x00 ∷ [])
+
+-- a section 2, and the function `f` of `m`
+abbrev pub oneImportRead : Parsed
+oneImportRead =
+    record {
+      version = 1;
+      tables = record {
+        sections = record { id = 2; from = 10; size = 7; name = part 0 0 } ∷ [];
+        imports = record { «module» = part 12 1; field = part 14 1; kind = 0; desc = func 0 } ∷ [];
+        exports = [];
+        names = record { label = record { named = false; start = 0; size = 0 }; symbols = [] };
+      };
+    }
 
 abbrev pub examples : List Example
 examples =
@@ -37,8 +75,13 @@ examples =
     ∷ signed (0xc0 ∷ 0x00 ∷ []) (accepted (got (pos 64) 2))
     ∷ signed (0x40 ∷ []) (accepted (got (negsuc 63) 1))
     ∷ signed (nine 0x80 (0x01 ∷ [])) (accepted (got (negsuc 9223372036854775807) 10))
+    ∷ file header (accepted (record { version = 1; tables = noTables }))
+    ∷ file (0x00 ∷ 0x61 ∷ 0x73 ∷ 0x6d ∷ 0x00 ∷ 0x00 ∷ 0x00 ∷ 0x00 ∷ []) (refused 2 4)
+    ∷ file oneImport (accepted oneImportRead)
     ∷ []
 
 pub examples-hold : AllHold examples
-unfolding ulebAt u32At slebAt told narrowed onward uN sN twos grown spent
-examples-hold = (refl, (refl, (refl, (refl, (refl, (refl, (refl, (refl, tt))))))))
+unfolding ulebAt u32At slebAt told narrowed onward uN sN twos grown spent byteAt fixedAt takeAt countedAt checked nameAt moduleAt headerAt magic same
+    walkFrom walk turned sectionAt contentsAt addSection capacityOf noTables importsOf entriesFrom importAt descAt funcAt upTo scan seqLen after follow8
+    followIn covers table
+examples-hold = (refl, (refl, (refl, (refl, (refl, (refl, (refl, (refl, (refl, (refl, (refl, tt)))))))))))

@@ -4,5 +4,8 @@ pub mod OfText
 pub mod OfTable
 pub mod OfSorting
 pub mod OfLeb
+pub mod OfImports
+pub mod OfWasm
+pub mod OfKinds
 pub mod Examples
 pub mod Rejected

@@ -5,9 +5,14 @@ use Rattle.refusal.proofs.number.Kinds as number-kinds
 use Rattle.refusal.proofs.number.Reads as number
 use Rattle.refusal.proofs.place.Kinds as place-kinds
 use Rattle.refusal.proofs.place.Reads as place
+use Rattle.refusal.proofs.slug_of.Kinds as slug-of-kinds
+use Rattle.refusal.proofs.slug_of.Reads as slug-of
 
 pub number-decides : Decides number-kinds.ps number-kinds.r number.Post
 number-decides κs a x y s t p q = p ∙ sym q
 
 pub place-decides : Decides place-kinds.ps place-kinds.r place.Post
 place-decides κs a x y s t p q = p ∙ sym q
+
+pub slug-of-decides : Decides slug-of-kinds.ps slug-of-kinds.r slug-of.Post
+slug-of-decides κs a x y s t p q = p ∙ sym q

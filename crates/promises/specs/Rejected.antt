@@ -6,13 +6,20 @@ use contract.Lifetimes.{Lfts}
 use borrow.Fn.Kinds.{Dens, endedOf}
 use denote.Triple.Clauses.{AtExit}
 use denote.Ref.{now}
-use lib.ListN.{drop}
+use lib.ListN.{length, drop}
+use Rattle.refusal.specs.Said.{Said, accepted, refused, follow}
 use Rattle.refusal.specs.declared.Refusal.{Refusal}
+use Rattle.refusal.proofs.Following.{never}
 use Rattle.leb.specs.Grammar.{U}
 use Rattle.leb.specs.Answers.{from}
 use Rattle.leb.specs.declared.Cursor.{Cursor}
 use Rattle.leb.specs.declared.U64Read.{U64Read}
 use Rattle.leb.proofs.Conform.{u64-read}
+use Rattle.wasm.specs.Module.{Sizes, sizes, Parsed, moduleAt, moduleOf}
+use Rattle.wasm.specs.declared.Module.{Module}
+use Rattle.wasm.specs.declared.ModuleRead.{ModuleRead}
+use Rattle.wasm.proofs.read_module.Kinds as read-module-kinds
+use Rattle.wasm.proofs.read_module.Reads as read-module
 use Rattle.leb.proofs.Cursor.uleb128.Kinds as uleb128-kinds
 use Rattle.leb.proofs.Cursor.uleb128.Reads as uleb128
 
@@ -25,3 +32,21 @@ refuses-number κs a s why back v k u p =
     let e = p ∙ ap (from (a .0 .at)) (u64-read (now (a .1 .0)) (a .0 .at) v k u) in
     let z : _≡_ {A = ℕ} 0 1 = cc in
     omega arith
+
+-- a module reader that refuses a file that is read: one that refuses everything
+module _ (κs : Lfts 5) (a : Dens κs read-module-kinds.ps) (s : AtExit (endedOf 5 read-module-kinds.ps read-module-kinds.r) κs) where
+  abbrev lent : Sizes
+  lent = sizes (now (a .1 .0)) (now (a .1 .1 .0)) (now (a .1 .1 .1 .0)) (now (a .1 .1 .1 .1 .0))
+
+  pub refuses-module : (m : Parsed) (why : Refusal) → moduleAt (now (a .0)) lent ≡ accepted m
+      → read-module.Post κs a (ModuleRead.Refused why) s → ⊥
+  unfolding follow
+  refuses-module m why e p = never (p .answer-is ∙ ap (λ (x : Said Parsed). follow x (λ n. accepted (moduleOf (length (now (a .0))) n))) e)
+
+  -- the answer to a file that is read is that file's, so no answer serves two files that are read differently: one module for all files
+  pub own-module : (m : Parsed) (r : Module) → moduleAt (now (a .0)) lent ≡ accepted m
+      → read-module.Post κs a (ModuleRead.Module r) s → r ≡ moduleOf (length (now (a .0))) m
+  unfolding follow
+  own-module m r e p =
+      let q = p .answer-is ∙ ap (λ (x : Said Parsed). follow x (λ n. accepted (moduleOf (length (now (a .0))) n))) e in
+      cc

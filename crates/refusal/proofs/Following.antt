@@ -23,6 +23,16 @@ unfolding follow
 followed (accepted v) f e = record { what = v; first = refl; then = e }
 followed (refused n p) f e = absurd (never e)
 
+-- a call after another, by what the first turned out to say
+module _ {X Y : Type 0} {x : Said X} (f : X → Said Y) where
+  pub follow-stops : {n p : ℕ} → x ≡ refused n p → refused n p ≡ follow x f
+  unfolding follow
+  follow-stops e = rw e
+
+  pub follow-goes : {v : X} {y : Said Y} → x ≡ accepted v → y ≡ f v → y ≡ follow x f
+  unfolding follow
+  follow-goes e q = rw (e, q)
+
 -- it does not matter how calls in a row are grouped
 pub grouped : {X Y Z : Type 0} (x : Said X) (f : X → Said Y) (g : Y → Said Z) → follow (follow x f) g ≡ follow x (λ v. follow (f v) g)
 unfolding follow

@@ -8,7 +8,8 @@ use Rattle.refusal.specs.declared.Answer.{Answer}
 use Rattle.refusal.specs.declared.Count.{Count}
 use Rattle.refusal.specs.declared.Written.{Written}
 use Rattle.refusal.specs.declared.Refusal.{Refusal}
-use Rattle.refusal.specs.declared.Refusal.the-variants.{UnexpectedEof, BadMagic, BadLeb128, BadUtf8, MalformedSection, Directive, BadDefault, BadDomain}
+use Rattle.refusal.specs.declared.Refusal.the-variants.{UnexpectedEof, BadMagic, BadLeb128, BadUtf8, MalformedSection, Directive}
+use Rattle.refusal.specs.declared.Refusal.the-variants.{BadDefault, BadDomain}
 use Rattle.refusal.specs.declared.Refusal.the-variants.{PackageInWorld, NoName, Unmatched, Outside, Full, TooLong, BadTable, NoRoom}
 
 -- the refusal that has a number and a place

@@ -1,6 +1,7 @@
 // The numbered answers of docs/RULES.md, and the small values that every crate hands around.
 ghost use mathlib.Core.Path.{_≡_};
 ghost use Rattle.refusal.specs.Said.{numberOf, placeOf};
+ghost use Rattle.refusal.specs.Slug.{slugOf};
 
 // Why a call gave no answer, and where: a case for each number, 1 to 16 in this order.
 pub enum Refusal {
@@ -94,4 +95,20 @@ pub fn place(r: Refusal) -> usize
         Refusal::BadTable(row) => row,
         Refusal::NoRoom(needed) => needed,
     }
+}
+
+// A word of at most ten bytes; of a longer one, the first ten.
+pub fn slug_of(word: &[u8]) -> Slug
+    ensures { λ r. ⌜ r ≡ slugOf (now (word .entry)) ⌝ }
+{
+    let mut bytes = [0u8; 10];
+    let mut len = 0;
+    while len < word.len() {
+        if len == 10 {
+            return Slug { bytes, len };
+        }
+        bytes[len] = word[len];
+        len += 1;
+    }
+    Slug { bytes, len }
 }

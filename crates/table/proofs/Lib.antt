@@ -6,3 +6,5 @@ pub mod Reading
 pub mod Walking
 pub mod Larger
 pub mod Giving
+pub mod Testing
+pub mod Listing

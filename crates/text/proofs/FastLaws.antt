@@ -4,8 +4,9 @@ use mathlib.Core.List.{List, [], _∷_}
 use Prim.Native.Nat.{ℕ, suc, _+_, _≤_, _<_}
 use native.Mathlib.Omega.{arith}
 use native.Mathlib.Nat.{suc-add, zero-add}
-use lib.Bits.{bitOr, or-add-and, and-le-l, and-le-r}
+use lib.Bits.{bitOr}
 use lib.ListN.{length, getD, drop}
+use Rattle.bits.proofs.Masks.{below-two, below-three, below-four}
 use Rattle.text.specs.Scan.{scan}
 use Rattle.text.specs.Utf8.{these, follow, followIn, after, covers, seqLen}
 use Rattle.text.specs.Steps.{Went, stepAt, Jumped}
@@ -28,29 +29,6 @@ ascii-pass : (s : List ℕ) (i j : ℕ) → i < length s → getD s i 0 < 0x80 �
 ascii-pass s i j h k e =
     let one : seqLen (drop i s) ≡ 1 = rw (left-next s i h) (seq-ascii (getD s i 0) (drop (i + 1) s) k) in
     rw e (scan-next seqLen s i 0 one (omega arith) ∙ suc-add 0 _ ∙ rw zero-add)
-
--- a byte is at most what it is or-ed into
-or-left : (a b : ℕ) → a ≤ bitOr a b
-or-left a b = omega (arith, or-add-and a b, and-le-r a b)
-
-or-right : (a b : ℕ) → b ≤ bitOr a b
-or-right a b = omega (arith, or-add-and a b, and-le-l a b)
-
--- each of two, of three and of four is below what they are together below
-below-two : {a b n : ℕ} → bitOr a b < n → (a < n) × (b < n)
-below-two {a} {b} h = (omega (arith, or-left a b), omega (arith, or-right a b))
-
-below-three : {a b c n : ℕ} → bitOr (bitOr a b) c < n → (a < n) × (b < n) × (c < n)
-below-three h =
-    let x = below-two h in
-    let y = below-two (x .0) in
-    (y .0, y .1, x .1)
-
-below-four : {a b c d n : ℕ} → bitOr (bitOr (bitOr a b) c) d < n → (a < n) × (b < n) × (c < n) × (d < n)
-below-four h =
-    let x = below-two h in
-    let y = below-three (x .0) in
-    (y .0, y .1, y .2, x .1)
 
 -- ---- eight bytes that are ASCII, seven of them together, are each a sequence
 pub jump-eight : (s : List ℕ) (at : ℕ) → at + 8 ≤ length s → getD s at 0 < 0x80

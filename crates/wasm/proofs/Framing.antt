@@ -26,7 +26,7 @@ use Rattle.wasm.specs.declared.custom.Custom.{Custom}
 use Rattle.wasm.specs.Rows.{importCells, exportCells, symbolCells, importsOf, exportsOf}
 use Rattle.wasm.specs.Custom.{Names, namedOf, customOf, customAt, Listed, ListedIn}
 use Rattle.wasm.specs.Module.{sectionCells, Tables, withSection, countsOf, Sizes, Lent, lend, Holds, Inner, contentsOf, SectionsLie}
-use Rattle.wasm.specs.Module.{Inside, InsideOf, plain, contentsAt, addSection, sectionAt}
+use Rattle.wasm.specs.Module.{Inside, InsideOf, plain, contentsAt, addSection, sectionAt, importCount, exportCount, nameCount}
 
 -- ---- contents
 module _ (id : ℕ) (s : List ℕ) (base : ℕ) (z : Sizes) (t : Tables) where
@@ -39,19 +39,17 @@ module _ (id : ℕ) (s : List ℕ) (base : ℕ) (z : Sizes) (t : Tables) where
     unfolding contentsAt
     zero-stop e = rw is (tell-after-stop _ zero-here e)
 
-    pub zero-got : (i e : List ℕ) (n : Counts) {u : Custom} {d : ℕ} → n ≡ countsOf t → i ≡ laid (z .imports)
+    pub zero-got : (i e : List ℕ) (n : Counts) {m : Counts} {u : Custom} {d : ℕ} → m ≡ nameCount n (u .inner) → n ≡ countsOf t → i ≡ laid
+        (z .imports)
         (cells importCells (t .imports))
         → e ≡ laid (z .exports) (cells exportCells (t .exports)) → a ≡ accepted (got u d)
         → Told contentsOf (InsideOf i e table z) (contentsAt id s base z t)
-        (accepted (got (record {
-          name = u .name;
-          counts = record { sections = n .sections; imports = n .imports; exports = n .exports; named = u .inner };
-        }) d))
+        (accepted (got (record { name = u .name; counts = m }) d))
     unfolding contentsAt contentsOf countsOf customOf InsideOf ListedIn
-    zero-got i e n {d = d} c hi he q =
+    zero-got i e n {d = d} g c hi he q =
         rw is
         (tell-after _ zero-here q (λ w x v h.
-        tell-got _ d refl (rw (c, v)) (record { imports-are = hi; exports-are = he; names-are = h })))
+        tell-got _ d refl (rw (g, c, v)) (record { imports-are = hi; exports-are = he; names-are = h })))
 
   module _ (is : id ≡ 2) (m : ℕ) (same : z .imports ≡ m) (table : List ℕ) {a : Said (Got ℕ)}
       (told : Told length (Lies importCells m table) (importsOf s base m) a) where
@@ -62,18 +60,16 @@ module _ (id : ℕ) (s : List ℕ) (base : ℕ) (z : Sizes) (t : Tables) where
     unfolding contentsAt
     two-stop e = rw is (tell-after-stop _ two-here e)
 
-    pub two-got : (e f : List ℕ) (n : Counts) {k d : ℕ} → n ≡ countsOf t → e ≡ laid (z .exports) (cells exportCells (t .exports))
+    pub two-got : (e f : List ℕ) (n : Counts) {m : Counts} {k d : ℕ} → m ≡ importCount n k → n ≡ countsOf t → e ≡ laid (z .exports)
+        (cells exportCells (t .exports))
         → f ≡ laid (z .names) (cells symbolCells (t .names .symbols)) → a ≡ accepted (got k d)
         → Told contentsOf (InsideOf table e f z) (contentsAt id s base z t)
-        (accepted (got (record {
-          name = part 0 0;
-          counts = record { sections = n .sections; imports = k; exports = n .exports; named = n .named };
-        }) d))
+        (accepted (got (record { name = part 0 0; counts = m }) d))
     unfolding contentsAt contentsOf countsOf InsideOf Lies
-    two-got e f n {d = d} c he hf q =
+    two-got e f n {d = d} g c he hf q =
         rw is
         (tell-after _ two-here q (λ w x v h.
-        tell-got _ d refl (rw (c, v)) (record { imports-are = h; exports-are = he; names-are = hf })))
+        tell-got _ d refl (rw (g, c, v)) (record { imports-are = h; exports-are = he; names-are = hf })))
 
   module _ (is : id ≡ 7) (m : ℕ) (same : z .exports ≡ m) (table : List ℕ) {a : Said (Got ℕ)}
       (told : Told length (Lies exportCells m table) (exportsOf s base m) a) where
@@ -84,18 +80,16 @@ module _ (id : ℕ) (s : List ℕ) (base : ℕ) (z : Sizes) (t : Tables) where
     unfolding contentsAt
     seven-stop e = rw is (tell-after-stop _ seven-here e)
 
-    pub seven-got : (i f : List ℕ) (n : Counts) {k d : ℕ} → n ≡ countsOf t → i ≡ laid (z .imports) (cells importCells (t .imports))
+    pub seven-got : (i f : List ℕ) (n : Counts) {m : Counts} {k d : ℕ} → m ≡ exportCount n k → n ≡ countsOf t → i ≡ laid (z .imports)
+        (cells importCells (t .imports))
         → f ≡ laid (z .names) (cells symbolCells (t .names .symbols)) → a ≡ accepted (got k d)
         → Told contentsOf (InsideOf i table f z) (contentsAt id s base z t)
-        (accepted (got (record {
-          name = part 0 0;
-          counts = record { sections = n .sections; imports = n .imports; exports = k; named = n .named };
-        }) d))
+        (accepted (got (record { name = part 0 0; counts = m }) d))
     unfolding contentsAt contentsOf countsOf InsideOf Lies
-    seven-got i f n {d = d} c hi hf q =
+    seven-got i f n {d = d} g c hi hf q =
         rw is
         (tell-after _ seven-here q (λ w x v h.
-        tell-got _ d refl (rw (c, v)) (record { imports-are = hi; exports-are = h; names-are = hf })))
+        tell-got _ d refl (rw (g, c, v)) (record { imports-are = hi; exports-are = h; names-are = hf })))
 
   pub other-got : (i e f : List ℕ) (n : Counts) → eqb id 0 ≡ false → eqb id 2 ≡ false → eqb id 7 ≡ false → n ≡ countsOf t
       → Inside i e f z t

@@ -16,6 +16,7 @@ use Rattle.table.specs.Walking.{walkFrom}
 use Rattle.leb.specs.Reads.{part, bytesOf, byteAt, fixedAt, takeAt, countedAt}
 use Rattle.wasm.specs.declared.entry.Import.{Import}
 use Rattle.wasm.specs.declared.entry.Export.{Export}
+use Rattle.wasm.specs.declared.custom.Named.{Named}
 use Rattle.wasm.specs.declared.section.Section.{Section}
 use Rattle.wasm.specs.declared.section.Counts.{Counts}
 use Rattle.wasm.specs.declared.section.CountsRead.{CountsRead}
@@ -185,6 +186,15 @@ pub record ModuleIs (n : ℕ) (z : Sizes) (x : Said Parsed) (l : Lent) (a : Said
   pub tables-are : Holds l z (tablesOf x)
 
 -- ---- for the code
+abbrev pub importCount : Counts → ℕ → Counts
+importCount n k = record { sections = n .sections; imports = k; exports = n .exports; named = n .named }
+
+abbrev pub exportCount : Counts → ℕ → Counts
+exportCount n k = record { sections = n .sections; imports = n .imports; exports = k; named = n .named }
+
+abbrev pub nameCount : Counts → Named → Counts
+nameCount n u = record { sections = n .sections; imports = n .imports; exports = n .exports; named = u }
+
 unfoldable pub contentsOf : Inner → Contents
 contentsOf u = record { name = u .name; counts = countsOf (u .tables) }
 

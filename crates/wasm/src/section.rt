@@ -19,6 +19,7 @@ ghost use Rattle.table.specs.Told.{Told, Passed, Ends};
 ghost use Rattle.table.specs.Walking.{walkFrom};
 ghost use Rattle.wasm.specs.Module.{sectionCells, Tables, countsOf, Sizes, lend, sizes, Holds, Inside, InsideOf, SectionsLie};
 ghost use Rattle.wasm.specs.Module.{saidCounts, saidContents, contentsOf, contentsAt, addSection, sectionAt, noTables};
+ghost use Rattle.wasm.specs.Module.{importCount, exportCount, nameCount};
 
 // A section's row: id, the payload's offset and size, a custom section's own name.
 pub(crate) struct Section {
@@ -51,6 +52,43 @@ pub(crate) enum ContentsRead {
     Refused(Refusal),
 }
 
+impl Counts {
+    fn with_imports(self, imports: usize) -> Counts
+        ensures { λ r. ⌜ r ≡ importCount self imports ⌝ }
+    {
+        let named = self.named;
+        Counts {
+            sections: self.sections,
+            imports,
+            exports: self.exports,
+            named,
+        }
+    }
+
+    fn with_exports(self, exports: usize) -> Counts
+        ensures { λ r. ⌜ r ≡ exportCount self exports ⌝ }
+    {
+        let named = self.named;
+        Counts {
+            sections: self.sections,
+            imports: self.imports,
+            exports,
+            named,
+        }
+    }
+
+    fn with_names(self, named: Named) -> Counts
+        ensures { λ r. ⌜ r ≡ nameCount self named ⌝ }
+    {
+        Counts {
+            sections: self.sections,
+            imports: self.imports,
+            exports: self.exports,
+            named,
+        }
+    }
+}
+
 // What is in a section, by its id: 2 and 7 start their table anew, 0 may add names, others are not looked into.
 fn read_contents(
     id: u8,
@@ -68,65 +106,31 @@ fn read_contents(
         → Told contentsOf (InsideOf (now (imports .exit)) (now (exports .exit)) (now (names .exit)) z)
         (contentsAt id (now (payload .entry)) base z t) (saidContents r)) ⌝ }
 {
-    let none = Part { from: 0, len: 0 };
-    let named = n.named;
+    let name = Part { from: 0, len: 0 };
     match id {
-        0 => match read_custom(payload, base, named, names) {
+        0 => match read_custom(payload, base, n.named, names) {
             CustomRead::Refused(r) => ContentsRead::Refused(r),
             CustomRead::Read(u, c) => {
-                let name = u.name;
-                let inner = u.inner;
-                ContentsRead::Read(
-                    Contents {
-                        name,
-                        counts: Counts {
-                            sections: n.sections,
-                            imports: n.imports,
-                            exports: n.exports,
-                            named: inner,
-                        },
-                    },
-                    c,
-                )
+                let own = u.name;
+                let counts = n.with_names(u.inner);
+                ContentsRead::Read(Contents { name: own, counts }, c)
             }
         },
         2 => match read_imports(payload, base, imports) {
             Counted::Refused(r) => ContentsRead::Refused(r),
-            Counted::Rows(k, c) => ContentsRead::Read(
-                Contents {
-                    name: none,
-                    counts: Counts {
-                        sections: n.sections,
-                        imports: k,
-                        exports: n.exports,
-                        named,
-                    },
-                },
-                c,
-            ),
+            Counted::Rows(k, c) => {
+                let counts = n.with_imports(k);
+                ContentsRead::Read(Contents { name, counts }, c)
+            }
         },
         7 => match read_exports(payload, base, exports) {
             Counted::Refused(r) => ContentsRead::Refused(r),
-            Counted::Rows(k, c) => ContentsRead::Read(
-                Contents {
-                    name: none,
-                    counts: Counts {
-                        sections: n.sections,
-                        imports: n.imports,
-                        exports: k,
-                        named,
-                    },
-                },
-                c,
-            ),
+            Counted::Rows(k, c) => {
+                let counts = n.with_exports(k);
+                ContentsRead::Read(Contents { name, counts }, c)
+            }
         },
-        _ => ContentsRead::Read(
-            Contents {
-                name: none,
-                counts: n,
-            },
-            Cursor { at: 0 },
-        ),
+        _ => ContentsRead::Read(Contents { name, counts: n }, Cursor { at: 0 }),
     }
 }
 

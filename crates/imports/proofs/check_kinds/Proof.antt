@@ -1,0 +1,50 @@
+-- `imports::check_kinds` meets its contract. Assumes nothing.
+use Prim.Native.Nat.{_-_, _≤_}
+use native.Mathlib.Omega.{arith}
+use mathlib.Core.Path.{_≡_, sym, _∙_, ap}
+use borrow.Author.Needs.{needs}
+use Rattle.refusal.specs.Said.{refused}
+use Rattle.table.specs.Testing.{firstFrom}
+use Rattle.table.proofs.Testing.{first-bad, first-good, first-end, tested-over}
+use Rattle.imports.specs.Queries.{kindBad, kindsTested}
+use Rattle.imports.proofs.Asking.{rows-decide, kind-bad, kind-good}
+use Rattle.imports.proofs.check_kinds.Statement.{statement}
+use Rattle.imports.proofs.check_kinds.Tie as tie
+
+abbrev Inv-loop : tie.InvT-loop
+Inv-loop imports n room i₀ i = (i ≤ n) × (kindsTested imports n ≡ firstFrom (kindBad imports) i (n - i))
+
+abbrev μ-loop : tie.MeasureT-loop
+μ-loop imports n room i₀ i = n - i
+
+returns : tie.Need-returns Inv-loop μ-loop
+unfolding kindsTested
+returns c =
+    let e = c .before .capacity .ensures in
+    ap (refused 15) e ∙ tested-over _ _ _ (omega (arith, e, c .if1 .taken))
+
+loop-holds : tie.Need-loop-holds Inv-loop μ-loop
+unfolding kindsTested
+loop-holds c = (omega arith, rows-decide _ _ _ (omega (arith, c .before .capacity .ensures, c .if1 .left)))
+
+returns-2 : tie.Need-returns-2 Inv-loop μ-loop
+returns-2 c =
+    let k = c .before in
+    let t = k .before in
+    first-bad _ _ _ (t .loop-test .taken) (kind-bad _ _ (k .cell .ensures) (c .if2 .taken)) ∙ sym (t .before .loop .inv .1)
+
+loop-again : tie.Need-loop-again Inv-loop μ-loop
+loop-again c =
+    let k = c .before in
+    let t = k .before in
+    (omega arith, t .before .loop .inv .1 ∙ first-good _ _ _ (t .loop-test .taken) (kind-good _ _ (k .cell .ensures) (c .if2 .left)))
+
+returns-3 : tie.Need-returns-3 Inv-loop μ-loop
+returns-3 c = first-end _ _ _ (c .loop-test .left) ∙ sym (c .before .loop .inv .1)
+
+pub check-kinds-spec : {M : Type 1} → statement M
+check-kinds-spec =
+    tie.close
+    (tie.spec
+    Inv-loop μ-loop (λ c κs. search needs) returns loop-holds (λ c κs. search needs) returns-2 (λ c. search needs)
+    (λ c. search needs) loop-again returns-3)

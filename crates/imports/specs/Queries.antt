@@ -1,0 +1,48 @@
+-- docs/RULES.md, "Tables" and "The module": what the rows of table 2 answer, handed in with a count. Assumes nothing.
+use mathlib.Core.Bool.{Bool, true, false}
+use mathlib.Core.List.{List}
+use Prim.Native.Nat.{ℕ, _+_}
+use lib.Dec.{leb, ltb, eqb}
+use lib.ListN.{length}
+use Rattle.refusal.specs.Pick.{pick, both}
+use Rattle.refusal.specs.Said.{Said, accepted, refused, follow}
+use Rattle.table.specs.Table.{cellOf, capacityOf}
+use Rattle.table.specs.Testing.{tested, countFrom}
+use Rattle.table.specs.Listing.{fitted}
+use Rattle.sorting.specs.Keys.{byName, sortedRows}
+
+-- the number of row i in a column
+abbrev pub importCell : List ℕ → ℕ → ℕ → ℕ
+importCell imports i column = cellOf imports 5 i column
+
+-- both names of row i lie in a file of n bytes, and its kind is a byte
+unfoldable pub importFits : ℕ → List ℕ → ℕ → Bool
+importFits n imports i =
+    both (leb (importCell imports i 0 + importCell imports i 1) n)
+    (both (leb (importCell imports i 2 + importCell imports i 3) n) (leb (importCell imports i 4) 255))
+
+unfoldable pub importBad : ℕ → List ℕ → ℕ → Bool
+importBad n imports i = pick (importFits n imports i) false true
+
+unfoldable pub importsTested : ℕ → List ℕ → ℕ → Said (Unit {0})
+importsTested n imports rows = tested (capacityOf (length imports) 5 1024) rows (importBad n imports)
+
+-- without a file there is no range to test
+unfoldable pub kindBad : List ℕ → ℕ → Bool
+kindBad imports i = ltb 255 (importCell imports i 4)
+
+unfoldable pub kindsTested : List ℕ → ℕ → Said (Unit {0})
+kindsTested imports rows = tested (capacityOf (length imports) 5 1024) rows (kindBad imports)
+
+unfoldable pub kindIs : List ℕ → ℕ → ℕ → Bool
+kindIs imports kind i = eqb (importCell imports i 4) kind
+
+-- how many imports are of a kind
+unfoldable pub importedOf : List ℕ → ℕ → ℕ → Said ℕ
+importedOf imports n kind = follow (kindsTested imports n) (λ u. accepted (countFrom (kindIs imports kind) 0 n))
+
+-- of each module name, of whatever kind of import, the lowest row, by bytes
+unfoldable pub namespacesOf : List ℕ → List ℕ → ℕ → ℕ → Said (List ℕ)
+namespacesOf file imports n room =
+    pick (ltb 16777216 (length file)) (refused 14 0)
+    (follow (importsTested (length file) imports n) (λ u. fitted 15 room (sortedRows file file imports (byName 5 0 1 5 0) n)))
