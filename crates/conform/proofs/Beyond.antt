@@ -15,8 +15,7 @@ use Rattle.wasm.specs.Entry.{limitsAt, tableAt, globalAt, exportAt}
 use Rattle.wasm.specs.Module.{Tables, Sizes, contentsAt, sectionAt, moduleAt}
 use Rattle.conform.specs.Port.{versionOf}
 use Rattle.conform.specs.Beyond.{AnyVersion, StartAnew, AnyId, FlagBits, ExportKinds, ElementTypes, GlobalTypes, LongSizes}
-use Rattle.conform.specs.Beyond.{FirstRefusal, FaultyNames}
-use Rattle.conform.specs.Sound.{Comes, start, after}
+use Rattle.conform.specs.Beyond.{Comes, start, after, FirstRefusal, FaultyNames}
 use Rattle.conform.proofs.Header.{header-reads, header-only}
 use Rattle.conform.proofs.Sections.{took}
 

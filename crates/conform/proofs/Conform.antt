@@ -1,5 +1,5 @@
--- Entries: what the port's grammar derives is read as exactly that. Limits, descriptors, imports, exports, function names, and runs of them.
--- Assumes nothing.
+-- Entries: what the port's grammar derives is read as exactly that. Limits, descriptors, imports, exports, function names, and runs of
+-- them. Assumes nothing.
 use Prim.Native.Nat.{ℕ, zero, suc, _+_, _-_, _≤_, _<_}
 use native.Mathlib.Numerals.{add-one}
 use native.Mathlib.Omega.{arith}
@@ -23,7 +23,8 @@ use Rattle.wasm.specs.Shapes.{Limits, Desc, Import, Export, Symbol}
 use Rattle.wasm.specs.Entry.{limitsAt, funcAt, tableAt, memoryAt, globalAt, descAt, moved, importAt, exportAt, symbolAt}
 use Rattle.wasm.specs.Rows.{importsOf, exportsOf, symbolsOf}
 use Rattle.conform.specs.Grammar.{Many, none, more, FunctionOf}
-use Rattle.conform.specs.Port.{Number, number, Named, named, Counted, counted, AnyLimits, even, odd, AnyDesc, function, tables, memories}
+use Rattle.conform.specs.Port.{Number, number, Named, named, Counted, counted, AnyLimits, even, odd, AnyDesc, function, tables}
+use Rattle.conform.specs.Port.{memories}
 use Rattle.conform.specs.Port.{globals, ImportSaid, AnyImport, imported, ExportSaid, AnyExport, exported, AnyAssoc, assoc}
 use Rattle.conform.specs.Claims.{All, nil, cons}
 
@@ -272,7 +273,8 @@ module _ (s : List ℕ) (size : length s < 18446744073709551616) where
     unfolding importsOf
     imports-read vs w h =
         let i =
-        counted-reads AnyImport (ImportRow base) (importAt s base) (import-reads base) 2 (capacityOf cells 5 1024) r vs [] (omega arith) w in
+        counted-reads AnyImport (ImportRow base) (importAt s base) (import-reads base) 2 (capacityOf cells 5 1024) r vs []
+        (omega arith) w in
         (i .new, i .stands, i .agree)
 
     pub exports-read : (vs : List ExportSaid) → Counted AnyExport s vs r → length vs ≤ capacityOf cells 4 1024
@@ -280,7 +282,8 @@ module _ (s : List ℕ) (size : length s < 18446744073709551616) where
     unfolding exportsOf
     exports-read vs w h =
         let i =
-        counted-reads AnyExport (ExportRow base) (exportAt s base) (export-reads base) 3 (capacityOf cells 4 1024) r vs [] (omega arith) w in
+        counted-reads AnyExport (ExportRow base) (exportAt s base) (export-reads base) 3 (capacityOf cells 4 1024) r vs []
+        (omega arith) w in
         (i .new, i .stands, i .agree)
 
     pub functions-read : (vs : List FunctionOf) (rows : List Symbol) → Counted AnyAssoc s vs r
@@ -288,5 +291,6 @@ module _ (s : List ℕ) (size : length s < 18446744073709551616) where
         → (es : List Symbol) × Stands (symbolsOf s base cells rows) (rows ++ es) r × All (FunctionRow base) es vs
     unfolding symbolsOf
     functions-read vs rows w h =
-        let i = counted-reads AnyAssoc (FunctionRow base) (symbolAt s base) (function-reads base) 4 (capacityOf cells 3 4096) r vs rows h w in
+        let i =
+        counted-reads AnyAssoc (FunctionRow base) (symbolAt s base) (function-reads base) 4 (capacityOf cells 3 4096) r vs rows h w in
         (i .new, i .stands, i .agree)

@@ -26,8 +26,8 @@ use Rattle.wasm.specs.Custom.{Names, labelAt, toldBy, subsectionAt, nameWord, S
 use Rattle.wasm.specs.Module.{Tables, withNames, Sizes, Inner, contentsAt, sectionAt, headerAt, noTables}
 use Rattle.wasm.specs.Module.{Parsed, moduleAt}
 use Rattle.conform.specs.Grammar.{FunctionOf, SubOf, moduleName, functionNames, nameBytes}
-use Rattle.conform.specs.Port.{Named, AnyImport, AnyExport, AnyAssoc, AnySub, Framed, framed, Row, Held, SectionSaid, AnyContent, AnySection}
-use Rattle.conform.specs.Port.{AnyModule}
+use Rattle.conform.specs.Port.{Named, AnyImport, AnyExport, AnyAssoc, AnySub, Framed, framed, Row, Held, SectionSaid}
+use Rattle.conform.specs.Port.{AnyContent, AnySection, AnyModule}
 use Rattle.conform.specs.Claims.{All, ImportHere, ExportHere, functionsOf, nameOr, nameIn, functionsIn, Derives, OnlyThese}
 use Rattle.conform.specs.Claims.{functionsAll, Fits, FitsIn}
 use Rattle.conform.specs.Sound.{ModuleOk}
@@ -80,7 +80,9 @@ module _ (b q : List ℕ) (a : ℕ) (in-b : In b a q) (size : length q < 1844674
       either id 1 _ _ (got u d) _ f
       (λ h g.
       let o = read-on _ _ g in
-      let i = only-run q size AnyAssoc (FunctionRow q size a) (symbolAt q a) (only-function q size a) 4 _ (t .symbols) (o .what) (o .next) (o .first) in
+      let i =
+      only-run q size AnyAssoc (FunctionRow q size a) (symbolAt q a) (only-function q size a) 4 _ (t .symbols) (o .what) (o .next)
+      (o .first) in
       record {
         value = functionNames (i .values);
         derives = subst (λ (k : ℕ). AnySub k q (functionNames (i .values))) (sym h) (AnySub.funcnames (i .derives));
@@ -135,7 +137,9 @@ module _ (b s : List ℕ) (base : ℕ) (in-b : In b base s) (size : length s < 1
       let k = took-sub s base cells at t v d q in
       let p = k .payload in
       let i = taken-in s p d (k .ends) (k .in-s) in
-      let o = heard b (bytesOf s p) (base + p .from) (in-part in-b (p .from) (bytesOf s p) i) (omega (arith, i .inside)) cells (k .id) t v (k .end) (k .three) in
+      let o =
+      heard b (bytesOf s p) (base + p .from) (in-part in-b (p .from) (bytesOf s p) i) (omega (arith, i .inside)) cells (k .id) t v (k .end)
+      (k .three) in
       record {
         values = o .value ∷ more .values;
         derives = rw (only-byte s size at (k .id) (k .a) (k .one))
@@ -145,7 +149,8 @@ module _ (b s : List ℕ) (base : ℕ) (in-b : In b base s) (size : length s < 1
 
   heard-all : (at : ℕ) (t u : Names) (e : ℕ) → walkFrom (subsectionAt s base cells) s at t ≡ accepted (got u e) → HeardAll at t u
   heard-all at t u e q =
-      walk-out (subsectionAt s base cells) s (λ i t u d f. let k = took-sub s base cells i t u d f in (omega (arith, k .past, k .ends), k .in-s))
+      walk-out (subsectionAt s base cells) s
+      (λ i t u d f. let k = took-sub s base cells i t u d f in (omega (arith, k .past, k .ends), k .in-s))
       (λ i t e u. HeardAll i t u) heard-end heard-on at t u e q
 
 -- ---- what a section's contents s come to
@@ -222,7 +227,9 @@ module _ (b s : List ℕ) (base : ℕ) (in-b : In b base s) (size : length s < 1
       either id 2 _ _ (got u d) _ f
       (λ h g.
       let o = read-on _ _ g in
-      let i = only-run s size AnyImport (ImportRow s size base) (importAt s base) (only-import s size base) 2 _ [] (o .what) (o .next) (o .first) in
+      let i =
+      only-run s size AnyImport (ImportRow s size base) (importAt s base) (only-import s size base) 2 _ [] (o .what) (o .next)
+      (o .first) in
       is 2 h (same-got (o .then) .0) (record {
         value = Held.imports (i .values);
         derives = AnyContent.imports (i .derives);
@@ -246,7 +253,9 @@ module _ (b s : List ℕ) (base : ℕ) (in-b : In b base s) (size : length s < 1
       either id 7 _ _ (got u d) _ g
       (λ h k.
       let o = read-on _ _ k in
-      let i = only-run s size AnyExport (ExportRow s size base) (exportAt s base) (only-export s size base) 3 _ [] (o .what) (o .next) (o .first) in
+      let i =
+      only-run s size AnyExport (ExportRow s size base) (exportAt s base) (only-export s size base) 3 _ [] (o .what) (o .next)
+      (o .first) in
       is 7 h (same-got (o .then) .0) (record {
         value = Held.exports (i .values);
         derives = AnyContent.exports (i .derives);
@@ -312,7 +321,8 @@ module _ (b : List ℕ) (size : length b < 18446744073709551616) (z : Sizes) whe
   told-all : (at : ℕ) (t u : Tables) (e : ℕ) → walkFrom (sectionAt b z) b at t ≡ accepted (got u e) → Told at t u
   told-all at t u e q =
       walk-out (sectionAt b z) b (λ i t u d f. let k = took b z i t u d f in (omega (arith, k .past, k .ends), k .in-b))
-      (λ i t e u. Told i t u) (λ i t h. record { values = []; derives = rw (drop-all i b h) Row.done; tells = tells-nothing b t; fits = no-row })
+      (λ i t e u. Told i t u)
+      (λ i t h. record { values = []; derives = rw (drop-all i b h) Row.done; tells = tells-nothing b t; fits = no-row })
       told-on at t u e q
 
 -- all that is accepted is derived, with those rows
@@ -344,7 +354,8 @@ only-these b z m bytes e = by (ltb 16777216 (length b)) refl e where
         room = record {
           sections = omega (arith, ok .sections-few, all-length (y .what .sections) (w .values) (t .sections-are));
           entries = w .fits;
-          functions = omega (arith, ok .names-ok .symbols-few, all-length (y .what .names .symbols) (functionsAll (w .values)) (t .functions-are));
+          functions = omega
+              (arith, ok .names-ok .symbols-few, all-length (y .what .names .symbols) (functionsAll (w .values)) (t .functions-are));
         };
         version-is = h .version-is;
         rows = t;

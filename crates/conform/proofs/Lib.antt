@@ -1,4 +1,5 @@
--- Laws of the reader against the grammar.
+-- Laws of the reader against the grammars: entries and modules in both directions, the specification's within the port's; then rows, room,
+-- and the differences one by one.
 pub mod Example
 pub mod Parts
 pub mod Header
@@ -9,9 +10,9 @@ pub mod Saying
 pub mod Whole
 pub mod Strict
 pub mod Only
+pub mod Sound
 pub mod Exactly
 pub mod Larger
-pub mod Sound
 pub mod Enough
 pub mod Beyond
 pub mod Unused

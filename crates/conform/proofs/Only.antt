@@ -22,7 +22,8 @@ use Rattle.leb.proofs.Names.{name-only}
 use Rattle.wasm.specs.Shapes.{Limits, Desc, Import, Export, Symbol}
 use Rattle.wasm.specs.Entry.{limitsAt, funcAt, tableAt, memoryAt, globalAt, descAt, importAt, exportAt, symbolAt}
 use Rattle.conform.specs.Grammar.{Many, none, more}
-use Rattle.conform.specs.Port.{Number, number, Named, named, Counted, counted, AnyLimits, even, odd, AnyDesc, function, tables, memories}
+use Rattle.conform.specs.Port.{Number, number, Named, named, Counted, counted, AnyLimits, even, odd, AnyDesc, function, tables}
+use Rattle.conform.specs.Port.{memories}
 use Rattle.conform.specs.Port.{globals, AnyImport, imported, AnyExport, exported, AnyAssoc, assoc}
 use Rattle.conform.specs.Claims.{All, nil, cons}
 use Rattle.conform.proofs.Walks.{same-got}
@@ -141,7 +142,8 @@ module _ (s : List ℕ) (size : length s < 18446744073709551616) where
       let f = same-got (y .then) in
       let q = f .0 in
       let r = f .1 in
-      let w = subst (λ (k : ℕ). AnyLimits (drop (x .next) s) (y .what) (drop k s)) r (only-limits (x .next) (y .what) (y .next) (y .first)) in
+      let w =
+      subst (λ (k : ℕ). AnyLimits (drop (x .next) s) (y .what) (drop k s)) r (only-limits (x .next) (y .what) (y .next) (y .first)) in
       subst (λ (l : List ℕ). AnyDesc 1 l m (drop d s)) (sym (only-byte at (x .what) (x .next) (x .first)))
       (subst (λ (i : Desc). AnyDesc 1 (x .what ∷ drop (x .next) s) i (drop d s)) q (tables w))
 

@@ -241,12 +241,12 @@ apart-up a c e (x ∷ rs) (next h more) k = next h (apart-up (x .from + x .size)
 
 module _ (b : List ℕ) (bytes : Bytes b) (z : Sizes) where
   -- what holds before the section at an offset
-  pub record Before (at : ℕ) (t : Tables) : Type 0 where
-    pub rows-ok : TablesOk (length b) z t
-    pub apart : Apart 8 (t .sections) at
-    pub in-b : at ≤ length b
+  record Before (at : ℕ) (t : Tables) : Type 0 where
+    rows-ok : TablesOk (length b) z t
+    apart : Apart 8 (t .sections) at
+    in-b : at ≤ length b
 
-  pub section-ok : (at : ℕ) (t u : Tables) (d : ℕ) → Before at t → sectionAt b z at t ≡ accepted (got u d) → Before d u
+  section-ok : (at : ℕ) (t u : Tables) (d : ℕ) → Before at t → sectionAt b z at t ≡ accepted (got u d) → Before d u
   unfolding Gives Of
   section-ok at t u d h e =
       let k = took b z at t u d e in
@@ -277,7 +277,7 @@ module _ (b : List ℕ) (bytes : Bytes b) (z : Sizes) where
         in-b = k .in-b;
       }
 
-  pub nothing-yet : 8 ≤ length b → Before 8 noTables
+  nothing-yet : 8 ≤ length b → Before 8 noTables
   unfolding noTables
   nothing-yet h =
       let start : 8 ≤ 8 = omega arith in

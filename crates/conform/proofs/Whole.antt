@@ -24,7 +24,8 @@ use Rattle.conform.specs.Port.{AnyModule}
 use Rattle.conform.specs.Claims.{nil}
 use Rattle.conform.specs.Claims.{unnamed, nameOr, functionsOf, nameIn, functionsIn}
 use Rattle.conform.specs.Claims.{subsOf, functionsAll, Fits, FitsIn, Rows, AnyConform}
-use Rattle.conform.proofs.Saying.{all-map, all-append, all-length, import-here, export-here, function-here, Adds, adds-nothing, adds-more}
+use Rattle.conform.proofs.Saying.{all-map, all-append, all-length, import-here, export-here, function-here}
+use Rattle.conform.proofs.Saying.{Adds, adds-nothing, adds-more}
 use Rattle.conform.proofs.Saying.{Leaves, Says, says-of, grown, Tells, tells-nothing, tells-more}
 use Rattle.conform.proofs.Parts.{In, same-part, in-part}
 use Rattle.conform.proofs.Sections.{rowOf}

@@ -1,5 +1,6 @@
 -- docs/DIFFERENCES.md, "The module": one law for each difference between the reader and the specification's grammar, and smallest inputs.
--- All that is accepted, and as what, is Port.antt's (Claims: `AnyConform`, `OnlyThese`); here are laws on the reader itself. Assumes nothing.
+-- All that is accepted, and as what, is Port.antt's (Claims: `AnyConform`, `OnlyThese`); here are laws of the reader itself.
+-- Assumes nothing.
 use Prim.Native.Nat.{ℕ, _+_, _%_, _^_, _≤_, _<_}
 use mathlib.Core.Path.{_≡_}
 use mathlib.Core.Bool.{true, false}
@@ -15,7 +16,7 @@ use Rattle.wasm.specs.Rows.{importsOf, exportsOf}
 use Rattle.wasm.specs.Custom.{Names, toldBy, customAt}
 use Rattle.wasm.specs.Module.{Tables, Sizes, withImports, withExports, plain, contentsAt, sectionAt, headerAt, noTables, moduleAt}
 use Rattle.conform.specs.Port.{versionOf, AnyHeader}
-use Rattle.conform.specs.Sound.{Comes, limits}
+use Rattle.conform.specs.Sound.{limits}
 
 -- ---- accepted beyond the grammar
 -- the header: exactly the magic with any version but zero
@@ -79,6 +80,11 @@ LongSizes =
     → countedAt s at ≡ accepted (got (part (at + k) n) (at + k + n))
 
 -- ---- refused although the specification forgives it
+-- the reader of b comes to an offset with the tables t: from the header on, section after section
+pub data Comes (b : List ℕ) (z : Sizes) : ℕ → Tables → Type 0 where
+  start : AnyHeader b → length b ≤ 16777216 → Comes b z 8 noTables
+  after : {at d : ℕ} {t u : Tables} → Comes b z at t → sectionAt b z at t ≡ accepted (got u d) → Comes b z d u
+
 -- the first section that is refused refuses the file
 abbrev pub FirstRefusal : Type 0
 FirstRefusal =

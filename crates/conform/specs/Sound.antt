@@ -4,15 +4,14 @@ use Prim.Native.Nat.{ℕ, _+_, _^_, _≤_, _<_}
 use mathlib.Core.Path.{_≡_}
 use mathlib.Core.List.{List, [], _∷_}
 use lib.ListN.{length}
-use Rattle.refusal.specs.Said.{accepted, got}
+use Rattle.refusal.specs.Said.{accepted}
 use Rattle.refusal.specs.declared.Part.{Part}
 use Rattle.table.specs.Table.{capacityOf}
 use Rattle.table.proofs.Giving.{Each}
 use Rattle.wasm.specs.Shapes.{Import, Export, Symbol, Section}
 use Rattle.wasm.specs.Custom.{Names}
-use Rattle.wasm.specs.Module.{Tables, Sizes, Parsed, noTables, sectionAt, moduleAt}
-use Rattle.conform.specs.Claims.{Bytes}
-use Rattle.conform.specs.Port.{AnyHeader}
+use Rattle.wasm.specs.Module.{Tables, Sizes, Parsed, moduleAt}
+use Rattle.conform.specs.Claims.{Bytes, Room, Derives}
 
 -- ---- a file of n bytes
 abbrev pub InFile : ℕ → Part → Type 0
@@ -67,27 +66,6 @@ pub record ModuleOk (b : List ℕ) (z : Sizes) (m : Parsed) : Type 0 where
 abbrev pub RowsSound : Type 0
 RowsSound = (b : List ℕ) (z : Sizes) (m : Parsed) → Bytes b → moduleAt b z ≡ accepted m → ModuleOk b z m
 
--- the reader of b comes to an offset with the tables t: from the header on, section after section
-pub data Comes (b : List ℕ) (z : Sizes) : ℕ → Tables → Type 0 where
-  start : AnyHeader b → length b ≤ 16777216 → Comes b z 8 noTables
-  after : {at d : ℕ} {t u : Tables} → Comes b z at t → sectionAt b z at t ≡ accepted (got u d) → Comes b z d u
-
--- the tables that it comes with never hold more rows than they have room for
-pub record Fit (w : Sizes) (t : Tables) : Type 0 where
-  pub sections : length (t .sections) ≤ capacityOf (w .sections) 5 256
-  pub imports : length (t .imports) ≤ capacityOf (w .imports) 5 1024
-  pub exports : length (t .exports) ≤ capacityOf (w .exports) 4 1024
-  pub names : length (t .names .symbols) ≤ capacityOf (w .names) 3 4096
-
-abbrev pub AlwaysFit : Type 0
-AlwaysFit = (b : List ℕ) (z : Sizes) (at : ℕ) (t : Tables) → Bytes b → Comes b z at t → Fit z t
-
--- and that is all the room it needs: a file accepted with some tables is accepted with any that its rows fit into, section after section
-abbrev pub EnoughRoom : Type 0
-EnoughRoom =
-    (b : List ℕ) (z w : Sizes) (m : Parsed) → moduleAt b z ≡ accepted m → ((at : ℕ) (t : Tables) → Comes b z at t → Fit w t)
-    → moduleAt b w ≡ accepted m
-
 -- w has at least the room of z
 pub record Larger (z w : Sizes) : Type 0 where
   pub sections : capacityOf (z .sections) 5 256 ≤ capacityOf (w .sections) 5 256
@@ -110,3 +88,9 @@ LimitsDecide = (b : List ℕ) (z : Sizes) (m : Parsed) → moduleAt b z ≡ acce
 -- and no two sizes of tables give two modules
 abbrev pub OneModule : Type 0
 OneModule = (b : List ℕ) (z w : Sizes) (m n : Parsed) → moduleAt b z ≡ accepted m → moduleAt b w ≡ accepted n → m ≡ n
+
+-- nor is more room needed than what is read takes, section by section: with that much the file is accepted, with the same rows
+abbrev pub EnoughRoom : Type 0
+EnoughRoom =
+    (b : List ℕ) (z w : Sizes) (m : Parsed) → moduleAt b z ≡ accepted m → (d : Derives b z m) → Room w (d .sections)
+    → moduleAt b w ≡ accepted m
