@@ -1,0 +1,7 @@
+-- Laws that the proofs cite.
+pub mod DomainLaws
+pub mod Pieces
+pub mod HeardLaws
+pub mod Lines
+pub mod LoopLaws
+pub mod Ranges
