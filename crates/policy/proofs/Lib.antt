@@ -4,4 +4,5 @@ pub mod Pieces
 pub mod HeardLaws
 pub mod Lines
 pub mod LoopLaws
-pub mod Ranges
+pub mod Meaning
+pub mod EightLaws
