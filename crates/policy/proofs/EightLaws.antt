@@ -19,7 +19,6 @@ use Rattle.policy.specs.Eight.{noSlot, firstBad, FitsAll, slotOf, eight,
 use Rattle.policy.specs.declared.Policy.{Policy}
 use Rattle.policy.specs.Whole.{wholeText}
 
-
 -- ---- the first range that leaves n bytes
 module _ (n : ℕ) (xs : List Slot) (i : ℕ) where
   pub bad-on : (z : Slot) → drop i xs ≡ z ∷ drop (i + 1) xs → leb (z .from + z .len) n ≡ true → firstBad n (drop i xs) ≡ suc (firstBad n (drop (i + 1) xs))

@@ -54,11 +54,13 @@ unlines (l ∷ ls) = l ++ 10 ∷ unlines ls
 unfoldable pub form : View → List ℕ
 form v = unlines (formLines v)
 
--- ---- what is written of a policy and its text into so much room: 14, 4, 15; then 16, with the bytes needed; or these bytes
+-- ---- what is written into so much room: 16, with the bytes needed, or these bytes
+unfoldable pub roomFor : List ℕ → ℕ → Said (List ℕ)
+roomFor w room = pick (ltb room (length w)) (refused 16 (length w)) (accepted w)
+
+-- of a policy and its text: 14, 4, 15, then 16
 unfoldable pub written : List ℕ → Policy → ℕ → Said (List ℕ)
-written s p room =
-    follow (policyTest s p)
-    (λ ok. pick (ltb room (length (form (says s p)))) (refused 16 (length (form (says s p)))) (accepted (form (says s p))))
+written s p room = follow (policyTest s p) (λ ok. roomFor (form (says s p)) room)
 
 -- the answer: how many bytes
 abbrev pub counted : Said (List ℕ) → Said ℕ
@@ -70,7 +72,14 @@ abbrev pub left : List ℕ → Said (List ℕ) → List ℕ
 left d (accepted w) = w ++ drop (length w) d
 left d (refused n p) = d
 
--- ---- the promise
-pub record Writes (s : List ℕ) (p : Policy) (d : List ℕ) (r : Written) (x : List ℕ) : Type 0 where
-  pub answer : saidWritten r ≡ counted (written s p (length d))
-  pub output : x ≡ left d (written s p (length d))
+-- ---- the promise: the answer, and the buffer, which was d and is x
+pub record Told (o : Said (List ℕ)) (d : List ℕ) (r : Written) (x : List ℕ) : Type 0 where
+  pub answer : saidWritten r ≡ counted o
+  pub output : x ≡ left d o
+
+abbrev pub Writes : List ℕ → Policy → List ℕ → Written → List ℕ → Type 0
+Writes s p d r x = Told (written s p (length d)) d r x
+
+-- for the code: of bytes that are known
+abbrev pub Formed : List ℕ → List ℕ → Written → List ℕ → Type 0
+Formed w d r x = Told (roomFor w (length d)) d r x

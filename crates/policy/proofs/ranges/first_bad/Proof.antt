@@ -16,23 +16,6 @@ Inv-loop n p i₀ i = (i ≤ 7) × (firstBad n (eight p) ≡ i + firstBad n (dro
 abbrev μ-loop : tie.MeasureT-loop
 μ-loop n p i₀ i = 7 - i
 
--- src/ranges.rt:232:5
-loop-holds : tie.Need-loop-holds Inv-loop μ-loop
-loop-holds c = omega arith
-
--- src/ranges.rt:233:17
-mul-x : tie.Need-mul-x Inv-loop μ-loop
-mul-x c = omega arith
-
--- src/ranges.rt:233:17
-element-copy-out-x : tie.Need-element-copy-out-x Inv-loop μ-loop
-element-copy-out-x c = omega arith
-
--- src/ranges.rt:236:13
-fits-requires : tie.Need-fits-requires Inv-loop μ-loop
-fits-requires c κs = search needs
-
--- src/ranges.rt:237:13
 returns : tie.Need-returns Inv-loop μ-loop
 returns c =
     let f = c .before in
@@ -41,15 +24,6 @@ returns c =
     let i = l .loop .i in
     omega (arith, bad-here (a .n) (eight (a .t1)) i (slotOf (a .t1) i) (eight-next (a .t1) i (omega arith)) (sym (f .fits2 .ensures) ∙ not-true (f .fits2 .result) (c .if1 .taken)))
 
--- src/ranges.rt:239:9
-add-i : tie.Need-add-i Inv-loop μ-loop
-add-i c = omega arith
-
--- src/ranges.rt:232:5
-loop-less : tie.Need-loop-less Inv-loop μ-loop
-loop-less c = omega arith
-
--- src/ranges.rt:232:5
 loop-again : tie.Need-loop-again Inv-loop μ-loop
 loop-again c =
     let f = c .before in
@@ -58,11 +32,6 @@ loop-again c =
     let i = l .loop .i in
     omega (arith, bad-on (a .n) (eight (a .t1)) i (slotOf (a .t1) i) (eight-next (a .t1) i (omega arith)) (sym (f .fits2 .ensures) ∙ not-false (f .fits2 .result) (c .if1 .left)))
 
--- src/ranges.rt:243:8
-fits-requires-2 : tie.Need-fits-requires-2 Inv-loop μ-loop
-fits-requires-2 c κs = search needs
-
--- src/ranges.rt:244:9
 returns-2 : tie.Need-returns-2 Inv-loop μ-loop
 returns-2 c =
     let f = c .before in
@@ -72,7 +41,6 @@ returns-2 c =
     let v = rw z at (l .loop .inv .1) in
     omega (arith, v, bad-eight (a .n) (a .t1) (sym (f .fits3 .ensures) ∙ c .if2 .taken))
 
--- src/ranges.rt:228:1
 returns-3 : tie.Need-returns-3 Inv-loop μ-loop
 returns-3 c =
     let f = c .before in
@@ -86,16 +54,5 @@ pub first-bad-spec : {M : Type 1} → statement M
 first-bad-spec =
     tie.close
     (tie.spec
-    Inv-loop
-    μ-loop
-    loop-holds
-    mul-x
-    element-copy-out-x
-    fits-requires
-    returns
-    add-i
-    loop-less
-    loop-again
-    fits-requires-2
-    returns-2
-    returns-3)
+    Inv-loop μ-loop (λ c. omega arith) (λ c. omega arith) (λ c. omega arith) (λ c κs. search needs) returns
+    (λ c. omega arith) (λ c. omega arith) loop-again (λ c κs. search needs) returns-2 returns-3)

@@ -6,23 +6,21 @@ use borrow.Author.Tests.{le-leb, lt-leb}
 use Rattle.policy.proofs.ranges.fits.Statement.{statement}
 use Rattle.policy.proofs.ranges.fits.Tie as tie
 
--- src/ranges.rt:219:9
 returns : tie.Need-returns
 returns c =
     let a = c .before .args in
     sym (lt-leb (a .from + a .len) (a .n) (omega arith))
 
--- src/ranges.rt:222:9
 returns-2 : tie.Need-returns-2
 returns-2 c =
     let a = c .before .before .args in
     sym (lt-leb (a .from + a .len) (a .n) (omega arith))
 
--- src/ranges.rt:215:1
 returns-3 : tie.Need-returns-3
 returns-3 c =
     let a = c .before .before .args in
     sym (le-leb (a .from + a .len) (a .n) (omega arith))
 
 pub fits-spec : {M : Type 1} → statement M
-fits-spec = tie.close (tie.spec returns returns-2 returns-3)
+fits-spec = tie.close (tie.spec
+    returns returns-2 returns-3)
