@@ -6,3 +6,4 @@ pub mod Fine
 pub mod Trip
 pub mod Rewrite
 pub mod WriteLaws
+pub mod Known
