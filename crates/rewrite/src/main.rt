@@ -69,9 +69,13 @@ fn write(s: &[u8], p: Policy) {
     let mut out = [0u8; 131072];
     match rewriting::write_policy(s, p, &mut out) {
         Written::Refused(why) => print_refusal(why),
-        Written::Bytes(n) => {
-            io::write_all(STDOUT_FILENO, &out[..n]);
-        }
+        Written::Bytes(n) => print_text(&out[..n]),
+    }
+}
+
+fn print_text(bytes: &[u8]) {
+    if !io::write_all(STDOUT_FILENO, bytes) {
+        os::fail(b"standard output");
     }
 }
 

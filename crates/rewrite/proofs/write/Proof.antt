@@ -12,8 +12,8 @@ array-share-prefix-out c =
     let w = n .before .before .before in
     written-within _ _ (w .write-policy .ensures) (n .n .given .1)
 
-slice-aggregate-write-all : tie.Need-slice-aggregate-write-all
-slice-aggregate-write-all c =
+slice-aggregate-print-text : tie.Need-slice-aggregate-print-text
+slice-aggregate-print-text c =
     let n = c .before .before in
     let w = n .before .before .before in
     sym (length-take-le _ _ (written-within _ _ (w .write-policy .ensures) (n .n .given .1)))
@@ -23,4 +23,4 @@ write-spec =
     tie.close
     (tie.spec
     (λ c. search needs) (λ c κs. search needs) (λ c. search needs) (λ c κs. search needs) (λ c. search needs)
-    array-share-prefix-out slice-aggregate-write-all (λ c κs. search needs) (λ c. search needs) (λ c. search needs))
+    array-share-prefix-out slice-aggregate-print-text (λ c κs. search needs) (λ c. search needs) (λ c. search needs))
