@@ -6,3 +6,5 @@ pub mod Lines
 pub mod LoopLaws
 pub mod Meaning
 pub mod EightLaws
+pub mod MemberLaws
+pub mod EvalLaws

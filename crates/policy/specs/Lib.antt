@@ -8,3 +8,4 @@ pub mod Reader
 pub mod View
 pub mod Eight
 pub mod Heard
+pub mod Evaluate

@@ -1,6 +1,7 @@
 // Domains, policies and verdicts: the original's policy.rs.
 pub mod classify;
 pub mod domain;
+pub mod eval;
 pub mod ranges;
 mod reader;
 pub mod whole;
