@@ -36,7 +36,7 @@ unfolding domainOf words smallWords
 domain-small s = word-small words s refl
 
 -- ---- a domain is known by its number
-abbrev numberedAs : ℕ → Domain
+abbrev pub numberedAs : ℕ → Domain
 numberedAs n =
     pick (ltb n 1) Filesystem
     (pick (ltb n 2) Environment
@@ -46,7 +46,7 @@ numberedAs n =
     (pick (ltb n 6) Stdio
     Unknown)))))
 
-back : (d : Domain) → numberedAs (numberOf d) ≡ d
+pub back : (d : Domain) → numberedAs (numberOf d) ≡ d
 back Filesystem = refl
 back Environment = refl
 back Clock = refl

@@ -8,3 +8,4 @@ pub mod Meaning
 pub mod EightLaws
 pub mod MemberLaws
 pub mod EvalLaws
+pub mod Known
