@@ -26,7 +26,8 @@ unfolding wordIn smallWords
 word-small [] s e = no
 word-small (word w d ∷ ws) s e = by (same w s) (ltb d 7) refl e (word-small ws s)
   where
-    by : (t u : Bool) → ltb d 7 ≡ u → both u (smallWords ws) ≡ true → (smallWords ws ≡ true → Small (wordIn ws s)) → Small (pick t (just d) (wordIn ws s))
+    by : (t u : Bool) → ltb d 7 ≡ u → both u (smallWords ws) ≡ true → (smallWords ws ≡ true → Small (wordIn ws s))
+        → Small (pick t (just d) (wordIn ws s))
     by true true q e ih = yes (ltb-true d 7 q)
     by false true q e ih = ih e
     by t false q e ih = absurd (false≢true e)

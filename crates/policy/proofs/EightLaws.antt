@@ -21,7 +21,8 @@ use Rattle.policy.specs.Whole.{wholeText}
 
 -- ---- the first range that leaves n bytes
 module _ (n : ℕ) (xs : List Slot) (i : ℕ) where
-  pub bad-on : (z : Slot) → drop i xs ≡ z ∷ drop (i + 1) xs → leb (z .from + z .len) n ≡ true → firstBad n (drop i xs) ≡ suc (firstBad n (drop (i + 1) xs))
+  pub bad-on : (z : Slot) → drop i xs ≡ z ∷ drop (i + 1) xs → leb (z .from + z .len) n ≡ true
+      → firstBad n (drop i xs) ≡ suc (firstBad n (drop (i + 1) xs))
   unfolding firstBad
   bad-on z e q = rw (e, q)
 
@@ -29,13 +30,15 @@ module _ (n : ℕ) (xs : List Slot) (i : ℕ) where
   unfolding firstBad
   bad-here z e q = rw (e, q)
 
-pub bad-none : (n : ℕ) (xs : List Slot) (i : ℕ) → firstBad n xs ≡ length xs → i < length xs → getD xs i noSlot .from + getD xs i noSlot .len ≤ n
+pub bad-none : (n : ℕ) (xs : List Slot) (i : ℕ) → firstBad n xs ≡ length xs → i < length xs
+    → getD xs i noSlot .from + getD xs i noSlot .len ≤ n
 unfolding firstBad
 bad-none n [] i e h = absurd (omega arith)
 bad-none n (x ∷ xs) i e h = by (leb (x .from + x .len) n) refl e i h (bad-none n xs)
   where
     by : (t : Bool) → leb (x .from + x .len) n ≡ t → pick t (suc (firstBad n xs)) 0 ≡ suc (length xs) → (i : ℕ) → i < suc (length xs)
-        → ((i : ℕ) → firstBad n xs ≡ length xs → i < length xs → getD xs i noSlot .from + getD xs i noSlot .len ≤ n) → getD (x ∷ xs) i noSlot .from + getD (x ∷ xs) i noSlot .len ≤ n
+        → ((i : ℕ) → firstBad n xs ≡ length xs → i < length xs → getD xs i noSlot .from + getD xs i noSlot .len ≤ n)
+        → getD (x ∷ xs) i noSlot .from + getD (x ∷ xs) i noSlot .len ≤ n
     by true q e zero h ih = leb-true (x .from + x .len) n q
     by true q e (suc i) h ih = ih i (omega arith) (omega arith)
     by false q e i h ih = absurd (omega arith)

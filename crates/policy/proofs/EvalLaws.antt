@@ -86,7 +86,8 @@ unfolding domainsTest
 domains-good ns n e = by (ltb (min (length ns) 1024) n) refl (ltb (firstPast (take n ns)) n) refl e
   where
     by : (t : Bool) → ltb (min (length ns) 1024) n ≡ t → (u : Bool) → ltb (firstPast (take n ns)) n ≡ u
-        → _≡_ {A = Said (Unit {0})} (pick t (refused 15 (min (length ns) 1024)) (pick u (refused 15 (firstPast (take n ns))) (accepted tt))) (accepted tt)
+        → _≡_ {A = Said (Unit {0})}
+        (pick t (refused 15 (min (length ns) 1024)) (pick u (refused 15 (firstPast (take n ns))) (accepted tt))) (accepted tt)
         → Domains ns n
     by true p u q e = absurd (never e)
     by false p true q e = absurd (never e)

@@ -31,8 +31,11 @@ module _ (s : List ℕ) (a e : ℕ) where
   unfolding bare
   called-is f g m n t p q =
       let x : beyond (quotes (bytesOf s f g)) (piece s f g) ≡ piece s (f + m) g = rw p (beyond-piece s f g (quotes (bytesOf s f g))) in
-      let y : ranged (called (closed (beyond (quotes (trim (piece s a e) .bytes)) (trim (piece s a e))))) ≡ ranged (called (closed (beyond (quotes (bytesOf s f g)) (piece s f g)))) = ap (λ (p : Piece). ranged (called (closed (beyond (quotes (p .bytes)) p)))) (t .same) in
-      sym (y ∙ ap (λ (p : Piece). ranged (called (closed p))) x ∙ closed-called (piece s (f + m) g) ∙ ap (λ (k : ℕ). h.Called (f + m) k) (sym q))
+      let y : ranged (called (closed (beyond (quotes (trim (piece s a e) .bytes)) (trim (piece s a e))))) ≡ ranged
+      (called (closed (beyond (quotes (bytesOf s f g)) (piece s f g)))) =
+      ap (λ (p : Piece). ranged (called (closed (beyond (quotes (p .bytes)) p)))) (t .same) in
+      sym (y ∙ ap (λ (p : Piece). ranged (called (closed p))) x ∙ closed-called (piece s (f + m) g)
+      ∙ ap (λ (k : ℕ). h.Called (f + m) k) (sym q))
 
   -- ---- a default
   module _ (f g : ℕ) (t : TrimTo s a e f g) where
@@ -40,25 +43,32 @@ module _ (s : List ℕ) (a e : ℕ) where
     unfolding defaulted
     preset-allow p = rw (trim-is-bytes f g t, p)
 
-    pub preset-deny : same allow (bytesOf s f g) ≡ false → same deny (bytesOf s f g) ≡ true → h.Preset false ≡ ranged (defaulted (trim (piece s a e) .bytes))
+    pub preset-deny : same allow (bytesOf s f g) ≡ false → same deny (bytesOf s f g) ≡ true
+        → h.Preset false ≡ ranged (defaulted (trim (piece s a e) .bytes))
     unfolding defaulted
     preset-deny p q = rw (trim-is-bytes f g t, p, q)
 
-    pub preset-bad : same allow (bytesOf s f g) ≡ false → same deny (bytesOf s f g) ≡ false → h.Wrong 7 ≡ ranged (defaulted (trim (piece s a e) .bytes))
+    pub preset-bad : same allow (bytesOf s f g) ≡ false → same deny (bytesOf s f g) ≡ false
+        → h.Wrong 7 ≡ ranged (defaulted (trim (piece s a e) .bytes))
     unfolding defaulted
     preset-bad p q = rw (trim-is-bytes f g t, p, q)
 
   -- ---- a rule
   module _ (i : ℕ) (k : a ≤ e) (l : e ≤ length s) (q : i ≡ indexOf 58 (bytesOf s a e)) where
-    pub ruled-far : (t : Bool) → a + i < e → ruled t (piece s a e) ≡ listedBy t (domainOf (trim (piece s a (a + i)) .bytes)) (piece s (a + i + 1) e)
+    pub ruled-far : (t : Bool) → a + i < e → ruled t (piece s a e) ≡ listedBy t (domainOf (trim (piece s a (a + i)) .bytes))
+        (piece s (a + i + 1) e)
     unfolding ruled
     ruled-far t b =
         let n = piece-long s a e l in
-        let u : until 58 (piece s a e) ≡ piece s a (a + i) = ap (λ (m : ℕ). first m (piece s a e)) (sym q) ∙ first-piece s a e i (omega arith) in
+        let u : until 58 (piece s a e) ≡ piece s a (a + i) = ap (λ (m : ℕ). first m (piece s a e)) (sym q)
+        ∙ first-piece s a e i (omega arith) in
         let z : a + (i + 1) ≡ a + i + 1 = omega arith in
-        let v : past 58 (piece s a e) ≡ piece s (a + i + 1) e = ap (λ (m : ℕ). beyond (m + 1) (piece s a e)) (sym q) ∙ beyond-piece s a e (i + 1) ∙ ap (λ (m : ℕ). piece s m e) z in
-        let c : ltb (indexOf 58 (bytesOf s a e)) (length (bytesOf s a e)) ≡ true = lt-ltb (indexOf 58 (bytesOf s a e)) (length (bytesOf s a e)) (omega arith) in
-        ap (λ (x : Bool). pick x (listedBy t (domainOf (trim (until 58 (piece s a e)) .bytes)) (past 58 (piece s a e))) (plainBy t (domainOf (trim (piece s a e) .bytes)))) c
+        let v : past 58 (piece s a e) ≡ piece s (a + i + 1) e = ap (λ (m : ℕ). beyond (m + 1) (piece s a e)) (sym q)
+        ∙ beyond-piece s a e (i + 1) ∙ ap (λ (m : ℕ). piece s m e) z in
+        let c : ltb (indexOf 58 (bytesOf s a e)) (length (bytesOf s a e)) ≡ true =
+        lt-ltb (indexOf 58 (bytesOf s a e)) (length (bytesOf s a e)) (omega arith) in
+        ap (λ (x : Bool). pick x (listedBy t (domainOf (trim (until 58 (piece s a e)) .bytes)) (past 58 (piece s a e)))
+        (plainBy t (domainOf (trim (piece s a e) .bytes)))) c
         ∙ ap (λ (p : Piece). listedBy t (domainOf (trim p .bytes)) (past 58 (piece s a e))) u
         ∙ ap (λ (p : Piece). listedBy t (domainOf (trim (piece s a (a + i)) .bytes)) p) v
 
@@ -66,14 +76,17 @@ module _ (s : List ℕ) (a e : ℕ) where
     unfolding ruled
     ruled-near t b =
         let n = piece-long s a e l in
-        let c : ltb (indexOf 58 (bytesOf s a e)) (length (bytesOf s a e)) ≡ false = le-ltb (indexOf 58 (bytesOf s a e)) (length (bytesOf s a e)) (omega arith) in
-        ap (λ (x : Bool). pick x (listedBy t (domainOf (trim (until 58 (piece s a e)) .bytes)) (past 58 (piece s a e))) (plainBy t (domainOf (trim (piece s a e) .bytes)))) c
+        let c : ltb (indexOf 58 (bytesOf s a e)) (length (bytesOf s a e)) ≡ false =
+        le-ltb (indexOf 58 (bytesOf s a e)) (length (bytesOf s a e)) (omega arith) in
+        ap (λ (x : Bool). pick x (listedBy t (domainOf (trim (until 58 (piece s a e)) .bytes)) (past 58 (piece s a e)))
+        (plainBy t (domainOf (trim (piece s a e) .bytes)))) c
 
   pub listed-wrong : (t : Bool) (d : Perhaps) (p : Piece) → d ≡ nothing → h.Wrong 8 ≡ ranged (listedBy t d p)
   unfolding listedBy
   listed-wrong t d p q = rw q
 
-  pub listed-right : (t : Bool) (d : Perhaps) (n : ℕ) (b : ℕ) → e ≤ length s → d ≡ just n → h.Listed t n b (e - b) ≡ ranged (listedBy t d (piece s b e))
+  pub listed-right : (t : Bool) (d : Perhaps) (n : ℕ) (b : ℕ) → e ≤ length s → d ≡ just n
+      → h.Listed t n b (e - b) ≡ ranged (listedBy t d (piece s b e))
   unfolding listedBy
   listed-right t d n b l q = rw (q, piece-long s b e l)
 
@@ -95,19 +108,23 @@ module _ (s : List ℕ) (a e : ℕ) where
       unfolding worded
       worded-allow r = rw (p, q, r) (ap (λ (x : Piece). ranged (ruled true x)) (beyond-piece s a e 6))
 
-      pub worded-deny : begins allowW (bytesOf s a e) ≡ false → begins denyW (bytesOf s a e) ≡ true → ranged (worded (piece s a e)) ≡ ranged (ruled false (piece s (a + 5) e))
+      pub worded-deny : begins allowW (bytesOf s a e) ≡ false → begins denyW (bytesOf s a e) ≡ true
+          → ranged (worded (piece s a e)) ≡ ranged (ruled false (piece s (a + 5) e))
       unfolding worded
       worded-deny r o = rw (p, q, r, o) (ap (λ (x : Piece). ranged (ruled false x)) (beyond-piece s a e 5))
 
-      pub worded-wrong : begins allowW (bytesOf s a e) ≡ false → begins denyW (bytesOf s a e) ≡ false → ranged (worded (piece s a e)) ≡ h.Wrong 6
+      pub worded-wrong : begins allowW (bytesOf s a e) ≡ false → begins denyW (bytesOf s a e) ≡ false
+          → ranged (worded (piece s a e)) ≡ h.Wrong 6
       unfolding worded
       worded-wrong r o = rw (p, q, r, o)
 
-    pub worded-default : begins defaultW (bytesOf s a e) ≡ true → ranged (worded (piece s a e)) ≡ ranged (defaulted (trim (piece s (a + 8) e) .bytes))
+    pub worded-default : begins defaultW (bytesOf s a e) ≡ true
+        → ranged (worded (piece s a e)) ≡ ranged (defaulted (trim (piece s (a + 8) e) .bytes))
     unfolding worded
     worded-default q = rw (p, q) (ap (λ (x : Piece). ranged (defaulted (trim x .bytes))) (beyond-piece s a e 8))
 
-  pub worded-name : begins policyW (bytesOf s a e) ≡ true → ranged (worded (piece s a e)) ≡ ranged (called (bare (trim (piece s (a + 7) e))))
+  pub worded-name : begins policyW (bytesOf s a e) ≡ true → ranged (worded (piece s a e)) ≡ ranged
+      (called (bare (trim (piece s (a + 7) e))))
   unfolding worded
   worded-name p = rw p (ap (λ (x : Piece). ranged (called (bare (trim x)))) (beyond-piece s a e 7))
 
@@ -118,7 +135,8 @@ module _ (s : List ℕ) (a e : ℕ) where
     core-is =
         let n = piece-long s a e l in
         let b = index-le 35 (bytesOf s a e) in
-        let u : until 35 (piece s a e) ≡ piece s a (a + i) = ap (λ (m : ℕ). first m (piece s a e)) (sym q) ∙ first-piece s a e i (omega arith) in
+        let u : until 35 (piece s a e) ≡ piece s a (a + i) = ap (λ (m : ℕ). first m (piece s a e)) (sym q)
+        ∙ first-piece s a e i (omega arith) in
         ap trim u ∙ t .same
 
     pub hash-fits : i ≤ e - a

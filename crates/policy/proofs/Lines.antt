@@ -16,7 +16,8 @@ lines-skip at zero s h = rw (add-zero at)
 lines-skip at (suc k) [] h = absurd (not-suc-le-zero h)
 lines-skip at (suc k) (x ∷ s) h = lines-skip (suc at) k s (le-of-suc-le-suc h) ∙ rw (suc-add at k, add-suc at k)
 
-pub lines-next : (at : ℕ) (r : List ℕ) → 0 < length r → linesFrom at 0 r ≡ (record { at = at; bytes = take (lineLen r) r }) ∷ linesFrom (at + lineStep r) 0 (drop (lineStep r) r)
+pub lines-next : (at : ℕ) (r : List ℕ) → 0 < length r → linesFrom at 0
+    r ≡ (record { at = at; bytes = take (lineLen r) r }) ∷ linesFrom (at + lineStep r) 0 (drop (lineStep r) r)
 unfolding linesFrom
 lines-next at [] h = absurd (omega arith)
 lines-next at (x ∷ s) h = by (lineStep (x ∷ s)) refl (line-bounds (x ∷ s) 0 h)

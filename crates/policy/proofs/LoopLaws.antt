@@ -73,20 +73,25 @@ listed-small t (just d) p (yes k) = k
 ruled-small : (t : Bool) (b : Piece) → Small (ranged (ruled t b))
 unfolding ruled
 ruled-small t b =
-    choose (ltb (indexOf 58 (b .bytes)) (length (b .bytes))) (listedBy t (domainOf (trim (until 58 b) .bytes)) (past 58 b)) (plainBy t (domainOf (trim b .bytes)))
+    choose (ltb (indexOf 58 (b .bytes)) (length (b .bytes))) (listedBy t (domainOf (trim (until 58 b) .bytes)) (past 58 b))
+    (plainBy t (domainOf (trim b .bytes)))
     (listed-small t (domainOf (trim (until 58 b) .bytes)) (past 58 b) (domain-small (trim (until 58 b) .bytes)))
     (plain-small t (domainOf (trim b .bytes)) (domain-small (trim b .bytes)))
 
 defaulted-small : (s : List ℕ) → Small (ranged (defaulted s))
 unfolding defaulted
-defaulted-small s = choose (same allow s) (preset true) (pick (same deny s) (preset false) (wrong 7)) (omega arith) (choose (same deny s) (preset false) (wrong 7) (omega arith) (omega arith))
+defaulted-small s = choose (same allow s) (preset true) (pick (same deny s) (preset false) (wrong 7)) (omega arith)
+    (choose (same deny s) (preset false) (wrong 7) (omega arith) (omega arith))
 
 worded-small : (c : Piece) → Small (ranged (worded c))
 unfolding worded
 worded-small c =
-    choose (begins policyW (c .bytes)) (called (bare (trim (beyond 7 c)))) (pick (begins defaultW (c .bytes)) (defaulted (trim (beyond 8 c) .bytes)) (pick (begins allowW (c .bytes)) (ruled true (beyond 6 c)) (pick (begins denyW (c .bytes)) (ruled false (beyond 5 c)) (wrong 6))))
+    choose (begins policyW (c .bytes)) (called (bare (trim (beyond 7 c))))
+    (pick (begins defaultW (c .bytes)) (defaulted (trim (beyond 8 c) .bytes))
+    (pick (begins allowW (c .bytes)) (ruled true (beyond 6 c)) (pick (begins denyW (c .bytes)) (ruled false (beyond 5 c)) (wrong 6))))
     (omega arith)
-    (choose (begins defaultW (c .bytes)) (defaulted (trim (beyond 8 c) .bytes)) (pick (begins allowW (c .bytes)) (ruled true (beyond 6 c)) (pick (begins denyW (c .bytes)) (ruled false (beyond 5 c)) (wrong 6)))
+    (choose (begins defaultW (c .bytes)) (defaulted (trim (beyond 8 c) .bytes))
+    (pick (begins allowW (c .bytes)) (ruled true (beyond 6 c)) (pick (begins denyW (c .bytes)) (ruled false (beyond 5 c)) (wrong 6)))
     (defaulted-small (trim (beyond 8 c) .bytes))
     (choose (begins allowW (c .bytes)) (ruled true (beyond 6 c)) (pick (begins denyW (c .bytes)) (ruled false (beyond 5 c)) (wrong 6))
     (ruled-small true (beyond 6 c))
@@ -104,13 +109,16 @@ module _ (s : List ℕ) (at n : ℕ) (v : Policy) where
   abbrev pub left : Said Policy
   left = run obey n v (linesFrom at 0 (drop at s))
 
-  next-here : at < length s → linesFrom at 0 (drop at s) ≡ line-here ∷ linesFrom (at + lineStep (drop at s)) 0 (drop (at + lineStep (drop at s)) s)
+  next-here : at < length s → linesFrom at 0 (drop at s) ≡ line-here ∷ linesFrom (at + lineStep (drop at s)) 0
+      (drop (at + lineStep (drop at s)) s)
   next-here k =
       let r = drop at s in
       let z : at + lineLen r - at ≡ lineLen r = omega arith in
       lines-next at r (omega (arith, length-drop at s)) ∙ rw (z, drop-drop (lineStep r) at s)
 
-  pub run-on : at < length s → fault (directive line-here) ≡ 0 → left ≡ run obey (n + 1) (obey (directive line-here) v) (linesFrom (at + lineStep (drop at s)) 0 (drop (at + lineStep (drop at s)) s))
+  pub run-on : at < length s → fault (directive line-here) ≡ 0
+      → left ≡ run obey (n + 1) (obey (directive line-here) v)
+      (linesFrom (at + lineStep (drop at s)) 0 (drop (at + lineStep (drop at s)) s))
   unfolding run
   run-on k e = rw (next-here k) (rw (e, run))
 
@@ -123,7 +131,8 @@ module _ (s : List ℕ) (at n : ℕ) (v : Policy) where
   run-end k = rw (left-none s at k)
 
 -- ---- a turn, by what the calls found
-module _ (s : List ℕ) (at e x : ℕ) (hd : Heard) (ke : e ≡ at + lineLen (drop at s)) (kx : x ≡ at + lineStep (drop at s)) (kh : hd ≡ ranged (directive (piece s at e))) where
+module _ (s : List ℕ) (at e x : ℕ) (hd : Heard) (ke : e ≡ at + lineLen (drop at s)) (kx : x ≡ at + lineStep (drop at s))
+    (kh : hd ≡ ranged (directive (piece s at e))) where
   pub turn-small : Small hd
   turn-small = rw kh (directive-small (piece s at e))
 
@@ -139,10 +148,14 @@ module _ (s : List ℕ) (at e x : ℕ) (hd : Heard) (ke : e ≡ at + lineLen (dr
     pub turn-stop : (k ≡ 0 → ⊥) → run obey n v (linesFrom at 0 (drop at s)) ≡ refused k n
     turn-stop z = run-stop s at n v k b z here
 
-    pub turn-on : k ≡ 0 → (w : Policy) → w ≡ obeyed hd v → run obey n v (linesFrom at 0 (drop at s)) ≡ run obey (n + 1) w (linesFrom x 0 (drop x s))
+    pub turn-on : k ≡ 0 → (w : Policy) → w ≡ obeyed hd v → run obey n v (linesFrom at 0 (drop at s)) ≡ run obey (n + 1) w
+        (linesFrom x 0 (drop x s))
     turn-on z w p =
-        let o : w ≡ obey (directive (piece s at (at + lineLen (drop at s)))) v = p ∙ ap (λ (y : Heard). obeyed y v) kh ∙ obey-ranged (directive (piece s at e)) v ∙ ap (λ (m : ℕ). obey (directive (piece s at m)) v) ke in
-        run-on s at n v b (here ∙ z) ∙ ap (λ (w : Policy). run obey (n + 1) w (linesFrom (at + lineStep (drop at s)) 0 (drop (at + lineStep (drop at s)) s))) (sym o) ∙ ap (λ (m : ℕ). run obey (n + 1) w (linesFrom m 0 (drop m s))) (sym kx)
+        let o : w ≡ obey (directive (piece s at (at + lineLen (drop at s)))) v = p ∙ ap (λ (y : Heard). obeyed y v) kh
+        ∙ obey-ranged (directive (piece s at e)) v ∙ ap (λ (m : ℕ). obey (directive (piece s at m)) v) ke in
+        run-on s at n v b (here ∙ z)
+        ∙ ap (λ (w : Policy). run obey (n + 1) w (linesFrom (at + lineStep (drop at s)) 0 (drop (at + lineStep (drop at s)) s)))
+        (sym o) ∙ ap (λ (m : ℕ). run obey (n + 1) w (linesFrom m 0 (drop m s))) (sym kx)
 
 -- ---- the whole text
 module _ (s : List ℕ) {a : Answer} {r : PolicyRead} (tested : saidAnswer a ≡ wholeText s) where

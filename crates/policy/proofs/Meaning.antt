@@ -47,7 +47,8 @@ pub record PartOf (s : List ℕ) (p : Piece) : Type 0 where
   pub place : length fore ≡ p .at
 
 pub part-range : (s : List ℕ) (p : Piece) → PartOf s p → range s (p .at) (length (p .bytes)) ≡ p .bytes
-part-range s p q = rw (q .same) (rw (drop-at (q .fore) (p .bytes ++ q .aft) (p .at) (q .place)) (take-at (p .bytes) (q .aft) (length (p .bytes)) refl))
+part-range s p q = rw (q .same)
+    (rw (drop-at (q .fore) (p .bytes ++ q .aft) (p .at) (q .place)) (take-at (p .bytes) (q .aft) (length (p .bytes)) refl))
 
 part-first : (s : List ℕ) (n : ℕ) (p : Piece) → PartOf s p → PartOf s (first n p)
 part-first s n p q =
@@ -59,7 +60,14 @@ part-beyond : (s : List ℕ) (n : ℕ) (p : Piece) → n ≤ length (p .bytes) �
 part-beyond s n p h q =
     let b = p .bytes in
     let e : b ++ q .aft ≡ take n b ++ (drop n b ++ q .aft) = rw (← append-assoc (take n b) (drop n b) (q .aft), take-append-drop n b) in
-    record { fore = q .fore ++ take n b; aft = q .aft; same = q .same ∙ ap (λ (l : List ℕ). q .fore ++ l) e ∙ sym (append-assoc (q .fore) (take n b) (drop n b ++ q .aft)); place = omega (arith, q .place, length-append (q .fore) (take n b), length-take-le n b h) }
+    record {
+      fore = q .fore ++ take n b;
+      aft = q .aft;
+      same = q .same ∙ ap (λ (l : List ℕ). q .fore ++ l) e
+          ∙ sym (append-assoc (q .fore) (take n b) (drop n b ++ q .aft));
+      place =
+          omega (arith, q .place, length-append (q .fore) (take n b), length-take-le n b h);
+    }
 
 part-trim : (s : List ℕ) (p : Piece) → PartOf s p → PartOf s (trim p)
 unfolding trim
@@ -101,7 +109,8 @@ module _ (s : List ℕ) where
   ruled-in t b q =
       let i = indexOf 58 (b .bytes) in
       choose (ltb i (length (b .bytes))) _ _
-      (λ e. listed-in t (domainOf (trim (until 58 b) .bytes)) (past 58 b) (part-beyond s (i + 1) b (omega (arith, ltb-true i (length (b .bytes)) e)) q))
+      (λ e. listed-in t (domainOf (trim (until 58 b) .bytes)) (past 58 b)
+      (part-beyond s (i + 1) b (omega (arith, ltb-true i (length (b .bytes)) e)) q))
       (λ e. plain-in t (domainOf (trim b .bytes)))
 
   defaulted-in : (l : List ℕ) → Within s (defaulted l)
@@ -129,11 +138,14 @@ module _ (s : List ℕ) where
 
   -- ---- the lines
   part-line : (at : ℕ) (r : List ℕ) → PartOf s (record { at = at; bytes = r })
-      → (0 < length r → EachPiece (PartOf s) (linesFrom (at + lineStep r) 0 (drop (lineStep r) r))) → EachPiece (PartOf s) (linesFrom at 0 r)
+      → (0 < length r → EachPiece (PartOf s) (linesFrom (at + lineStep r) 0 (drop (lineStep r) r)))
+      → EachPiece (PartOf s) (linesFrom at 0 r)
   part-line at [] q ih = unfold linesFrom in none
-  part-line at (x ∷ r) q ih = rw (lines-next at (x ∷ r) (omega arith)) (more (part-first s (lineLen (x ∷ r)) (record { at = at; bytes = x ∷ r }) q) (ih (omega arith)))
+  part-line at (x ∷ r) q ih = rw (lines-next at (x ∷ r) (omega arith))
+      (more (part-first s (lineLen (x ∷ r)) (record { at = at; bytes = x ∷ r }) q) (ih (omega arith)))
 
-  part-step : (at : ℕ) (r : List ℕ) → 0 < length r → PartOf s (record { at = at; bytes = r }) → PartOf s (record { at = at + lineStep r; bytes = drop (lineStep r) r })
+  part-step : (at : ℕ) (r : List ℕ) → 0 < length r → PartOf s (record { at = at; bytes = r })
+      → PartOf s (record { at = at + lineStep r; bytes = drop (lineStep r) r })
   part-step at r k q = let b = line-bounds r 0 k in part-beyond s (lineStep r) (record { at = at; bytes = r }) (omega (arith, b .next)) q
 
   part-none : (at : ℕ) (r : List ℕ) → length r ≤ 0 → EachPiece (PartOf s) (linesFrom at 0 r)
@@ -143,7 +155,8 @@ module _ (s : List ℕ) where
 
   part-lines : (n at : ℕ) (r : List ℕ) → length r ≤ n → PartOf s (record { at = at; bytes = r }) → EachPiece (PartOf s) (linesFrom at 0 r)
   part-lines zero at r h q = part-none at r h
-  part-lines (suc n) at r h q = part-line at r q (λ k. part-lines n (at + lineStep r) (drop (lineStep r) r) (step-less n r h k) (part-step at r k q))
+  part-lines (suc n) at r h q =
+      part-line at r q (λ k. part-lines n (at + lineStep r) (drop (lineStep r) r) (step-less n r h k) (part-step at r k q))
 
   pub lines-in : EachPiece (PartOf s) (linesOf s)
   unfolding linesOf
@@ -171,7 +184,12 @@ module _ (s : List ℕ) where
   obey-view (called p) v (w-called q) = rw (part-range s p q)
   obey-view (preset t) v w = refl
   obey-view (plain t d) v w = rw (map-set (ruleOf s) (v .rules) d (slot (stanceOf t) 0 0), slot-rule t 0 0, no-tokens)
-  obey-view (listed t d p) v (w-listed q) = rw (map-set (ruleOf s) (v .rules) d (slot (stanceOf t) (p .at) (length (p .bytes))), slot-rule t (p .at) (length (p .bytes)), part-range s p q)
+  obey-view (listed t d p) v (w-listed q) =
+      rw (
+        map-set (ruleOf s) (v .rules) d (slot (stanceOf t) (p .at) (length (p .bytes))),
+        slot-rule t (p .at) (length (p .bytes)),
+        part-range s p q,
+      )
 
 module _ {A B : Type 0} (f : A → B) where
   abbrev pub mapSaid : Said A → Said B
@@ -179,12 +197,14 @@ module _ {A B : Type 0} (f : A → B) where
   mapSaid (refused k n) = refused k n
 
 module _ (s : List ℕ) where
-  run-view : (n : ℕ) (v : Policy) (ps : List Piece) → EachPiece (PartOf s) ps → mapSaid (view s) (run obey n v ps) ≡ run heed n (view s v) ps
+  run-view : (n : ℕ) (v : Policy) (ps : List Piece) → EachPiece (PartOf s) ps
+      → mapSaid (view s) (run obey n v ps) ≡ run heed n (view s v) ps
   unfolding run
   run-view n v [] none = refl
   run-view n v (p ∷ ps) (more q qs) = by (fault (directive p)) refl (run-view (n + 1) (obey (directive p) v) ps qs)
     where
-      by : (k : ℕ) → fault (directive p) ≡ k → mapSaid (view s) (run obey (n + 1) (obey (directive p) v) ps) ≡ run heed (n + 1) (view s (obey (directive p) v)) ps
+      by : (k : ℕ) → fault (directive p) ≡ k → mapSaid (view s) (run obey (n + 1) (obey (directive p) v) ps) ≡ run heed (n + 1)
+          (view s (obey (directive p) v)) ps
           → mapSaid (view s) (run obey n v (p ∷ ps)) ≡ run heed n (view s v) (p ∷ ps)
       by zero e ih = rw (e, run) (ih ∙ rw (obey-view s (directive p) v (directive-in s p q)))
       by (suc k) e ih = rw (e, run)

@@ -64,12 +64,15 @@ room : (s d : ℕ) (b : Bool) → s < 2 ^ d → s + one b * 2 ^ d < 2 ^ (d + 1)
 room s d true h = let z : 2 ^ (d + 1) ≡ 2 ^ d * 2 = ap (λ (k : ℕ). 2 ^ k) (add-one d) ∙ pow-suc 2 d in rw z (omega arith)
 room s d false h = let z : 2 ^ (d + 1) ≡ 2 ^ d * 2 = ap (λ (k : ℕ). 2 ^ k) (add-one d) ∙ pow-suc 2 d in rw z (omega arith)
 
-pub set-next : (flags : List Bool) (d s t : ℕ) (b : Bool) → b ≡ getD flags d false → Set flags d s → t ≡ s + one b * 2 ^ d → Set flags (d + 1) t
+pub set-next : (flags : List Bool) (d s t : ℕ) (b : Bool) → b ≡ getD flags d false → Set flags d s → t ≡ s + one b * 2 ^ d
+    → Set flags (d + 1) t
 set-next flags d s t b e f q =
-    let k : firsts (d + 1) flags ≡ firsts d flags ++ b ∷ [] = ap (λ (n : ℕ). firsts n flags) (add-one d) ∙ firsts-next d flags ∙ ap (λ (x : Bool). firsts d flags ++ x ∷ []) (sym e) in
+    let k : firsts (d + 1) flags ≡ firsts d flags ++ b ∷ [] = ap (λ (n : ℕ). firsts n flags) (add-one d) ∙ firsts-next d flags
+    ∙ ap (λ (x : Bool). firsts d flags ++ x ∷ []) (sym e) in
     let l : length (firsts d flags) ≡ d = firsts-long d flags in
     let z : 0 + length (firsts d flags) ≡ d = omega arith in
-    let m : bits 0 (firsts (d + 1) flags) ≡ bits 0 (firsts d flags) + one b * 2 ^ d = ap (bits 0) k ∙ bits-snoc 0 (firsts d flags) b ∙ ap (λ (n : ℕ). bits 0 (firsts d flags) + one b * 2 ^ n) z in
+    let m : bits 0 (firsts (d + 1) flags) ≡ bits 0 (firsts d flags) + one b * 2 ^ d = ap (bits 0) k ∙ bits-snoc 0 (firsts d flags) b
+    ∙ ap (λ (n : ℕ). bits 0 (firsts d flags) + one b * 2 ^ n) z in
     let c : ones t ≡ ones (one b) + ones s = ap ones (q ∙ add-comm s (one b * 2 ^ d)) ∙ ones-cat d (one b) s (f .low) in
     record {
       is = q ∙ ap (λ (n : ℕ). n + one b * 2 ^ d) (f .is) ∙ sym m;

@@ -120,4 +120,5 @@ module _ (s : List ℕ) (n : ℕ) (k : 0 < n) (h : n ≤ length s) where
 
   pub unquoted-other : (getD s (n - 1) 0 ≡ 34 → ⊥) → unquoted (take n s) ≡ n
   unquoted-other e =
-      ap unquoted last-one ∙ snoc-other (take (n - 1) s) (getD s (n - 1) 0) (ne-eqb (getD s (n - 1) 0) 34 e) ∙ (let l = length-take-le (n - 1) s (omega arith) in omega arith)
+      ap unquoted last-one ∙ snoc-other (take (n - 1) s) (getD s (n - 1) 0) (ne-eqb (getD s (n - 1) 0) 34 e)
+      ∙ (let l = length-take-le (n - 1) s (omega arith) in omega arith)

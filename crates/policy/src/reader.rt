@@ -9,7 +9,8 @@ ghost use Rattle.policy.specs.Directive.{called, defaulted, ruled, worde
 ghost use Rattle.policy.specs.Heard.{piece, ranged, faultOf, TrimTo};
 ghost use Rattle.policy.specs.Domain.{found, domainOf};
 
-// Nothing; a fault, by its number; a name's range; a default, whether allow; a rule, whether allow, for a domain, and the range of its list.
+// Nothing; a fault, by its number; the range of a name; whether the default is to allow; a rule, whether it allows, its domain's
+// number, and the range of its list.
 pub(crate) enum Heard {
     Blank,
     Wrong(usize),

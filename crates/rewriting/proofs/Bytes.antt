@@ -141,7 +141,8 @@ ascii (x ∷ w) = both (ltb x 0x80) (ascii w)
 pub well-word : (w t : List ℕ) → ascii w ≡ true → well (w ++ t) ≡ well t
 unfolding ascii
 well-word [] t e = refl
-well-word (x ∷ w) t e = well-one x (w ++ t) (ltb-true x 0x80 (both-one (ltb x 0x80) (ascii w) e)) ∙ well-word w t (both-two (ltb x 0x80) (ascii w) e)
+well-word (x ∷ w) t e = well-one x (w ++ t) (ltb-true x 0x80 (both-one (ltb x 0x80) (ascii w) e))
+    ∙ well-word w t (both-two (ltb x 0x80) (ascii w) e)
 
 pub begins-split : (w s : List ℕ) → begins w s ≡ true → s ≡ w ++ drop (length w) s
 unfolding begins
@@ -161,7 +162,8 @@ unfolding quotes
 well-quotes [] e = e
 well-quotes (x ∷ s) e = by (eqb x 34) refl (well-quotes s)
   where
-    by : (t : Bool) → eqb x 34 ≡ t → (well s ≡ true → well (drop (quotes s) s) ≡ true) → well (drop (pick t (suc (quotes s)) 0) (x ∷ s)) ≡ true
+    by : (t : Bool) → eqb x 34 ≡ t → (well s ≡ true → well (drop (quotes s) s) ≡ true)
+        → well (drop (pick t (suc (quotes s)) 0) (x ∷ s)) ≡ true
     by true q ih = let z = eqb-true x 34 q in ih (sym (well-one x s (omega arith)) ∙ e)
     by false q ih = e
 
@@ -173,7 +175,8 @@ unfolding unquoted
 unquoted-split [] h = absurd (omega arith)
 unquoted-split (x ∷ s) h = by (both (eqb x 34) (eqb (unquoted s) 0)) refl (unquoted-split s) h
   where
-    by : (t : Bool) → both (eqb x 34) (eqb (unquoted s) 0) ≡ t → (unquoted s < length s → s ≡ take (unquoted s) s ++ 34 ∷ drop (unquoted s + 1) s)
+    by : (t : Bool) → both (eqb x 34) (eqb (unquoted s) 0) ≡ t
+        → (unquoted s < length s → s ≡ take (unquoted s) s ++ 34 ∷ drop (unquoted s + 1) s)
         → pick t 0 (suc (unquoted s)) < suc (length s)
         → _≡_ {A = List ℕ} (x ∷ s) (take (pick t 0 (suc (unquoted s))) (x ∷ s) ++ 34 ∷ drop (pick t 0 (suc (unquoted s)) + 1) (x ∷ s))
     by true q ih h = rw (eqb-true x 34 (both-one (eqb x 34) (eqb (unquoted s) 0) q))
@@ -186,7 +189,8 @@ inner-unquoted s i = inner-take (unquoted s) s (by (ltb (unquoted s) (length s))
     by true q =
         let p = take (unquoted s) s in
         let r = drop (unquoted s + 1) s in
-        both-one (well p) (well r) (sym (well-ascii p 34 r (omega arith)) ∙ rw (← unquoted-split s (ltb-true (unquoted s) (length s) q)) (i .good))
+        both-one (well p) (well r) (sym (well-ascii p 34 r (omega arith))
+        ∙ rw (← unquoted-split s (ltb-true (unquoted s) (length s) q)) (i .good))
     by false q = rw (take-all (unquoted s) s (ltb-false (unquoted s) (length s) q)) (i .good)
 
 -- no quote at the front after they went
@@ -214,7 +218,8 @@ unfolding unquoted
 unquoted-take [] = refl
 unquoted-take (x ∷ s) = by (both (eqb x 34) (eqb (unquoted s) 0)) refl (unquoted-take s)
   where
-    by : (t : Bool) → both (eqb x 34) (eqb (unquoted s) 0) ≡ t → unquoted (take (unquoted s) s) ≡ unquoted s → unquoted (take (pick t 0 (suc (unquoted s))) (x ∷ s)) ≡ pick t 0 (suc (unquoted s))
+    by : (t : Bool) → both (eqb x 34) (eqb (unquoted s) 0) ≡ t → unquoted (take (unquoted s) s) ≡ unquoted s
+        → unquoted (take (pick t 0 (suc (unquoted s))) (x ∷ s)) ≡ pick t 0 (suc (unquoted s))
     by true q ih = refl
     by false q ih = rw (ih, q)
 
@@ -248,7 +253,8 @@ unfolding unquoted
 unquoted-after [] = refl
 unquoted-after (x ∷ n) = rw (unquoted-after n)
 
-pub quoted-name : (n : List ℕ) → FineName n → take (unquoted (drop (quotes (34 ∷ (n ++ 34 ∷ []))) (34 ∷ (n ++ 34 ∷ [])))) (drop (quotes (34 ∷ (n ++ 34 ∷ []))) (34 ∷ (n ++ 34 ∷ []))) ≡ n
+pub quoted-name : (n : List ℕ) → FineName n → take (unquoted (drop (quotes (34 ∷ (n ++ 34 ∷ []))) (34 ∷ (n ++ 34 ∷ []))))
+    (drop (quotes (34 ∷ (n ++ 34 ∷ []))) (34 ∷ (n ++ 34 ∷ []))) ≡ n
 unfolding quotes
 quoted-name [] f = unfold unquoted in refl
 quoted-name (x ∷ n) f =

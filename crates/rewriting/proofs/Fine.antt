@@ -69,7 +69,8 @@ ruled-fine : (t : Bool) (b : Piece) → Inner (b .bytes) → FineDirective (rule
 unfolding ruled
 ruled-fine t b i =
     choose (ltb (indexOf 58 (b .bytes)) (length (b .bytes))) _ _
-    (λ e. listed-fine t (domainOf (trim (until 58 b) .bytes)) (past 58 b) (domain-small (trim (until 58 b) .bytes)) (inner-past 58 (b .bytes) (omega arith) (ltb-true (indexOf 58 (b .bytes)) (length (b .bytes)) e) i))
+    (λ e. listed-fine t (domainOf (trim (until 58 b) .bytes)) (past 58 b) (domain-small (trim (until 58 b) .bytes))
+    (inner-past 58 (b .bytes) (omega arith) (ltb-true (indexOf 58 (b .bytes)) (length (b .bytes)) e) i))
     (λ e. plain-fine t (domainOf (trim b .bytes)) (domain-small (trim b .bytes)))
 
 bare-fine : (p : Piece) → Inner (p .bytes) → FineName (bare p .bytes)
@@ -84,7 +85,8 @@ worded-fine : (c : Piece) → Inner (c .bytes) → FineDirective (worded c)
 unfolding worded ascii
 worded-fine c i =
     choose (begins policyW (c .bytes)) _ _
-    (λ e. f-called (bare-fine (trim (beyond 7 c)) (rw (trim-bytes (beyond 7 c)) (inner-trim (drop 7 (c .bytes)) (inner-word policyW (c .bytes) refl e i)))))
+    (λ e. f-called (bare-fine (trim (beyond 7 c))
+    (rw (trim-bytes (beyond 7 c)) (inner-trim (drop 7 (c .bytes)) (inner-word policyW (c .bytes) refl e i)))))
     (λ e. choose (begins defaultW (c .bytes)) _ _
     (λ e. defaulted-fine (trim (beyond 8 c) .bytes))
     (λ e. choose (begins allowW (c .bytes)) _ _
@@ -97,7 +99,8 @@ core-inner : (p : Piece) → GoodLine p → Inner (core p .bytes)
 unfolding core
 core-inner p g =
     let s = p .bytes in
-    let i : Inner (take (indexOf 35 s) s) = record { good = well-until 35 (omega arith) s (g .good); lf = lacks-take 10 (indexOf 35 s) s (g .lf); hash = until-lacks 35 s } in
+    let i : Inner (take (indexOf 35 s) s) =
+    record { good = well-until 35 (omega arith) s (g .good); lf = lacks-take 10 (indexOf 35 s) s (g .lf); hash = until-lacks 35 s } in
     rw (trim-bytes (until 35 p)) (inner-trim (take (indexOf 35 s) s) i)
 
 pub directive-fine : (p : Piece) → GoodLine p → FineDirective (directive p)
@@ -116,15 +119,27 @@ heed-fine blank v f g = g
 heed-fine (wrong k) v f g = g
 heed-fine (called p) v (f-called n) g = record { name = n; count = g .count; rules = g .rules }
 heed-fine (preset t) v f g = record { name = g .name; count = g .count; rules = g .rules }
-heed-fine (plain t d) v f g = record { name = g .name; count = length-set (v .rules) d (ruling t []) ∙ g .count; rules = each-set (v .rules) d (ruling t []) (g .rules) (stated none) }
+heed-fine (plain t d) v f g =
+    record {
+      name = g .name;
+      count = length-set (v .rules) d (ruling t []) ∙ g .count;
+      rules =
+          each-set (v .rules) d (ruling t []) (g .rules) (stated none);
+    }
 heed-fine (listed t d p) v (f-listed h i) g =
     let ts = tokens (p .bytes) in
-    record { name = g .name; count = length-set (v .rules) d (ruling t ts) ∙ g .count; rules = each-set (v .rules) d (ruling t ts) (g .rules) (stated (tokens-fine (p .bytes) i)) }
+    record {
+      name = g .name;
+      count = length-set (v .rules) d (ruling t ts) ∙ g .count;
+      rules =
+          each-set (v .rules) d (ruling t ts) (g .rules) (stated (tokens-fine (p .bytes) i));
+    }
 
 pub run-fine : (n : ℕ) (v w : View) (ps : List Piece) → EachPiece GoodLine ps → FineView v → run heed n v ps ≡ accepted w → FineView w
 unfolding run
 run-fine n v w [] gs f e = let z : v ≡ w = cc in rw z at f
-run-fine n v w (p ∷ ps) (more g gs) f e = by (fault (directive p)) refl (run-fine (n + 1) (heed (directive p) v) w ps gs (heed-fine (directive p) v (directive-fine p g) f))
+run-fine n v w (p ∷ ps) (more g gs) f e = by (fault (directive p)) refl
+    (run-fine (n + 1) (heed (directive p) v) w ps gs (heed-fine (directive p) v (directive-fine p g) f))
   where
     by : (k : ℕ) → fault (directive p) ≡ k → (run heed (n + 1) (heed (directive p) v) ps ≡ accepted w → FineView w) → FineView w
     by zero q ih = ih (rw (q, run) at e)
@@ -171,7 +186,12 @@ first-fine : FineView firstView
 unfolding firstView lacks quotes unquoted ascii
 first-fine =
     let w : well (noName ++ []) ≡ true = well-word noName [] refl ∙ well-none in
-    record { name = record { inner = record { good = w; lf = refl; hash = refl }; front = refl; back = refl }; count = refl; rules = rule quiet (rule quiet (rule quiet (rule quiet (rule quiet (rule quiet (rule quiet noRule)))))) }
+    record {
+      name = record { inner = record { good = w; lf = refl; hash = refl }; front = refl; back = refl };
+      count = refl;
+      rules =
+          rule quiet (rule quiet (rule quiet (rule quiet (rule quiet (rule quiet (rule quiet noRule))))));
+    }
 
 pub meaning-fine : (s : List ℕ) (w : View) → meaning s ≡ accepted w → FineView w
 meaning-fine s w e = let r = read-parts s w e in run-fine 1 firstView w (linesOf s) (lines-good s (r .good)) first-fine (r .ran)

@@ -33,14 +33,16 @@ reread s p e h =
     let b : mapSaid (view o) (readPolicy o) ≡ accepted (view s p) = policy-means o ∙ round-trip s (view s p) m h in
     by (readPolicy o) refl b
   where
-    by : (r : Said Policy) → readPolicy (form (view s p)) ≡ r → mapSaid (view (form (view s p))) r ≡ accepted (view s p) → Again s p (form (view s p))
+    by : (r : Said Policy) → readPolicy (form (view s p)) ≡ r → mapSaid (view (form (view s p))) r ≡ accepted (view s p)
+        → Again s p (form (view s p))
     by (accepted q) e b = let z : view (form (view s p)) q ≡ view s p = cc in record { policy = q; read = e; same = z; form = ap form z }
     by (refused k n) e b = absurd (let z : _≡_ {A = ℕ} 0 1 = cc in omega arith)
 
 -- ---- of what the promises cite
 firsts : List Slot → List Slot
 firsts xs =
-    getD xs 0 noSlot ∷ getD xs 1 noSlot ∷ getD xs 2 noSlot ∷ getD xs 3 noSlot ∷ getD xs 4 noSlot ∷ getD xs 5 noSlot ∷ getD xs 6 noSlot ∷ []
+    getD xs 0 noSlot ∷ getD xs 1 noSlot ∷ getD xs 2 noSlot ∷ getD xs 3 noSlot ∷ getD xs 4 noSlot ∷ getD xs 5 noSlot ∷ getD xs 6
+    noSlot ∷ []
 
 seven-same : (xs : List Slot) → length xs ≡ 7 → firsts xs ≡ xs
 unfolding firsts
@@ -68,7 +70,8 @@ unfolding run
 run-long n v w [] l e = let z : v ≡ w = cc in rw z at l
 run-long n v w (p ∷ ps) l e = by (fault (directive p)) refl (run-long (n + 1) (obey (directive p) v) w ps (obey-long (directive p) v ∙ l))
   where
-    by : (k : ℕ) → fault (directive p) ≡ k → (run obey (n + 1) (obey (directive p) v) ps ≡ accepted w → length (w .rules) ≡ 7) → length (w .rules) ≡ 7
+    by : (k : ℕ) → fault (directive p) ≡ k → (run obey (n + 1) (obey (directive p) v) ps ≡ accepted w → length (w .rules) ≡ 7)
+        → length (w .rules) ≡ 7
     by zero q ih = ih (rw (q, run) at e)
     by (suc k) q ih =
         let b : refused (suc k) n ≡ accepted w = rw (q, run) at e in

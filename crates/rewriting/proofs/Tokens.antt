@@ -58,7 +58,8 @@ unfolding split glue
 split-glue [] = refl
 split-glue (x ∷ s) = by (eqb x 44) refl (split-glue s)
   where
-    by : (t : Bool) → eqb x 44 ≡ t → split s .head ++ glue (split s .rest) ≡ s → comma t x (split s) .head ++ glue (comma t x (split s) .rest) ≡ x ∷ s
+    by : (t : Bool) → eqb x 44 ≡ t → split s .head ++ glue (split s .rest) ≡ s
+        → comma t x (split s) .head ++ glue (comma t x (split s) .rest) ≡ x ∷ s
     by true q ih = rw (ih, eqb-true x 44 q)
     by false q ih = rw ih
 
@@ -101,7 +102,14 @@ full-fine (t ∷ ts) (more w ws) (more l ls) (more h hs) (more c cs) = by (trimO
         more (rw e at f) ih
       where
         fine : 0 < length (trimOf t) → FineToken (trimOf t)
-        fine k = record { inner = inner-trim t (record { good = w; lf = l; hash = h }); comma = lacks-trim 44 t c; start = trim-start t; end = trim-end t; some = k }
+        fine k = record {
+          inner = inner-trim t (record { good = w; lf = l; hash = h });
+          comma = lacks-trim 44 t c;
+          start =
+              trim-start t;
+          end = trim-end t;
+          some = k;
+        }
 
 pub tokens-fine : (s : List ℕ) → Inner s → Each FineToken (tokens s)
 unfolding tokens commas
@@ -110,7 +118,8 @@ tokens-fine s i =
     let l = split-lacks 10 s (i .lf) in
     let h = split-lacks 35 s (i .hash) in
     let c = split-commas s in
-    full-fine (split s .head ∷ split s .rest) (more (w .head) (w .rest)) (more (l .head) (l .rest)) (more (h .head) (h .rest)) (more (c .head) (c .rest))
+    full-fine (split s .head ∷ split s .rest) (more (w .head) (w .rest)) (more (l .head) (l .rest)) (more (h .head) (h .rest))
+    (more (c .head) (c .rest))
 
 -- ---- a written list read back
 pub split-one : (s : List ℕ) → lacks 44 s ≡ true → split s ≡ record { head = s; rest = [] }
@@ -123,7 +132,8 @@ unfolding split
 split-at [] t e = refl
 split-at (x ∷ s) t e = rw (lacks-head 44 x s e, split-at s t (lacks-tail 44 x s e))
 
-commas-joined : (a : List ℕ) (ts : List (List ℕ)) → lacks 44 a ≡ true → Each FineToken ts → commas (a ++ joined ts) ≡ a ∷ map (λ (t : List ℕ). 32 ∷ t) ts
+commas-joined : (a : List ℕ) (ts : List (List ℕ)) → lacks 44 a ≡ true → Each FineToken ts
+    → commas (a ++ joined ts) ≡ a ∷ map (λ (t : List ℕ). 32 ∷ t) ts
 unfolding commas joined
 commas-joined a [] e none = rw (append-nil a, split-one a e)
 commas-joined a (t ∷ ts) e (more f fs) =
@@ -148,11 +158,13 @@ unfolding full
 full-blank [] none = refl
 full-blank (t ∷ ts) (more f fs) = rw (blank-trim t f) (by t (f .some) (full-blank ts fs))
   where
-    by : (t : List ℕ) → 0 < length t → full (map trimOf (map (λ (t : List ℕ). 32 ∷ t) ts)) ≡ ts → full (t ∷ map trimOf (map (λ (t : List ℕ). 32 ∷ t) ts)) ≡ t ∷ ts
+    by : (t : List ℕ) → 0 < length t → full (map trimOf (map (λ (t : List ℕ). 32 ∷ t) ts)) ≡ ts
+        → full (t ∷ map trimOf (map (λ (t : List ℕ). 32 ∷ t) ts)) ≡ t ∷ ts
     by [] h ih = absurd (omega arith)
     by (x ∷ t) h ih = rw ih
 
 pub tokens-back : (t : List ℕ) (ts : List (List ℕ)) → Each FineToken (t ∷ ts) → tokens (32 ∷ (t ++ joined ts)) ≡ t ∷ ts
 unfolding tokens
 tokens-back t ts (more f fs) =
-    ap (λ (l : List (List ℕ)). full (map trimOf l)) (commas-joined (32 ∷ t) ts (lacks-cons 44 32 t refl (f .comma)) fs) ∙ full-blank (t ∷ ts) (more f fs)
+    ap (λ (l : List (List ℕ)). full (map trimOf l)) (commas-joined (32 ∷ t) ts (lacks-cons 44 32 t refl (f .comma)) fs)
+    ∙ full-blank (t ∷ ts) (more f fs)

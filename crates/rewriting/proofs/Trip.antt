@@ -88,7 +88,9 @@ name-whole n f =
 name-rest : (c : Piece) (n : List ℕ) → c .bytes ≡ nameLine n → trim (beyond 7 c) .bytes ≡ 34 ∷ (n ++ 34 ∷ [])
 unfolding nameLine isWhite inSome whites
 name-rest c n e =
-    trim-bytes (beyond 7 c) ∙ rw e (trim-whole (34 ∷ (n ++ 34 ∷ [])) (start-none 34 (n ++ 34 ∷ []) (omega arith) refl) (end-ascii (34 ∷ n) 34 (omega arith) refl))
+    trim-bytes (beyond 7 c)
+    ∙ rw e (trim-whole (34 ∷ (n ++ 34 ∷ [])) (start-none 34 (n ++ 34 ∷ []) (omega arith) refl)
+    (end-ascii (34 ∷ n) 34 (omega arith) refl))
 
 name-bare : (p : Piece) (n : List ℕ) → FineName n → p .bytes ≡ 34 ∷ (n ++ 34 ∷ []) → bare p .bytes ≡ n
 unfolding bare
@@ -99,7 +101,8 @@ pub record Does (p : Piece) (v w : View) : Type 0 where
   pub right : fault (directive p) ≡ 0
   pub now : heed (directive p) v ≡ w
 
-name-does : (at : ℕ) (n : List ℕ) (v : View) → FineName n → Does (line at (nameLine n)) v (record { name = n; permit = v .permit; rules = v .rules })
+name-does : (at : ℕ) (n : List ℕ) (v : View) → FineName n → Does (line at (nameLine n)) v
+    (record { name = n; permit = v .permit; rules = v .rules })
 name-does at n v f =
     let w = name-whole n f in
     let c = core (line at (nameLine n)) in
@@ -112,13 +115,29 @@ name-does at n v f =
 -- ---- the line of the default
 default-whole : (t : Bool) → WholeLine (defaultLine t)
 unfolding defaultLine stanceWord lacks ascii isWhite inSome whites
-default-whole true = record { inner = record { good = well-word (defaultW ++ allow) [] refl ∙ well-none; lf = refl; hash = refl }; start = start-none 100 (drop 1 (defaultLine true)) (omega arith) refl; end = end-ascii (defaultW ++ 97 ∷ 108 ∷ 108 ∷ 111 ∷ []) 119 (omega arith) refl; some = omega arith }
-default-whole false = record { inner = record { good = well-word (defaultW ++ deny) [] refl ∙ well-none; lf = refl; hash = refl }; start = start-none 100 (drop 1 (defaultLine false)) (omega arith) refl; end = end-ascii (defaultW ++ 100 ∷ 101 ∷ 110 ∷ []) 121 (omega arith) refl; some = omega arith }
+default-whole true = record {
+  inner = record { good = well-word (defaultW ++ allow) [] refl ∙ well-none; lf = refl; hash = refl };
+  start = start-none 100 (drop 1 (defaultLine true)) (omega arith) refl;
+  end =
+      end-ascii (defaultW ++ 97 ∷ 108 ∷ 108 ∷ 111 ∷ []) 119 (omega arith) refl;
+  some = omega arith;
+}
+default-whole false =
+    record {
+      inner = record { good = well-word (defaultW ++ deny) [] refl ∙ well-none; lf = refl; hash = refl };
+      start =
+          start-none 100 (drop 1 (defaultLine false)) (omega arith) refl;
+      end =
+          end-ascii (defaultW ++ 100 ∷ 101 ∷ 110 ∷ []) 121 (omega arith) refl;
+      some = omega arith;
+    }
 
 stance-trim : (t : Bool) → trimOf (stanceWord t) ≡ stanceWord t
 unfolding stanceWord isWhite inSome whites
-stance-trim true = trim-whole allow (start-none 97 (108 ∷ 108 ∷ 111 ∷ 119 ∷ []) (omega arith) refl) (end-ascii (97 ∷ 108 ∷ 108 ∷ 111 ∷ []) 119 (omega arith) refl)
-stance-trim false = trim-whole deny (start-none 100 (101 ∷ 110 ∷ 121 ∷ []) (omega arith) refl) (end-ascii (100 ∷ 101 ∷ 110 ∷ []) 121 (omega arith) refl)
+stance-trim true = trim-whole allow (start-none 97 (108 ∷ 108 ∷ 111 ∷ 119 ∷ []) (omega arith) refl)
+    (end-ascii (97 ∷ 108 ∷ 108 ∷ 111 ∷ []) 119 (omega arith) refl)
+stance-trim false = trim-whole deny (start-none 100 (101 ∷ 110 ∷ 121 ∷ []) (omega arith) refl)
+    (end-ascii (100 ∷ 101 ∷ 110 ∷ []) 121 (omega arith) refl)
 
 stance-back : (t : Bool) → defaulted (stanceWord t) ≡ preset t
 unfolding defaulted stanceWord same
@@ -135,7 +154,8 @@ default-does at t v =
     let c = core (line at (defaultLine t)) in
     let e = core-whole at (defaultLine t) w in
     let r : trim (beyond 8 c) .bytes ≡ stanceWord t = trim-bytes (beyond 8 c) ∙ rw e (unfold defaultLine in stance-trim t) in
-    let q : directive (line at (defaultLine t)) ≡ preset t = directive-whole at (defaultLine t) w ∙ default-worded c t e ∙ ap defaulted r ∙ stance-back t in
+    let q : directive (line at (defaultLine t)) ≡ preset t = directive-whole at (defaultLine t) w ∙ default-worded c t e
+    ∙ ap defaulted r ∙ stance-back t in
     record { right = rw q (unfold fault in refl); now = rw q (unfold heed in refl) }
 
 -- ---- the slugs
@@ -151,13 +171,89 @@ pub record FineSlug (d : ℕ) : Type 0 where
 
 slug-fine : (d : ℕ) → d < 7 → FineSlug d
 unfolding slug slugs lacks ascii isWhite inSome whites domainOf words wordIn same
-slug-fine zero h = record { plain = refl; lf = refl; hash = refl; colon = refl; start = start-none 102 (drop 1 (slug 0)) (omega arith) refl; end = end-ascii (take 1 (slug 0)) 115 (omega arith) refl; some = omega arith; back = refl }
-slug-fine (suc zero) h = record { plain = refl; lf = refl; hash = refl; colon = refl; start = start-none 101 (drop 1 (slug 1)) (omega arith) refl; end = end-ascii (take 2 (slug 1)) 118 (omega arith) refl; some = omega arith; back = refl }
-slug-fine (suc (suc zero)) h = record { plain = refl; lf = refl; hash = refl; colon = refl; start = start-none 99 (drop 1 (slug 2)) (omega arith) refl; end = end-ascii (take 4 (slug 2)) 107 (omega arith) refl; some = omega arith; back = refl }
-slug-fine (suc (suc (suc zero))) h = record { plain = refl; lf = refl; hash = refl; colon = refl; start = start-none 110 (drop 1 (slug 3)) (omega arith) refl; end = end-ascii (take 6 (slug 3)) 107 (omega arith) refl; some = omega arith; back = refl }
-slug-fine (suc (suc (suc (suc zero)))) h = record { plain = refl; lf = refl; hash = refl; colon = refl; start = start-none 114 (drop 1 (slug 4)) (omega arith) refl; end = end-ascii (take 5 (slug 4)) 109 (omega arith) refl; some = omega arith; back = refl }
-slug-fine (suc (suc (suc (suc (suc zero))))) h = record { plain = refl; lf = refl; hash = refl; colon = refl; start = start-none 115 (drop 1 (slug 5)) (omega arith) refl; end = end-ascii (take 4 (slug 5)) 111 (omega arith) refl; some = omega arith; back = refl }
-slug-fine (suc (suc (suc (suc (suc (suc zero)))))) h = record { plain = refl; lf = refl; hash = refl; colon = refl; start = start-none 117 (drop 1 (slug 6)) (omega arith) refl; end = end-ascii (take 6 (slug 6)) 110 (omega arith) refl; some = omega arith; back = refl }
+slug-fine zero h = record {
+  plain = refl;
+  lf = refl;
+  hash = refl;
+  colon = refl;
+  start =
+      start-none 102 (drop 1 (slug 0)) (omega arith) refl;
+  end = end-ascii (take 1 (slug 0)) 115 (omega arith) refl;
+  some =
+      omega arith;
+  back = refl;
+}
+slug-fine (suc zero) h =
+    record {
+      plain = refl;
+      lf = refl;
+      hash = refl;
+      colon = refl;
+      start = start-none 101 (drop 1 (slug 1)) (omega arith) refl;
+      end =
+          end-ascii (take 2 (slug 1)) 118 (omega arith) refl;
+      some = omega arith;
+      back = refl;
+    }
+slug-fine (suc (suc zero)) h =
+    record {
+      plain = refl;
+      lf = refl;
+      hash = refl;
+      colon = refl;
+      start = start-none 99 (drop 1 (slug 2)) (omega arith) refl;
+      end =
+          end-ascii (take 4 (slug 2)) 107 (omega arith) refl;
+      some = omega arith;
+      back = refl;
+    }
+slug-fine (suc (suc (suc zero))) h =
+    record {
+      plain = refl;
+      lf = refl;
+      hash = refl;
+      colon = refl;
+      start = start-none 110 (drop 1 (slug 3)) (omega arith) refl;
+      end =
+          end-ascii (take 6 (slug 3)) 107 (omega arith) refl;
+      some = omega arith;
+      back = refl;
+    }
+slug-fine (suc (suc (suc (suc zero)))) h =
+    record {
+      plain = refl;
+      lf = refl;
+      hash = refl;
+      colon = refl;
+      start = start-none 114 (drop 1 (slug 4)) (omega arith) refl;
+      end =
+          end-ascii (take 5 (slug 4)) 109 (omega arith) refl;
+      some = omega arith;
+      back = refl;
+    }
+slug-fine (suc (suc (suc (suc (suc zero))))) h =
+    record {
+      plain = refl;
+      lf = refl;
+      hash = refl;
+      colon = refl;
+      start = start-none 115 (drop 1 (slug 5)) (omega arith) refl;
+      end =
+          end-ascii (take 4 (slug 5)) 111 (omega arith) refl;
+      some = omega arith;
+      back = refl;
+    }
+slug-fine (suc (suc (suc (suc (suc (suc zero)))))) h = record {
+  plain = refl;
+  lf = refl;
+  hash = refl;
+  colon = refl;
+  start = start-none 117 (drop 1 (slug 6)) (omega arith) refl;
+  end =
+      end-ascii (take 6 (slug 6)) 110 (omega arith) refl;
+  some = omega arith;
+  back = refl;
+}
 slug-fine (suc (suc (suc (suc (suc (suc (suc d))))))) h = absurd (omega arith)
 
 -- ---- the written list
@@ -168,10 +264,12 @@ joined-well t (u ∷ ts) (and f fs) =
     well-ascii t 44 (32 ∷ (u ++ joined ts)) (omega arith)
     ∙ both-and (well t) (well (32 ∷ (u ++ joined ts))) (f .inner .good) (well-one 32 (u ++ joined ts) (omega arith) ∙ joined-well u ts fs)
 
-joined-lacks : (b : ℕ) → eqb 44 b ≡ false → eqb 32 b ≡ false → (t : List ℕ) (ts : List (List ℕ)) → Each (λ (t : List ℕ). lacks b t ≡ true) (t ∷ ts) → lacks b (t ++ joined ts) ≡ true
+joined-lacks : (b : ℕ) → eqb 44 b ≡ false → eqb 32 b ≡ false → (t : List ℕ) (ts : List (List ℕ))
+    → Each (λ (t : List ℕ). lacks b t ≡ true) (t ∷ ts) → lacks b (t ++ joined ts) ≡ true
 unfolding joined
 joined-lacks b p q t [] (and f fs) = rw (append-nil t) f
-joined-lacks b p q t (u ∷ ts) (and f fs) = lacks-append b t (44 ∷ 32 ∷ (u ++ joined ts)) f (lacks-cons b 44 (32 ∷ (u ++ joined ts)) p (lacks-cons b 32 (u ++ joined ts) q (joined-lacks b p q u ts fs)))
+joined-lacks b p q t (u ∷ ts) (and f fs) = lacks-append b t (44 ∷ 32 ∷ (u ++ joined ts)) f
+    (lacks-cons b 44 (32 ∷ (u ++ joined ts)) p (lacks-cons b 32 (u ++ joined ts) q (joined-lacks b p q u ts fs)))
 
 each-lf : (ts : List (List ℕ)) → Each FineToken ts → Each (λ (t : List ℕ). lacks 10 t ≡ true) ts
 each-lf [] none = none
@@ -202,14 +300,32 @@ pub record Body (b : List ℕ) : Type 0 where
 
 body-fine : (d : ℕ) (ts : List (List ℕ)) → FineSlug d → Each FineToken ts → Body (slug d ++ listPart ts)
 unfolding listPart
-body-fine d [] s fs = rw (append-nil (slug d)) (record { inner = record { good = rw (append-nil (slug d)) at (well-word (slug d) [] (s .plain) ∙ well-none); lf = s .lf; hash = s .hash }; end = s .end; some = s .some })
+body-fine d [] s fs =
+    rw (append-nil (slug d))
+    (record {
+      inner = record {
+        good = rw (append-nil (slug d)) at (well-word (slug d) [] (s .plain) ∙ well-none);
+        lf = s .lf;
+        hash =
+            s .hash;
+      };
+      end = s .end;
+      some = s .some;
+    })
 body-fine d (t ∷ ts) s fs =
     let y = t ++ joined ts in
     let g : well (58 ∷ 32 ∷ y) ≡ true = well-one 58 (32 ∷ y) (omega arith) ∙ well-one 32 y (omega arith) ∙ joined-well t ts fs in
-    let l : lacks 10 (58 ∷ 32 ∷ y) ≡ true = lacks-cons 10 58 (32 ∷ y) refl (lacks-cons 10 32 y refl (joined-lacks 10 refl refl t ts (each-lf (t ∷ ts) fs))) in
-    let h : lacks 35 (58 ∷ 32 ∷ y) ≡ true = lacks-cons 35 58 (32 ∷ y) refl (lacks-cons 35 32 y refl (joined-lacks 35 refl refl t ts (each-hash (t ∷ ts) fs))) in
+    let l : lacks 10 (58 ∷ 32 ∷ y) ≡ true = lacks-cons 10 58 (32 ∷ y) refl
+    (lacks-cons 10 32 y refl (joined-lacks 10 refl refl t ts (each-lf (t ∷ ts) fs))) in
+    let h : lacks 35 (58 ∷ 32 ∷ y) ≡ true = lacks-cons 35 58 (32 ∷ y) refl
+    (lacks-cons 35 32 y refl (joined-lacks 35 refl refl t ts (each-hash (t ∷ ts) fs))) in
     record {
-      inner = record { good = well-word (slug d) (58 ∷ 32 ∷ y) (s .plain) ∙ g; lf = lacks-append 10 (slug d) (58 ∷ 32 ∷ y) (s .lf) l; hash = lacks-append 35 (slug d) (58 ∷ 32 ∷ y) (s .hash) h };
+      inner = record {
+        good = well-word (slug d) (58 ∷ 32 ∷ y) (s .plain) ∙ g;
+        lf =
+            lacks-append 10 (slug d) (58 ∷ 32 ∷ y) (s .lf) l;
+        hash = lacks-append 35 (slug d) (58 ∷ 32 ∷ y) (s .hash) h;
+      };
       end = rw (append-snoc (slug d) 58 (32 ∷ y)) at (end-blank (slug d ++ 58 ∷ []) y (joined-end t ts fs) (joined-some t ts fs));
       some = omega (arith, s .some, length-append (slug d) (58 ∷ 32 ∷ y));
     }
@@ -218,10 +334,32 @@ rule-whole : (t : Bool) (d : ℕ) (ts : List (List ℕ)) → Body (slug d ++ lis
 unfolding ruleLine stanceWord ascii lacks isWhite inSome whites
 rule-whole true d ts b =
     let y = slug d ++ listPart ts in
-    record { inner = record { good = well-word (allow ++ 32 ∷ []) y refl ∙ b .inner .good; lf = b .inner .lf; hash = b .inner .hash }; start = start-none 97 (108 ∷ 108 ∷ 111 ∷ 119 ∷ 32 ∷ y) (omega arith) refl; end = end-blank allow y (b .end) (b .some); some = omega arith }
+    record {
+      inner = record {
+        good = well-word (allow ++ 32 ∷ []) y refl ∙ b .inner .good;
+        lf = b .inner .lf;
+        hash =
+            b .inner .hash;
+      };
+      start = start-none 97 (108 ∷ 108 ∷ 111 ∷ 119 ∷ 32 ∷ y) (omega arith) refl;
+      end =
+          end-blank allow y (b .end) (b .some);
+      some = omega arith;
+    }
 rule-whole false d ts b =
     let y = slug d ++ listPart ts in
-    record { inner = record { good = well-word (deny ++ 32 ∷ []) y refl ∙ b .inner .good; lf = b .inner .lf; hash = b .inner .hash }; start = start-none 100 (101 ∷ 110 ∷ 121 ∷ 32 ∷ y) (omega arith) refl; end = end-blank deny y (b .end) (b .some); some = omega arith }
+    record {
+      inner = record {
+        good = well-word (deny ++ 32 ∷ []) y refl ∙ b .inner .good;
+        lf = b .inner .lf;
+        hash =
+            b .inner .hash;
+      };
+      start = start-none 100 (101 ∷ 110 ∷ 121 ∷ 32 ∷ y) (omega arith) refl;
+      end =
+          end-blank deny y (b .end) (b .some);
+      some = omega arith;
+    }
 
 -- ---- the line of a rule, read
 ruled-plain : (t : Bool) (b : Piece) (d : ℕ) → FineSlug d → b .bytes ≡ slug d → ruled t b ≡ plain t d
@@ -229,7 +367,8 @@ unfolding ruled plainBy
 ruled-plain t b d s e =
     let i = index-none 58 (slug d) (s .colon) in
     let r : trim b .bytes ≡ slug d = trim-bytes b ∙ rw e (trim-whole (slug d) (s .start) (s .end)) in
-    let l : ltb (indexOf 58 (b .bytes)) (length (b .bytes)) ≡ false = rw (e, i) (le-ltb (length (slug d)) (length (slug d)) (omega arith)) in
+    let l : ltb (indexOf 58 (b .bytes)) (length (b .bytes)) ≡ false =
+    rw (e, i) (le-ltb (length (slug d)) (length (slug d)) (omega arith)) in
     rw (l, r, s .back)
 
 ruled-listed : (t : Bool) (b : Piece) (d : ℕ) (y : List ℕ) → FineSlug d → b .bytes ≡ slug d ++ 58 ∷ y → ruled t b ≡ listed t d (past 58 b)
@@ -238,7 +377,8 @@ ruled-listed t b d y s e =
     let i : indexOf 58 (b .bytes) ≡ length (slug d) = rw e (index-at 58 (slug d) y (s .colon)) in
     let u : until 58 b .bytes ≡ slug d = rw (i, e) (take-append-seam (slug d) (58 ∷ y)) in
     let r : trim (until 58 b) .bytes ≡ slug d = trim-bytes (until 58 b) ∙ rw u (trim-whole (slug d) (s .start) (s .end)) in
-    let l : ltb (indexOf 58 (b .bytes)) (length (b .bytes)) ≡ true = rw (i, e) (lt-ltb (length (slug d)) (length (slug d ++ 58 ∷ y)) (omega (arith, length-append (slug d) (58 ∷ y)))) in
+    let l : ltb (indexOf 58 (b .bytes)) (length (b .bytes)) ≡ true =
+    rw (i, e) (lt-ltb (length (slug d)) (length (slug d ++ 58 ∷ y)) (omega (arith, length-append (slug d) (58 ∷ y)))) in
     rw (l, r, s .back)
 
 past-bytes : (b : Piece) (d : ℕ) (y : List ℕ) → FineSlug d → b .bytes ≡ slug d ++ 58 ∷ y → past 58 b .bytes ≡ y
@@ -250,7 +390,8 @@ pub record Rules (t : Bool) (d : ℕ) (ts : List (List ℕ)) (x : Directive) (v 
   pub right : fault x ≡ 0
   pub now : heed x v ≡ sets d (ruling t ts) v
 
-ruled-does : (t : Bool) (b : Piece) (d : ℕ) (ts : List (List ℕ)) (v : View) → FineSlug d → Each FineToken ts → b .bytes ≡ slug d ++ listPart ts → Rules t d ts (ruled t b) v
+ruled-does : (t : Bool) (b : Piece) (d : ℕ) (ts : List (List ℕ)) (v : View) → FineSlug d → Each FineToken ts
+    → b .bytes ≡ slug d ++ listPart ts → Rules t d ts (ruled t b) v
 unfolding listPart fault heed
 ruled-does t b d [] v s fs e =
     let q = ruled-plain t b d s (e ∙ append-nil (slug d)) in
@@ -262,12 +403,14 @@ ruled-does t b d (x ∷ ts) v s fs e =
     let k : tokens (past 58 b .bytes) ≡ x ∷ ts = ap tokens p ∙ tokens-back x ts fs in
     record { right = rw q; now = rw (q, k) }
 
-begins-rule : (t : Bool) (d : ℕ) (ts : List (List ℕ)) → (begins policyW (ruleLine t d ts) ≡ false) × (begins defaultW (ruleLine t d ts) ≡ false) × (begins allowW (ruleLine t d ts) ≡ t) × (begins denyW (ruleLine t d ts) ≡ not t)
+begins-rule : (t : Bool) (d : ℕ) (ts : List (List ℕ)) → (begins policyW (ruleLine t d ts) ≡ false)
+    × (begins defaultW (ruleLine t d ts) ≡ false) × (begins allowW (ruleLine t d ts) ≡ t) × (begins denyW (ruleLine t d ts) ≡ not t)
 unfolding begins ruleLine stanceWord
 begins-rule true d ts = (refl, refl, refl, refl)
 begins-rule false d ts = (refl, refl, refl, refl)
 
-rule-worded : (c : Piece) (t : Bool) (d : ℕ) (ts : List (List ℕ)) (v : View) → FineSlug d → Each FineToken ts → c .bytes ≡ ruleLine t d ts → Rules t d ts (worded c) v
+rule-worded : (c : Piece) (t : Bool) (d : ℕ) (ts : List (List ℕ)) (v : View) → FineSlug d → Each FineToken ts
+    → c .bytes ≡ ruleLine t d ts → Rules t d ts (worded c) v
 unfolding worded ruleLine stanceWord
 rule-worded c true d ts v s fs e =
     let b = begins-rule true d ts in
@@ -285,7 +428,8 @@ rule-worded c false d ts v s fs e =
     let z : drop 5 (c .bytes) ≡ slug d ++ listPart ts = rw e in
     rw (p, q, r, o) (ruled-does false (beyond 5 c) d ts v s fs z)
 
-rule-does : (at : ℕ) (t : Bool) (d : ℕ) (ts : List (List ℕ)) (v : View) → FineSlug d → Each FineToken ts → Does (line at (ruleLine t d ts)) v (sets d (ruling t ts) v)
+rule-does : (at : ℕ) (t : Bool) (d : ℕ) (ts : List (List ℕ)) (v : View) → FineSlug d → Each FineToken ts
+    → Does (line at (ruleLine t d ts)) v (sets d (ruling t ts) v)
 rule-does at t d ts v s fs =
     let l = ruleLine t d ts in
     let w = rule-whole t d ts (body-fine d ts s fs) in
@@ -294,7 +438,8 @@ rule-does at t d ts v s fs =
     record { right = rw q (r .right); now = rw q (r .now) }
 
 -- ---- line after line
-run-line : (n at : ℕ) (l s : List ℕ) (v u : View) → WholeLine l → Does (line at l) v u → run heed n v (linesFrom at 0 (l ++ 10 ∷ s)) ≡ run heed (n + 1) u (linesFrom (at + (length l + 1)) 0 s)
+run-line : (n at : ℕ) (l s : List ℕ) (v u : View) → WholeLine l → Does (line at l) v u
+    → run heed n v (linesFrom at 0 (l ++ 10 ∷ s)) ≡ run heed (n + 1) u (linesFrom (at + (length l + 1)) 0 s)
 unfolding run
 run-line n at l s v u w d = rw (lines-front l s (w .inner .lf) (w .end) (w .some) at) (rw (d .right, run) (rw (d .now)))
 
@@ -305,7 +450,8 @@ snoc-length : (rs : List RuleView) (r : RuleView) → length (rs ++ r ∷ []) �
 snoc-length rs r = omega (arith, length-append rs (r ∷ []))
 
 rules-run : (name : List ℕ) (t : Bool) (done rs : List RuleView) (d : ℕ) → d ≡ length done → d + length rs ≡ 7 → EachRule rs → (n at : ℕ)
-    → run heed n (viewed name t (done ++ replicate (length rs) silent)) (linesFrom at 0 (unlines (ruleLines d rs))) ≡ accepted (viewed name t (done ++ rs))
+    → run heed n (viewed name t (done ++ replicate (length rs) silent)) (linesFrom at 0 (unlines (ruleLines d rs))) ≡ accepted
+    (viewed name t (done ++ rs))
 unfolding ruleLines unlines
 rules-run name t done [] d p q fs n at = unfold run linesFrom in refl
 rules-run name t done (silent ∷ rs) d p q (rule f fs) n at =
@@ -317,9 +463,11 @@ rules-run name t done (ruling b ts ∷ rs) d p q (rule (stated f) fs) n at =
     let x = ruling b ts in
     let l = ruleLine b d ts in
     let w = rule-whole b d ts (body-fine d ts s f) in
-    let j : set (done ++ silent ∷ replicate (length rs) silent) d x ≡ done ++ x ∷ replicate (length rs) silent = rw p (set-append-seam done silent (replicate (length rs) silent) x) in
+    let j : set (done ++ silent ∷ replicate (length rs) silent) d x ≡ done ++ x ∷ replicate (length rs) silent =
+    rw p (set-append-seam done silent (replicate (length rs) silent) x) in
     let a = run-line n at l (unlines (ruleLines (suc d) rs)) v (sets d x v) w (rule-does at b d ts v s f) in
-    let i = rules-run name t (done ++ x ∷ []) rs (suc d) (omega (arith, snoc-length done x)) (omega arith) fs (n + 1) (at + (length l + 1)) in
+    let i = rules-run name t (done ++ x ∷ []) rs (suc d) (omega (arith, snoc-length done x)) (omega arith) fs (n + 1)
+    (at + (length l + 1)) in
     let k = rw (append-snoc done x (replicate (length rs) silent), append-snoc done x rs) at i in
     a ∙ rw j k
 
@@ -327,17 +475,21 @@ rules-run name t done (ruling b ts ∷ rs) d p q (rule (stated f) fs) n at =
 unlines-well : (ls : List (List ℕ)) → Each WholeLine ls → well (unlines ls) ≡ true
 unfolding unlines
 unlines-well [] none = well-none
-unlines-well (l ∷ ls) (and w ws) = well-ascii l 10 (unlines ls) (omega arith) ∙ both-and (well l) (well (unlines ls)) (w .inner .good) (unlines-well ls ws)
+unlines-well (l ∷ ls) (and w ws) = well-ascii l 10 (unlines ls) (omega arith)
+    ∙ both-and (well l) (well (unlines ls)) (w .inner .good) (unlines-well ls ws)
 
 rules-whole : (rs : List RuleView) (d : ℕ) → d + length rs ≡ 7 → EachRule rs → Each WholeLine (ruleLines d rs)
 unfolding ruleLines
 rules-whole [] d q fs = none
 rules-whole (silent ∷ rs) d q (rule f fs) = rules-whole rs (suc d) (omega arith) fs
-rules-whole (ruling b ts ∷ rs) d q (rule (stated f) fs) = and (rule-whole b d ts (body-fine d ts (slug-fine d (omega arith)) f)) (rules-whole rs (suc d) (omega arith) fs)
+rules-whole (ruling b ts ∷ rs) d q (rule (stated f) fs) = and (rule-whole b d ts (body-fine d ts (slug-fine d (omega arith)) f))
+    (rules-whole rs (suc d) (omega arith) fs)
 
 form-well : (v : View) → FineView v → well (form v) ≡ true
 unfolding form formLines
-form-well v f = unlines-well (formLines v) (and (name-whole (v .name) (f .name)) (and (default-whole (v .permit)) (rules-whole (v .rules) 0 (omega (arith, f .count)) (f .rules))))
+form-well v f = unlines-well (formLines v)
+    (and (name-whole (v .name) (f .name))
+    (and (default-whole (v .permit)) (rules-whole (v .rules) 0 (omega (arith, f .count)) (f .rules))))
 
 form-run : (v : View) → FineView v → run heed 1 firstView (linesOf (form v)) ≡ accepted v
 unfolding form formLines unlines linesOf firstView

@@ -58,17 +58,20 @@ module _ (d : List ℕ) (at : ℕ) (w v : List ℕ) (h : at + length w ≤ lengt
       let a : take (at + length w) (p ++ q) ≡ p = take-at p q (at + length w) head-long in
       let z : at + length w + length v ≡ at + length (w ++ v) = (let e = length-append w v in omega arith) in
       let b : drop (at + length w + length v) (p ++ q) ≡ drop (at + length (w ++ v)) d =
-      sym (drop-drop (length v) (at + length w) (p ++ q)) ∙ ap (drop (length v)) (drop-at p q (at + length w) head-long) ∙ drop-drop (length v) (at + length w) d
+      sym (drop-drop (length v) (at + length w) (p ++ q)) ∙ ap (drop (length v)) (drop-at p q (at + length w) head-long)
+      ∙ drop-drop (length v) (at + length w) d
       ∙ ap (λ (k : ℕ). drop k d) z in
       rw (a, b) (ap (λ (l : List ℕ). l ++ drop (at + length (w ++ v)) d) (append-assoc (take at d) w v))
 
   laid-long : length (laid d at w) ≡ length d
-  laid-long = length-append (take at d ++ w) (drop (at + length w) d) ∙ (let a = head-long in let b = length-drop (at + length w) d in omega arith)
+  laid-long = length-append (take at d ++ w) (drop (at + length w) d)
+      ∙ (let a = head-long in let b = length-drop (at + length w) d in omega arith)
 
 pub wrote-none : (d : List ℕ) (at : ℕ) (go : Bool) → Wrote d at go [] at d
 wrote-none d at go = record { next = omega arith; long = refl; kept = λ e. refl; left = λ e h. sym (laid-none d at) }
 
-pub wrote-then : {d : List ℕ} {at : ℕ} {go : Bool} {w v : List ℕ} {r q : ℕ} {x y : List ℕ} → Wrote d at go w r x → Wrote x r go v q y → Wrote d at go (w ++ v) q y
+pub wrote-then : {d : List ℕ} {at : ℕ} {go : Bool} {w v : List ℕ} {r q : ℕ} {x y : List ℕ} → Wrote d at go w r x
+    → Wrote x r go v q y → Wrote d at go (w ++ v) q y
 wrote-then {d} {at} {go} {w} {v} {r} {q} {x} {y} f g =
     let l = length-append w v in
     record {
@@ -89,7 +92,8 @@ wrote-no d at go w e = record { next = refl; long = refl; kept = λ e. refl; lef
 pub wrote-full : (d : List ℕ) (at : ℕ) (go : Bool) (w : List ℕ) → length d < at + length w → Wrote d at go w (at + length w) d
 wrote-full d at go w k = record { next = refl; long = refl; kept = λ e. refl; left = λ y h. absurd (omega arith) }
 
-pub wrote-all : (d : List ℕ) (at : ℕ) (go : Bool) (w : List ℕ) (r : ℕ) (x : List ℕ) → go ≡ true → at + length w ≤ length d → r ≡ at + length w → x ≡ paste d at w (length w) → Wrote d at go w r x
+pub wrote-all : (d : List ℕ) (at : ℕ) (go : Bool) (w : List ℕ) (r : ℕ) (x : List ℕ) → go ≡ true → at + length w ≤ length d
+    → r ≡ at + length w → x ≡ paste d at w (length w) → Wrote d at go w r x
 wrote-all d at go w r x e k n p =
     let z : x ≡ laid d at w = p ∙ rw (take-length w) in
     record { next = n; long = ap length z ∙ laid-long d at w [] k; kept = λ y. absurd (false≢true (sym y ∙ e)); left = λ y h. z }
@@ -149,33 +153,43 @@ rest-cons false [] ts = refl
 rest-cons true (x ∷ t) ts = refl
 rest-cons false (x ∷ t) ts = refl
 
-commas-next : (b : List ℕ) → tokens b ≡ fullCons (trimOf (take (indexOf 44 b) b)) (pick (ltb (indexOf 44 b) (length b)) (tokens (drop (indexOf 44 b + 1) b)) [])
+commas-next : (b : List ℕ) → tokens b ≡ fullCons (trimOf (take (indexOf 44 b) b))
+    (pick (ltb (indexOf 44 b) (length b)) (tokens (drop (indexOf 44 b + 1) b)) [])
 unfolding tokens commas
 commas-next b = by (ltb (indexOf 44 b) (length b)) refl
   where
-    by : (t : Bool) → ltb (indexOf 44 b) (length b) ≡ t → full (map trimOf (split b .head ∷ split b .rest)) ≡ fullCons (trimOf (take (indexOf 44 b) b)) (pick t (full (map trimOf (split (drop (indexOf 44 b + 1) b) .head ∷ split (drop (indexOf 44 b + 1) b) .rest))) [])
+    by : (t : Bool) → ltb (indexOf 44 b) (length b) ≡ t → full (map trimOf (split b .head ∷ split b .rest)) ≡ fullCons
+        (trimOf (take (indexOf 44 b) b))
+        (pick t (full (map trimOf (split (drop (indexOf 44 b + 1) b) .head ∷ split (drop (indexOf 44 b + 1) b) .rest))) [])
     by true q =
         let p = take (indexOf 44 b) b in
         let r = drop (indexOf 44 b + 1) b in
-        let z : split b ≡ record { head = p; rest = split r .head ∷ split r .rest } = ap split (index-split 44 b (ltb-true (indexOf 44 b) (length b) q)) ∙ split-at p r (until-lacks 44 b) in
+        let z : split b ≡ record { head = p; rest = split r .head ∷ split r .rest } =
+        ap split (index-split 44 b (ltb-true (indexOf 44 b) (length b) q)) ∙ split-at p r (until-lacks 44 b) in
         ap (λ (x : Parts). full (map trimOf (x .head ∷ x .rest))) z ∙ full-cons (trimOf p) (map trimOf (split r .head ∷ split r .rest))
     by false q =
         let p = take (indexOf 44 b) b in
         let e : p ≡ b = take-all (indexOf 44 b) b (ltb-false (indexOf 44 b) (length b) q) in
         let z : split b ≡ record { head = p; rest = [] } = ap split (sym e) ∙ split-one p (until-lacks 44 b) in
-        ap (λ (x : Parts). full (map trimOf (x .head ∷ x .rest))) z ∙ full-cons (trimOf p) [] ∙ ap (fullCons (trimOf p)) (unfold full in refl)
+        ap (λ (x : Parts). full (map trimOf (x .head ∷ x .rest))) z ∙ full-cons (trimOf p) []
+        ∙ ap (fullCons (trimOf p)) (unfold full in refl)
 
-module _ (s : List ℕ) (i e k f g : ℕ) (some : Bool) (h : i ≤ e) (l : e ≤ length s) (q : k ≡ indexOf 44 (bytesOf s i e)) (t : TrimTo s i (i + k) f g) where
+module _ (s : List ℕ) (i e k f g : ℕ) (some : Bool) (h : i ≤ e) (l : e ≤ length s) (q : k ≡ indexOf 44 (bytesOf s i e))
+    (t : TrimTo s i (i + k) f g) where
   pub list-next : rest some (leftT s i e) ≡ tokenForm some (bytesOf s f g) ++ rest (marked some (bytesOf s f g)) (leftT s (i + k + 1) e)
   list-next =
       let b = bytesOf s i e in
       let n = piece-long s i e l in
       let m = index-le 44 b in
-      let u : take (indexOf 44 b) b ≡ bytesOf s i (i + k) = ap (λ (j : ℕ). take j b) (sym q) ∙ ap (λ (p : Piece). p .bytes) (first-piece s i e k (omega arith)) in
-      let v : trimOf (take (indexOf 44 b) b) ≡ bytesOf s f g = ap trimOf u ∙ sym (trim-bytes (piece s i (i + k))) ∙ ap (λ (p : Piece). p .bytes) (t .same) in
+      let u : take (indexOf 44 b) b ≡ bytesOf s i (i + k) = ap (λ (j : ℕ). take j b) (sym q)
+      ∙ ap (λ (p : Piece). p .bytes) (first-piece s i e k (omega arith)) in
+      let v : trimOf (take (indexOf 44 b) b) ≡ bytesOf s f g = ap trimOf u ∙ sym (trim-bytes (piece s i (i + k)))
+      ∙ ap (λ (p : Piece). p .bytes) (t .same) in
       let z : i + (k + 1) ≡ i + k + 1 = omega arith in
-      let w : drop (indexOf 44 b + 1) b ≡ bytesOf s (i + k + 1) e = ap (λ (j : ℕ). drop (j + 1) b) (sym q) ∙ ap (λ (p : Piece). p .bytes) (beyond-piece s i e (k + 1)) ∙ ap (λ (j : ℕ). bytesOf s j e) z in
-      let c : ltb (indexOf 44 b) (length b) ≡ leb (i + k + 1) e = same-test (indexOf 44 b) (length b) (i + k + 1) e (λ y. omega arith) (λ y. omega arith) in
+      let w : drop (indexOf 44 b + 1) b ≡ bytesOf s (i + k + 1) e = ap (λ (j : ℕ). drop (j + 1) b) (sym q)
+      ∙ ap (λ (p : Piece). p .bytes) (beyond-piece s i e (k + 1)) ∙ ap (λ (j : ℕ). bytesOf s j e) z in
+      let c : ltb (indexOf 44 b) (length b) ≡ leb (i + k + 1) e =
+      same-test (indexOf 44 b) (length b) (i + k + 1) e (λ y. omega arith) (λ y. omega arith) in
       let o : tokens b ≡ fullCons (bytesOf s f g) (leftT s (i + k + 1) e) =
       commas-next b ∙ ap (λ (x : List ℕ). fullCons x (pick (ltb (indexOf 44 b) (length b)) (tokens (drop (indexOf 44 b + 1) b)) [])) v
       ∙ ap (λ (x : List ℕ). fullCons (bytesOf s f g) (pick (ltb (indexOf 44 b) (length b)) (tokens x) [])) w
@@ -222,9 +236,15 @@ pub going-next : {s : List ℕ} {a e : ℕ} {d : List ℕ} {at : ℕ} {go : Bool
 going-next {s} {a} {e} {d} {at} {go} {x} {i} {n} {some} k f g m y w h l q t r =
     let p = tokenForm some (bytesOf s f g) in
     let z = rest (marked some (bytesOf s f g)) (leftT s (i + k + 1) e) in
-    record { done = w .done ++ p; wrote = wrote-then (w .wrote) r; whole = w .whole ∙ ap (λ (v : List ℕ). w .done ++ v) (list-next s i e k f g some h l q t) ∙ sym (append-assoc (w .done) p z) }
+    record {
+      done = w .done ++ p;
+      wrote = wrote-then (w .wrote) r;
+      whole = w .whole
+          ∙ ap (λ (v : List ℕ). w .done ++ v) (list-next s i e k f g some h l q t) ∙ sym (append-assoc (w .done) p z);
+    }
 
-pub going-last : {s : List ℕ} {a e : ℕ} {d : List ℕ} {at : ℕ} {go : Bool} {x : List ℕ} {i n : ℕ} {some : Bool} → Going s a e d at go x i n some → e < i → Wrote d at go (listPart (tokens (bytesOf s a e))) n x
+pub going-last : {s : List ℕ} {a e : ℕ} {d : List ℕ} {at : ℕ} {go : Bool} {x : List ℕ} {i n : ℕ} {some : Bool}
+    → Going s a e d at go x i n some → e < i → Wrote d at go (listPart (tokens (bytesOf s a e))) n x
 going-last {s} {a} {e} {d} {at} {go} {x} {i} {n} {some} w h =
     rw (w .whole ∙ ap (λ (v : List ℕ). w .done ++ v) (list-done s i e some h) ∙ append-nil (w .done)) (w .wrote)
 
@@ -245,9 +265,11 @@ unfolding stanceWord
 stance-long true = omega arith
 stance-long false = omega arith
 
-pub rule-text : (t : Bool) (d : ℕ) (ts : List (List ℕ)) → ruleText d (ruling t ts) ≡ stanceWord t ++ ((32 ∷ []) ++ (slug d ++ (listPart ts ++ (10 ∷ []))))
+pub rule-text : (t : Bool) (d : ℕ) (ts : List (List ℕ)) → ruleText d (ruling t ts) ≡ stanceWord
+    t ++ ((32 ∷ []) ++ (slug d ++ (listPart ts ++ (10 ∷ []))))
 unfolding ruleLine
-rule-text t d ts = append-assoc (stanceWord t) (32 ∷ (slug d ++ listPart ts)) (10 ∷ []) ∙ ap (λ (l : List ℕ). stanceWord t ++ 32 ∷ l) (append-assoc (slug d) (listPart ts) (10 ∷ []))
+rule-text t d ts = append-assoc (stanceWord t) (32 ∷ (slug d ++ listPart ts)) (10 ∷ [])
+    ∙ ap (λ (l : List ℕ). stanceWord t ++ 32 ∷ l) (append-assoc (slug d) (listPart ts) (10 ∷ []))
 
 module _ (s : List ℕ) (x : Slot) where
   pub rule-none : x .stance ≡ None → ruleOf s x ≡ silent
@@ -262,13 +284,16 @@ module _ (s : List ℕ) (x : Slot) where
   unfolding ruleOf
   rule-deny e = let z : x .from + x .len - x .from ≡ x .len = omega arith in rw (e, ruleOf) (rw z)
 
-  pub text-allow : (d : ℕ) → x .stance ≡ Allow → ruleText d (ruleOf s x) ≡ stanceWord true ++ ((32 ∷ []) ++ (slug d ++ (listPart (tokens (bytesOf s (x .from) (x .from + x .len))) ++ (10 ∷ []))))
+  pub text-allow : (d : ℕ) → x .stance ≡ Allow → ruleText d (ruleOf s x) ≡ stanceWord
+      true ++ ((32 ∷ []) ++ (slug d ++ (listPart (tokens (bytesOf s (x .from) (x .from + x .len))) ++ (10 ∷ []))))
   text-allow d e = ap (ruleText d) (rule-allow e) ∙ rule-text true d (tokens (bytesOf s (x .from) (x .from + x .len)))
 
-  pub text-deny : (d : ℕ) → x .stance ≡ Deny → ruleText d (ruleOf s x) ≡ stanceWord false ++ ((32 ∷ []) ++ (slug d ++ (listPart (tokens (bytesOf s (x .from) (x .from + x .len))) ++ (10 ∷ []))))
+  pub text-deny : (d : ℕ) → x .stance ≡ Deny → ruleText d (ruleOf s x) ≡ stanceWord
+      false ++ ((32 ∷ []) ++ (slug d ++ (listPart (tokens (bytesOf s (x .from) (x .from + x .len))) ++ (10 ∷ []))))
   text-deny d e = ap (ruleText d) (rule-deny e) ∙ rule-text false d (tokens (bytesOf s (x .from) (x .from + x .len)))
 
-pub rules-next : (d : ℕ) (r : RuleView) (rs : List RuleView) → unlines (ruleLines d (r ∷ rs)) ≡ ruleText d r ++ unlines (ruleLines (suc d) rs)
+pub rules-next : (d : ℕ) (r : RuleView) (rs : List RuleView)
+    → unlines (ruleLines d (r ∷ rs)) ≡ ruleText d r ++ unlines (ruleLines (suc d) rs)
 unfolding unlines ruleLines
 rules-next d silent rs = refl
 rules-next d (ruling t ts) rs = sym (append-snoc (ruleLine t d ts) 10 (unlines (ruleLines (suc d) rs)))
@@ -281,17 +306,27 @@ pub record Turning (s : List ℕ) (xs : List Slot) (d : List ℕ) (at : ℕ) (go
 pub turning-first : (s : List ℕ) (xs : List Slot) (d : List ℕ) (at : ℕ) (go : Bool) → Turning s xs d at go d 0 at
 turning-first s xs d at go = record { done = []; wrote = wrote-none d at go; whole = refl }
 
-pub turning-next : {s : List ℕ} {xs : List Slot} {d : List ℕ} {at : ℕ} {go : Bool} {x : List ℕ} {k n m : ℕ} {y : List ℕ} (w : Turning s xs d at go x k n) (z : Slot) → drop k xs ≡ z ∷ drop (k + 1) xs
+pub turning-next : {s : List ℕ} {xs : List Slot} {d : List ℕ} {at : ℕ} {go : Bool} {x : List ℕ} {k n m : ℕ} {y : List ℕ}
+    (w : Turning s xs d at go x k n) (z : Slot) → drop k xs ≡ z ∷ drop (k + 1) xs
     → Wrote x n go (ruleText k (ruleOf s z)) m y → Turning s xs d at go y (k + 1) m
 turning-next {s} {xs} {d} {at} {go} {x} {k} {n} {m} {y} w z e r =
     let p = ruleText k (ruleOf s z) in
     let o : unlines (ruleLines k (map (ruleOf s) (drop k xs))) ≡ p ++ unlines (ruleLines (k + 1) (map (ruleOf s) (drop (k + 1) xs))) =
-    ap (λ (l : List Slot). unlines (ruleLines k (map (ruleOf s) l))) e ∙ rules-next k (ruleOf s z) (map (ruleOf s) (drop (k + 1) xs)) ∙ ap (λ (j : ℕ). p ++ unlines (ruleLines j (map (ruleOf s) (drop (k + 1) xs)))) (sym (add-one k)) in
-    record { done = w .done ++ p; wrote = wrote-then (w .wrote) r; whole = w .whole ∙ ap (λ (v : List ℕ). w .done ++ v) o ∙ sym (append-assoc (w .done) p (unlines (ruleLines (k + 1) (map (ruleOf s) (drop (k + 1) xs))))) }
+    ap (λ (l : List Slot). unlines (ruleLines k (map (ruleOf s) l))) e
+    ∙ rules-next k (ruleOf s z) (map (ruleOf s) (drop (k + 1) xs))
+    ∙ ap (λ (j : ℕ). p ++ unlines (ruleLines j (map (ruleOf s) (drop (k + 1) xs)))) (sym (add-one k)) in
+    record {
+      done = w .done ++ p;
+      wrote = wrote-then (w .wrote) r;
+      whole = w .whole ∙ ap (λ (v : List ℕ). w .done ++ v) o
+          ∙ sym (append-assoc (w .done) p (unlines (ruleLines (k + 1) (map (ruleOf s) (drop (k + 1) xs)))));
+    }
 
-pub turning-last : {s : List ℕ} {xs : List Slot} {d : List ℕ} {at : ℕ} {go : Bool} {x : List ℕ} {k n : ℕ} → Turning s xs d at go x k n → drop k xs ≡ [] → Wrote d at go (unlines (ruleLines 0 (map (ruleOf s) xs))) n x
+pub turning-last : {s : List ℕ} {xs : List Slot} {d : List ℕ} {at : ℕ} {go : Bool} {x : List ℕ} {k n : ℕ}
+    → Turning s xs d at go x k n → drop k xs ≡ [] → Wrote d at go (unlines (ruleLines 0 (map (ruleOf s) xs))) n x
 turning-last {s} {xs} {d} {at} {go} {x} {k} {n} w e =
-    let o : unlines (ruleLines k (map (ruleOf s) (drop k xs))) ≡ [] = ap (λ (l : List Slot). unlines (ruleLines k (map (ruleOf s) l))) e ∙ (unfold unlines ruleLines in refl) in
+    let o : unlines (ruleLines k (map (ruleOf s) (drop k xs))) ≡ [] =
+    ap (λ (l : List Slot). unlines (ruleLines k (map (ruleOf s) l))) e ∙ (unfold unlines ruleLines in refl) in
     rw (w .whole ∙ ap (λ (v : List ℕ). w .done ++ v) o ∙ append-nil (w .done)) (w .wrote)
 
 pub seven-next : (p : Policy) (k : ℕ) → k < 7 → drop k (seven p) ≡ slotOf p k ∷ drop (k + 1) (seven p)
@@ -314,9 +349,12 @@ pub name-long : (s : List ℕ) (t : Bool) (a n : ℕ) → length s ≤ 65536 →
 name-long s true a n h k = omega (arith, length-take-le n (drop a s) (omega (arith, length-drop a s)))
 name-long s false a n h k = omega arith
 
-pub form-text : (v : View) → form v ≡ (policyW ++ (34 ∷ [])) ++ (v .name ++ ((34 ∷ 10 ∷ defaultW) ++ (stanceWord (v .permit) ++ ((10 ∷ []) ++ unlines (ruleLines 0 (v .rules))))))
+pub form-text : (v : View)
+    → form v ≡ (policyW ++ (34 ∷ []))
+    ++ (v .name ++ ((34 ∷ 10 ∷ defaultW) ++ (stanceWord (v .permit) ++ ((10 ∷ []) ++ unlines (ruleLines 0 (v .rules))))))
 unfolding form formLines unlines nameLine defaultLine
-form-text v = ap (λ (l : List ℕ). (policyW ++ (34 ∷ [])) ++ l) (append-assoc (v .name) (34 ∷ []) (10 ∷ (defaultW ++ (stanceWord (v .permit) ++ 10 ∷ unlines (ruleLines 0 (v .rules))))))
+form-text v = ap (λ (l : List ℕ). (policyW ++ (34 ∷ [])) ++ l)
+    (append-assoc (v .name) (34 ∷ []) (10 ∷ (defaultW ++ (stanceWord (v .permit) ++ 10 ∷ unlines (ruleLines 0 (v .rules))))))
 
 -- ---- the writer's answers
 module _ (w d : List ℕ) {m : ℕ} {x : List ℕ} (counted : Wrote d 0 false w m x) where

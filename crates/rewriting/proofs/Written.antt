@@ -61,7 +61,8 @@ last-cr l e h c =
 cr-none : (l s : List ℕ) → trimEnd l ≡ length l → 0 < length l → crBefore (l ++ 10 ∷ s) (length l) ≡ false
 unfolding crBefore
 cr-none l s e h =
-    rw (List·getD-append l (10 ∷ s) 0 (length l - 1) (omega arith), ne-eqb (getD l (length l - 1) 0) 13 (last-cr l e h)) (by (ltb (length l) (length (l ++ 10 ∷ s))) (ltb 0 (length l)))
+    rw (List·getD-append l (10 ∷ s) 0 (length l - 1) (omega arith), ne-eqb (getD l (length l - 1) 0) 13 (last-cr l e h))
+    (by (ltb (length l) (length (l ++ 10 ∷ s))) (ltb 0 (length l)))
   where
     by : (a b : Bool) → both a (both b false) ≡ false
     by true true = refl
@@ -78,7 +79,8 @@ module _ (l s : List ℕ) (n : lacks 10 l ≡ true) (e : trimEnd l ≡ length l)
   front-step = rw (index-at 10 l s n, lt-ltb (length l) (length (l ++ 10 ∷ s)) (omega (arith, length-append l (10 ∷ s))))
 
   pub lines-front : (at : ℕ) → linesFrom at 0 (l ++ 10 ∷ s) ≡ (record { at = at; bytes = l }) ∷ linesFrom (at + (length l + 1)) 0 s
-  lines-front at = lines-next at (l ++ 10 ∷ s) (omega (arith, length-append l (10 ∷ s))) ∙ rw (front-len, front-step, take-append-seam l (10 ∷ s), drop-append-add l (10 ∷ s) 1)
+  lines-front at = lines-next at (l ++ 10 ∷ s) (omega (arith, length-append l (10 ∷ s)))
+      ∙ rw (front-len, front-step, take-append-seam l (10 ∷ s), drop-append-add l (10 ∷ s) 1)
 
 -- ---- each line of a well-formed text
 pub record GoodLine (p : Piece) : Type 0 where
@@ -109,7 +111,8 @@ line-well r e = by (crBefore r (indexOf 10 r)) refl
     by false q = well-until 10 (omega arith) r e
     by true q =
         let i = indexOf 10 r in
-        let t : both (ltb 0 i) (eqb (getD r (i - 1) 0) 13) ≡ true = unfold crBefore in both-two (ltb i (length r)) (both (ltb 0 i) (eqb (getD r (i - 1) 0) 13)) q in
+        let t : both (ltb 0 i) (eqb (getD r (i - 1) 0) 13) ≡ true = unfold crBefore in
+        both-two (ltb i (length r)) (both (ltb 0 i) (eqb (getD r (i - 1) 0) 13)) q in
         let h : 0 < i = ltb-true 0 i (both-one (ltb 0 i) (eqb (getD r (i - 1) 0) 13) t) in
         let c : getD r (i - 1) 0 ≡ 13 = eqb-true (getD r (i - 1) 0) 13 (both-two (ltb 0 i) (eqb (getD r (i - 1) 0) 13) t) in
         let u = take i r in
@@ -119,7 +122,8 @@ line-well r e = by (crBefore r (indexOf 10 r)) refl
         rw (take-take (i - 1) i r (omega arith)) at w
 
 line-lacks : (r : List ℕ) → lacks 10 (take (lineLen r) r) ≡ true
-line-lacks r = rw (take-take (lineLen r) (indexOf 10 r) r (line-take r)) at (lacks-take 10 (lineLen r) (take (indexOf 10 r) r) (until-lacks 10 r))
+line-lacks r = rw (take-take (lineLen r) (indexOf 10 r) r (line-take r)) at
+    (lacks-take 10 (lineLen r) (take (indexOf 10 r) r) (until-lacks 10 r))
 
 pub well-none : well [] ≡ true
 unfolding well chars charsFrom allProper
@@ -138,13 +142,16 @@ unfolding linesFrom
 good-none at [] h = none
 good-none at (x ∷ s) h = absurd (not-suc-le-zero h)
 
-good-some : (at : ℕ) (r : List ℕ) → well r ≡ true → ((0 < length r) → EachPiece GoodLine (linesFrom (at + lineStep r) 0 (drop (lineStep r) r))) → EachPiece GoodLine (linesFrom at 0 r)
+good-some : (at : ℕ) (r : List ℕ) → well r ≡ true
+    → ((0 < length r) → EachPiece GoodLine (linesFrom (at + lineStep r) 0 (drop (lineStep r) r))) → EachPiece GoodLine (linesFrom at 0 r)
 good-some at [] e ih = good-none at [] (omega arith)
-good-some at (x ∷ s) e ih = rw (lines-next at (x ∷ s) (omega arith)) (more (record { good = line-well (x ∷ s) e; lf = line-lacks (x ∷ s) }) (ih (omega arith)))
+good-some at (x ∷ s) e ih = rw (lines-next at (x ∷ s) (omega arith))
+    (more (record { good = line-well (x ∷ s) e; lf = line-lacks (x ∷ s) }) (ih (omega arith)))
 
 good-lines : (n at : ℕ) (r : List ℕ) → length r ≤ n → well r ≡ true → EachPiece GoodLine (linesFrom at 0 r)
 good-lines zero at r h e = good-none at r h
-good-lines (suc n) at r h e = good-some at r e (λ k. good-lines n (at + lineStep r) (drop (lineStep r) r) (step-less n r h k) (step-well r e))
+good-lines (suc n) at r h e =
+    good-some at r e (λ k. good-lines n (at + lineStep r) (drop (lineStep r) r) (step-less n r h k) (step-well r e))
 
 pub lines-good : (s : List ℕ) → well s ≡ true → EachPiece GoodLine (linesOf s)
 unfolding linesOf

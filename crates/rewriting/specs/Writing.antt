@@ -1,11 +1,13 @@
 -- For the code: bytes written into a lent buffer one after the other, or only counted. Assumes nothing.
 use mathlib.Core.Bool.{Bool, true, false}
 use mathlib.Core.Path.{_≡_}
-use mathlib.Core.List.{List, [], _∷_, _++_}
+use mathlib.Core.List.{List, [], _∷_, _++_, map}
 use Prim.Native.Nat.{ℕ, _+_, _≤_}
 use lib.ListN.{length, take, drop}
-use Rattle.policy.specs.View.{RuleView, silent, ruling}
-use Rattle.rewriting.specs.Writer.{ruleLine}
+use Rattle.policy.specs.Domain.{slug}
+use Rattle.policy.specs.View.{RuleView, silent, ruling, ruleOf, seven}
+use Rattle.policy.specs.declared.Policy.{Policy}
+use Rattle.rewriting.specs.Writer.{stanceWord, listPart, ruleLine, ruleLines, unlines}
 
 -- d with w from `at` on
 abbrev pub laid : List ℕ → ℕ → List ℕ → List ℕ
@@ -33,6 +35,14 @@ abbrev pub marked : Bool → List ℕ → Bool
 marked true t = true
 marked false [] = false
 marked false (x ∷ t) = true
+
+-- a rule's line with its LF, as the code puts it together
+abbrev pub lineText : Bool → ℕ → List (List ℕ) → List ℕ
+lineText t d ts = stanceWord t ++ ((32 ∷ []) ++ (slug d ++ (listPart ts ++ (10 ∷ []))))
+
+-- the lines of a policy's rules
+abbrev pub rulesText : List ℕ → Policy → List ℕ
+rulesText s p = unlines (ruleLines 0 (map (ruleOf s) (seven p)))
 
 -- a rule's line with its LF, nothing where there is no rule
 abbrev pub ruleText : ℕ → RuleView → List ℕ

@@ -12,7 +12,8 @@ use Rattle.policy.proofs.read_lines.Statement.{statement}
 use Rattle.policy.proofs.read_lines.Tie as tie
 
 abbrev Inv-loop : tie.InvT-loop
-Inv-loop s p₀ at₀ n₀ p at n = (at ≤ length s) × (n ≤ at + 1) × (run obey 1 zeroPolicy (linesOf s) ≡ run obey n p (linesFrom at 0 (drop at s)))
+Inv-loop s p₀ at₀ n₀ p at n = (at ≤ length s) × (n ≤ at + 1)
+    × (run obey 1 zeroPolicy (linesOf s) ≡ run obey n p (linesFrom at 0 (drop at s)))
 
 abbrev μ-loop : tie.MeasureT-loop
 μ-loop s p₀ at₀ n₀ p at n = length s - at
@@ -40,7 +41,8 @@ fault-at-requires c κs =
     let e = j .line-at .result .end in
     let x = j .line-at .result .next in
     let hd = g .heard-at .result in
-    turn-fault s at e x hd (j .line-at .ensures .0) (j .line-at .ensures .1) (g .heard-at .ensures) (f .fault-of .result) (f .fault-of .ensures) (c .if1 .taken)
+    turn-fault s at e x hd (j .line-at .ensures .0) (j .line-at .ensures .1) (g .heard-at .ensures) (f .fault-of .result)
+    (f .fault-of .ensures) (c .if1 .taken)
 
 returns : tie.Need-returns Inv-loop μ-loop
 returns c =
@@ -53,7 +55,9 @@ returns c =
     let e = j .line-at .result .end in
     let x = j .line-at .result .next in
     let hd = g .heard-at .result in
-    rw (l .loop .inv .2 ∙ turn-stop s at e x hd (j .line-at .ensures .0) (j .line-at .ensures .1) (g .heard-at .ensures) (l .loop .line) (l .loop .policy) (omega arith) (f .fault-of .result) (f .fault-of .ensures) (c .before .before .if1 .taken) ∙ sym (c .before .fault-at .ensures)) (c .turned-down .ensures)
+    rw (l .loop .inv .2 ∙ turn-stop s at e x hd (j .line-at .ensures .0) (j .line-at .ensures .1) (g .heard-at .ensures)
+    (l .loop .line) (l .loop .policy) (omega arith) (f .fault-of .result) (f .fault-of .ensures) (c .before .before .if1 .taken)
+    ∙ sym (c .before .fault-at .ensures)) (c .turned-down .ensures)
 
 obeyed-by-requires : tie.Need-obeyed-by-requires Inv-loop μ-loop
 obeyed-by-requires c κs =
@@ -92,13 +96,20 @@ loop-again c =
     let e = j .line-at .result .end in
     let x = j .line-at .result .next in
     let hd = g .heard-at .result in
-    let b = line-bounds s at (omega arith) in
-    (omega (arith, j .line-at .ensures, b), omega (arith, j .line-at .ensures, b), l .loop .inv .2 ∙ turn-on s at e x hd (j .line-at .ensures .0) (j .line-at .ensures .1) (g .heard-at .ensures) (l .loop .line) (l .loop .policy) (omega arith) (f .fault-of .result) (f .fault-of .ensures) (c .before .if1 .left) (c .obeyed-by .result) (c .obeyed-by .ensures))
+    let b = line-bounds s at (omega arith) in (
+      omega (arith, j .line-at .ensures, b),
+      omega (arith, j .line-at .ensures, b),
+      l .loop .inv .2
+          ∙ turn-on s at e x hd (j .line-at .ensures .0) (j .line-at .ensures .1) (g .heard-at .ensures) (l .loop .line)
+          (l .loop .policy) (omega arith) (f .fault-of .result) (f .fault-of .ensures) (c .before .if1 .left) (c .obeyed-by .result)
+          (c .obeyed-by .ensures),
+    )
 
 returns-2 : tie.Need-returns-2 Inv-loop μ-loop
 returns-2 c =
     let l = c .before in
-    rw (l .loop .inv .2 ∙ run-end (l .before .before .before .args .s .now) (l .loop .at) (l .loop .line) (l .loop .policy) (omega arith)) (record { answer = refl; policy = refl })
+    rw (l .loop .inv .2 ∙ run-end (l .before .before .before .args .s .now) (l .loop .at) (l .loop .line) (l .loop .policy)
+    (omega arith)) (record { answer = refl; policy = refl })
 
 pub read-lines-spec : {M : Type 1} → statement M
 read-lines-spec =

@@ -58,7 +58,8 @@ unfolding Inv-loop
 slice-write-dst c =
     let at-loop-test = c .before in
     let at-loop = at-loop-test .before in
-    subst (λ (k : ℕ). k < length (D at-loop-test)) (sym (at-loop .loop .inv .0)) (subst (λ (k : ℕ). At at-loop-test + J at-loop-test < k) (sym (at-loop .loop .inv .3)) (in₀ at-loop-test))
+    subst (λ (k : ℕ). k < length (D at-loop-test)) (sym (at-loop .loop .inv .0))
+    (subst (λ (k : ℕ). At at-loop-test + J at-loop-test < k) (sym (at-loop .loop .inv .3)) (in₀ at-loop-test))
 
 -- o is below dst's length, and j below src's, and a length fits a usize
 add-o : tie.Need-add-o Inv-loop μ-loop
@@ -67,7 +68,11 @@ add-o c =
     let at-loop-test = c .before in
     let at-loop = at-loop-test .before in
     let at-start = at-loop .before in
-    record { fits = lt-of-le-of-lt (add-one-le (subst (λ (k : ℕ). k < length (D₀ at-loop-test)) (sym (at-loop .loop .inv .0)) (in₀ at-loop-test))) (at-start .good .1 .0 .0) }
+    record {
+      fits = lt-of-le-of-lt
+          (add-one-le (subst (λ (k : ℕ). k < length (D₀ at-loop-test)) (sym (at-loop .loop .inv .0)) (in₀ at-loop-test)))
+          (at-start .good .1 .0 .0);
+    }
 
 add-j : tie.Need-add-j Inv-loop μ-loop
 add-j c =
@@ -88,8 +93,10 @@ loop-again c =
     let at-loop = at-loop-test .before in (
       ap (λ (k : ℕ). k + 1) (at-loop .loop .inv .0) ∙ add-assoc (At at-loop-test) (J at-loop-test) 1,
       ap (λ (l : List ℕ). set l (O at-loop-test) (getD (S at-loop-test) (J at-loop-test) 0)) (at-loop .loop .inv .1)
-          ∙ ap (λ (k : ℕ). set (paste (D₀ at-loop-test) (At at-loop-test) (S at-loop-test) (J at-loop-test)) k (getD (S at-loop-test) (J at-loop-test) 0)) (at-loop .loop .inv .0)
-          ∙ paste-suc (D₀ at-loop-test) (At at-loop-test) (S at-loop-test) (J at-loop-test) 0 (in₀ at-loop-test) (at-loop-test .loop-test .taken)
+          ∙ ap (λ (k : ℕ). set (paste (D₀ at-loop-test) (At at-loop-test) (S at-loop-test) (J at-loop-test)) k
+          (getD (S at-loop-test) (J at-loop-test) 0)) (at-loop .loop .inv .0)
+          ∙ paste-suc (D₀ at-loop-test) (At at-loop-test) (S at-loop-test) (J at-loop-test) 0 (in₀ at-loop-test)
+          (at-loop-test .loop-test .taken)
           ∙ ap (λ (k : ℕ). paste (D₀ at-loop-test) (At at-loop-test) (S at-loop-test) k) (sym (add-one (J at-loop-test))),
       add-one-le (at-loop-test .loop-test .taken),
       length-set (D at-loop-test) (O at-loop-test) (getD (S at-loop-test) (J at-loop-test) 0) ∙ at-loop .loop .inv .3,

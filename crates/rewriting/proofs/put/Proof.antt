@@ -20,7 +20,8 @@ returns-3 c =
     let y = c .before .before in
     let z = y .before .before in
     let a = z .before .before .before .before .args in
-    wrote-all (a .out .now) (a .at) (a .go) (a .bytes .now) (y .copy-in .result) (y .copy-in .last .1 .0) (not-false (a .go) (z .before .if1 .left)) (z .if2 .left) (y .copy-in .ensures .0) (y .copy-in .ensures .1)
+    wrote-all (a .out .now) (a .at) (a .go) (a .bytes .now) (y .copy-in .result) (y .copy-in .last .1 .0)
+    (not-false (a .go) (z .before .if1 .left)) (z .if2 .left) (y .copy-in .ensures .0) (y .copy-in .ensures .1)
 
 pub put-spec : {M : Type 1} → statement M
 put-spec = tie.close (tie.spec

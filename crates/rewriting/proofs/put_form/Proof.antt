@@ -12,7 +12,13 @@ put-requires-2 c κs =
     let p1 = pn .before .before .before .before in
     let st = p1 .before .before .before .before .before in
     let a = st .args in
-    omega (arith, pn .put-name .ensures .next, name-long (a .s .now) (a .p .named) (a .p .start) (a .p .size) (omega arith) (omega arith), p1 .put .ensures .next)
+    omega (
+      arith,
+      pn .put-name .ensures .next,
+      name-long (a .s .now) (a .p .named) (a .p .start) (a .p .size) (omega arith)
+          (omega arith),
+      p1 .put .ensures .next,
+    )
 
 put-stance-requires : tie.Need-put-stance-requires
 put-stance-requires c κs =
@@ -21,7 +27,14 @@ put-stance-requires c κs =
     let p1 = pn .before .before .before .before in
     let st = p1 .before .before .before .before .before in
     let a = st .args in
-    omega (arith, pn .put-name .ensures .next, name-long (a .s .now) (a .p .named) (a .p .start) (a .p .size) (omega arith) (omega arith), p1 .put .ensures .next, p2 .put2 .ensures .next)
+    omega (
+      arith,
+      pn .put-name .ensures .next,
+      name-long (a .s .now) (a .p .named) (a .p .start) (a .p .size) (omega arith)
+          (omega arith),
+      p1 .put .ensures .next,
+      p2 .put2 .ensures .next,
+    )
 
 put-requires-3 : tie.Need-put-requires-3
 put-requires-3 c κs =
@@ -31,7 +44,16 @@ put-requires-3 c κs =
     let p1 = pn .before .before .before .before in
     let st = p1 .before .before .before .before .before in
     let a = st .args in
-    omega (arith, pn .put-name .ensures .next, name-long (a .s .now) (a .p .named) (a .p .start) (a .p .size) (omega arith) (omega arith), p1 .put .ensures .next, p2 .put2 .ensures .next, ps .put-stance .ensures .next, stance-long (a .p .permit))
+    omega (
+      arith,
+      pn .put-name .ensures .next,
+      name-long (a .s .now) (a .p .named) (a .p .start) (a .p .size) (omega arith)
+          (omega arith),
+      p1 .put .ensures .next,
+      p2 .put2 .ensures .next,
+      ps .put-stance .ensures .next,
+      stance-long (a .p .permit),
+    )
 
 put-rules-requires : tie.Need-put-rules-requires
 put-rules-requires c κs =
@@ -41,8 +63,21 @@ put-rules-requires c κs =
     let pn = p2 .before .before .before .before .before in
     let p1 = pn .before .before .before .before in
     let st = p1 .before .before .before .before .before in
-    let a = st .args in
-    (st .pre .0, st .pre .2, omega (arith, pn .put-name .ensures .next, name-long (a .s .now) (a .p .named) (a .p .start) (a .p .size) (omega arith) (omega arith), p1 .put .ensures .next, p2 .put2 .ensures .next, ps .put-stance .ensures .next, stance-long (a .p .permit), p3 .put3 .ensures .next))
+    let a = st .args in (
+      st .pre .0,
+      st .pre .2,
+      omega (
+        arith,
+        pn .put-name .ensures .next,
+        name-long (a .s .now) (a .p .named) (a .p .start) (a .p .size) (omega arith)
+            (omega arith),
+        p1 .put .ensures .next,
+        p2 .put2 .ensures .next,
+        ps .put-stance .ensures .next,
+        stance-long (a .p .permit),
+        p3 .put3 .ensures .next,
+      ),
+    )
 
 returns : tie.Need-returns
 unfolding says
@@ -55,7 +90,11 @@ returns c =
     let p1 = pn .before .before .before .before in
     let st = p1 .before .before .before .before .before in
     let a = st .args in
-    rw (form-text (says (a .s .now) (a .p))) (wrote-then (p1 .put .ensures) (wrote-then (pn .put-name .ensures) (wrote-then (p2 .put2 .ensures) (wrote-then (ps .put-stance .ensures) (wrote-then (p3 .put3 .ensures) (pr .put-rules .ensures))))))
+    rw (form-text (says (a .s .now) (a .p)))
+    (wrote-then (p1 .put .ensures)
+    (wrote-then (pn .put-name .ensures)
+    (wrote-then (p2 .put2 .ensures)
+    (wrote-then (ps .put-stance .ensures) (wrote-then (p3 .put3 .ensures) (pr .put-rules .ensures))))))
 
 pub put-form-spec : {M : Type 1} → statement M
 put-form-spec =

@@ -24,7 +24,14 @@ put-list-requires c κs =
     let p = ps .before .before .before .before in
     let st = p .before .before .before .before .before in
     let a = st .before .before .before .before .args in
-    omega (arith, st .put-stance .ensures .next, stance-long (a .allow), p .put .ensures .next, ps .put-slug .ensures .next, slug-long (a .d) (omega arith))
+    omega (
+      arith,
+      st .put-stance .ensures .next,
+      stance-long (a .allow),
+      p .put .ensures .next,
+      ps .put-slug .ensures .next,
+      slug-long (a .d) (omega arith),
+    )
 
 put-requires-2 : tie.Need-put-requires-2
 put-requires-2 c κs =
@@ -33,7 +40,15 @@ put-requires-2 c κs =
     let p = ps .before .before .before .before in
     let st = p .before .before .before .before .before in
     let a = st .before .before .before .before .args in
-    omega (arith, pl .put-list .ensures .1, st .put-stance .ensures .next, stance-long (a .allow), p .put .ensures .next, ps .put-slug .ensures .next, slug-long (a .d) (omega arith))
+    omega (
+      arith,
+      pl .put-list .ensures .1,
+      st .put-stance .ensures .next,
+      stance-long (a .allow),
+      p .put .ensures .next,
+      ps .put-slug .ensures .next,
+      slug-long (a .d) (omega arith),
+    )
 
 returns : tie.Need-returns
 returns c =
@@ -43,8 +58,18 @@ returns c =
     let p = ps .before .before .before .before in
     let st = p .before .before .before .before .before in
     let a = st .before .before .before .before .args in (
-      wrote-then (st .put-stance .ensures) (wrote-then (p .put .ensures) (wrote-then (ps .put-slug .ensures) (wrote-then (pl .put-list .ensures .0) (p2 .put2 .ensures)))),
-      omega (arith, p2 .put2 .ensures .next, pl .put-list .ensures .1, st .put-stance .ensures .next, stance-long (a .allow), p .put .ensures .next, ps .put-slug .ensures .next, slug-long (a .d) (omega arith)),
+      wrote-then (st .put-stance .ensures)
+          (wrote-then (p .put .ensures) (wrote-then (ps .put-slug .ensures) (wrote-then (pl .put-list .ensures .0) (p2 .put2 .ensures)))),
+      omega (
+        arith,
+        p2 .put2 .ensures .next,
+        pl .put-list .ensures .1,
+        st .put-stance .ensures .next,
+        stance-long (a .allow),
+        p .put .ensures .next,
+        ps .put-slug .ensures .next,
+        slug-long (a .d) (omega arith),
+      ),
     )
 
 pub put-line-spec : {M : Type 1} → statement M

@@ -30,8 +30,12 @@ loop-again c =
     let y = c .before .before in
     let l = y .before .before .before .before in
     let a = l .before .before .before .args in
-    let d = l .loop .d in
-    (omega arith, omega (arith, y .put-rule .ensures .1), turning-next (l .loop .inv .2) (getD (a .t2 .rules) d noSlot) (seven-next (a .t2) d (omega arith)) (y .put-rule .ensures .0))
+    let d = l .loop .d in (
+      omega arith,
+      omega (arith, y .put-rule .ensures .1),
+      turning-next (l .loop .inv .2) (getD (a .t2 .rules) d noSlot)
+          (seven-next (a .t2) d (omega arith)) (y .put-rule .ensures .0),
+    )
 
 same-length : tie.Need-same-length Inv-loop μ-loop
 same-length c = c .before .loop .inv .2 .wrote .long

@@ -20,7 +20,8 @@ returns-2 c =
     let y = f .before .before .before in
     let a = y .before .before .before .before .args in
     let t = a .token .now in
-    let e : tokenForm (a .some) t ≡ separator true ++ t = token-some (a .some) t (y .before .if1 .left) ∙ ap (λ z. separator z ++ t) (y .if2 .taken) in
+    let e : tokenForm (a .some) t ≡ separator true ++ t = token-some (a .some) t (y .before .if1 .left)
+    ∙ ap (λ z. separator z ++ t) (y .if2 .taken) in
     rw e (wrote-then (f .put .ensures) (g .put2 .ensures))
 
 returns-3 : tie.Need-returns-3
@@ -30,7 +31,8 @@ returns-3 c =
     let y = f .before .before .before in
     let a = y .before .before .before .before .args in
     let t = a .token .now in
-    let e : tokenForm (a .some) t ≡ separator false ++ t = token-some (a .some) t (y .before .if1 .left) ∙ ap (λ z. separator z ++ t) (y .if2 .left) in
+    let e : tokenForm (a .some) t ≡ separator false ++ t = token-some (a .some) t (y .before .if1 .left)
+    ∙ ap (λ z. separator z ++ t) (y .if2 .left) in
     rw e (wrote-then (f .put3 .ensures) (g .put4 .ensures))
 
 pub put-token-spec : {M : Type 1} → statement M

@@ -23,7 +23,8 @@ unfolding importDomain
 returns-3 c =
     let e3 = sym (c .before .before .starts2 .ensures) ∙ c .before .if3 .taken in
     let e2 = sym (c .before .before .before .before .before .equal .ensures) ∙ c .before .before .before .before .if2 .left in
-    let e1 = sym (c .before .before .before .before .before .before .before .before .starts .ensures) ∙ c .before .before .before .before .before .before .before .if1 .left in
+    let e1 = sym (c .before .before .before .before .before .before .before .before .starts .ensures)
+    ∙ c .before .before .before .before .before .before .before .if1 .left in
     rw (e1, e2, e3) (c .classify-path .ensures)
 
 returns-4 : tie.Need-returns-4
@@ -31,7 +32,8 @@ unfolding importDomain
 returns-4 c =
     let e3 = sym (c .before .starts2 .ensures) ∙ c .if3 .left in
     let e2 = sym (c .before .before .before .before .equal .ensures) ∙ c .before .before .before .if2 .left in
-    let e1 = sym (c .before .before .before .before .before .before .before .starts .ensures) ∙ c .before .before .before .before .before .before .if1 .left in
+    let e1 = sym (c .before .before .before .before .before .before .before .starts .ensures)
+    ∙ c .before .before .before .before .before .before .if1 .left in
     rw (e1, e2, e3)
 
 pub classify-import-spec : {M : Type 1} → statement M

@@ -23,7 +23,8 @@ unfolding judged passes heads
 returns-3 c =
     let e3 = sym (c .before .equal3 .ensures) ∙ c .if3 .taken in
     let e2 = sym (c .before .before .before .before .equal2 .ensures) ∙ c .before .before .before .if2 .left in
-    let e1 = sym (c .before .before .before .before .before .before .before .equal .ensures) ∙ c .before .before .before .before .before .before .if1 .left in
+    let e1 = sym (c .before .before .before .before .before .before .before .equal .ensures)
+    ∙ c .before .before .before .before .before .before .if1 .left in
     rw (e1, e2, e3)
 
 returns-4 : tie.Need-returns-4
@@ -31,8 +32,10 @@ unfolding judged passes heads
 returns-4 c =
     let e4 = sym (c .before .equal4 .ensures) ∙ c .if4 .taken in
     let e3 = sym (c .before .before .before .before .equal3 .ensures) ∙ c .before .before .before .if3 .left in
-    let e2 = sym (c .before .before .before .before .before .before .before .equal2 .ensures) ∙ c .before .before .before .before .before .before .if2 .left in
-    let e1 = sym (c .before .before .before .before .before .before .before .before .before .before .equal .ensures) ∙ c .before .before .before .before .before .before .before .before .before .if1 .left in
+    let e2 = sym (c .before .before .before .before .before .before .before .equal2 .ensures)
+    ∙ c .before .before .before .before .before .before .if2 .left in
+    let e1 = sym (c .before .before .before .before .before .before .before .before .before .before .equal .ensures)
+    ∙ c .before .before .before .before .before .before .before .before .before .if1 .left in
     rw (e1, e2, e3, e4)
 
 returns-5 : tie.Need-returns-5
@@ -40,8 +43,10 @@ unfolding judged passes heads
 returns-5 c =
     let e5 = sym (c .before .equal5 .ensures) ∙ c .if5 .taken in
     let e4 = sym (c .before .before .before .before .equal4 .ensures) ∙ c .before .before .before .if4 .left in
-    let e3 = sym (c .before .before .before .before .before .before .before .equal3 .ensures) ∙ c .before .before .before .before .before .before .if3 .left in
-    let e2 = sym (c .before .before .before .before .before .before .before .before .before .before .equal2 .ensures) ∙ c .before .before .before .before .before .before .before .before .before .if2 .left in
+    let e3 = sym (c .before .before .before .before .before .before .before .equal3 .ensures)
+    ∙ c .before .before .before .before .before .before .if3 .left in
+    let e2 = sym (c .before .before .before .before .before .before .before .before .before .before .equal2 .ensures)
+    ∙ c .before .before .before .before .before .before .before .before .before .if2 .left in
     let e1 = sym (c .before .before .before .before .before .before .before .before .before .before .before .before .before .equal .ensures) ∙ c .before .before .before .before .before .before .before .before .before .before .before .before .if1 .left in
     rw (e1, e2, e3, e4, e5)
 
@@ -50,8 +55,10 @@ unfolding judged passes heads
 returns-6 c =
     let e6 = sym (c .before .equal6 .ensures) ∙ c .if6 .taken in
     let e5 = sym (c .before .before .before .before .equal5 .ensures) ∙ c .before .before .before .if5 .left in
-    let e4 = sym (c .before .before .before .before .before .before .before .equal4 .ensures) ∙ c .before .before .before .before .before .before .if4 .left in
-    let e3 = sym (c .before .before .before .before .before .before .before .before .before .before .equal3 .ensures) ∙ c .before .before .before .before .before .before .before .before .before .if3 .left in
+    let e4 = sym (c .before .before .before .before .before .before .before .equal4 .ensures)
+    ∙ c .before .before .before .before .before .before .if4 .left in
+    let e3 = sym (c .before .before .before .before .before .before .before .before .before .before .equal3 .ensures)
+    ∙ c .before .before .before .before .before .before .before .before .before .if3 .left in
     let e2 = sym (c .before .before .before .before .before .before .before .before .before .before .before .before .before .equal2 .ensures) ∙ c .before .before .before .before .before .before .before .before .before .before .before .before .if2 .left in
     let e1 = sym (c .before .before .before .before .before .before .before .before .before .before .before .before .before .before .before .before .equal .ensures) ∙ c .before .before .before .before .before .before .before .before .before .before .before .before .before .before .before .if1 .left in
     rw (e1, e2, e3, e4, e5, e6)
@@ -61,8 +68,10 @@ unfolding judged passes heads
 returns-7 c =
     let e6 = sym (c .before .equal6 .ensures) ∙ c .if6 .left in
     let e5 = sym (c .before .before .before .before .equal5 .ensures) ∙ c .before .before .before .if5 .left in
-    let e4 = sym (c .before .before .before .before .before .before .before .equal4 .ensures) ∙ c .before .before .before .before .before .before .if4 .left in
-    let e3 = sym (c .before .before .before .before .before .before .before .before .before .before .equal3 .ensures) ∙ c .before .before .before .before .before .before .before .before .before .if3 .left in
+    let e4 = sym (c .before .before .before .before .before .before .before .equal4 .ensures)
+    ∙ c .before .before .before .before .before .before .if4 .left in
+    let e3 = sym (c .before .before .before .before .before .before .before .before .before .before .equal3 .ensures)
+    ∙ c .before .before .before .before .before .before .before .before .before .if3 .left in
     let e2 = sym (c .before .before .before .before .before .before .before .before .before .before .before .before .before .equal2 .ensures) ∙ c .before .before .before .before .before .before .before .before .before .before .before .before .if2 .left in
     let e1 = sym (c .before .before .before .before .before .before .before .before .before .before .before .before .before .before .before .before .equal .ensures) ∙ c .before .before .before .before .before .before .before .before .before .before .before .before .before .before .before .if1 .left in
     rw (e1, e2, e3, e4, e5, e6)

@@ -23,7 +23,8 @@ unfolding judged passes preview
 returns-3 c =
     let e3 = sym (c .before .starts3 .ensures) ∙ c .if3 .taken in
     let e2 = sym (c .before .before .before .before .starts2 .ensures) ∙ c .before .before .before .if2 .left in
-    let e1 = sym (c .before .before .before .before .before .before .before .starts .ensures) ∙ c .before .before .before .before .before .before .if1 .left in
+    let e1 = sym (c .before .before .before .before .before .before .before .starts .ensures)
+    ∙ c .before .before .before .before .before .before .if1 .left in
     rw (e1, e2, e3)
 
 returns-4 : tie.Need-returns-4
@@ -31,8 +32,10 @@ unfolding judged passes preview
 returns-4 c =
     let e4 = sym (c .before .starts4 .ensures) ∙ c .if4 .taken in
     let e3 = sym (c .before .before .before .before .starts3 .ensures) ∙ c .before .before .before .if3 .left in
-    let e2 = sym (c .before .before .before .before .before .before .before .starts2 .ensures) ∙ c .before .before .before .before .before .before .if2 .left in
-    let e1 = sym (c .before .before .before .before .before .before .before .before .before .before .starts .ensures) ∙ c .before .before .before .before .before .before .before .before .before .if1 .left in
+    let e2 = sym (c .before .before .before .before .before .before .before .starts2 .ensures)
+    ∙ c .before .before .before .before .before .before .if2 .left in
+    let e1 = sym (c .before .before .before .before .before .before .before .before .before .before .starts .ensures)
+    ∙ c .before .before .before .before .before .before .before .before .before .if1 .left in
     rw (e1, e2, e3, e4)
 
 returns-5 : tie.Need-returns-5
@@ -40,8 +43,10 @@ unfolding judged passes preview
 returns-5 c =
     let e5 = sym (c .before .starts5 .ensures) ∙ c .if5 .taken in
     let e4 = sym (c .before .before .before .before .starts4 .ensures) ∙ c .before .before .before .if4 .left in
-    let e3 = sym (c .before .before .before .before .before .before .before .starts3 .ensures) ∙ c .before .before .before .before .before .before .if3 .left in
-    let e2 = sym (c .before .before .before .before .before .before .before .before .before .before .starts2 .ensures) ∙ c .before .before .before .before .before .before .before .before .before .if2 .left in
+    let e3 = sym (c .before .before .before .before .before .before .before .starts3 .ensures)
+    ∙ c .before .before .before .before .before .before .if3 .left in
+    let e2 = sym (c .before .before .before .before .before .before .before .before .before .before .starts2 .ensures)
+    ∙ c .before .before .before .before .before .before .before .before .before .if2 .left in
     let e1 = sym (c .before .before .before .before .before .before .before .before .before .before .before .before .before .starts .ensures) ∙ c .before .before .before .before .before .before .before .before .before .before .before .before .if1 .left in
     rw (e1, e2, e3, e4, e5)
 
@@ -50,8 +55,10 @@ unfolding judged passes preview
 returns-6 c =
     let e6 = sym (c .before .starts6 .ensures) ∙ c .if6 .taken in
     let e5 = sym (c .before .before .before .before .starts5 .ensures) ∙ c .before .before .before .if5 .left in
-    let e4 = sym (c .before .before .before .before .before .before .before .starts4 .ensures) ∙ c .before .before .before .before .before .before .if4 .left in
-    let e3 = sym (c .before .before .before .before .before .before .before .before .before .before .starts3 .ensures) ∙ c .before .before .before .before .before .before .before .before .before .if3 .left in
+    let e4 = sym (c .before .before .before .before .before .before .before .starts4 .ensures)
+    ∙ c .before .before .before .before .before .before .if4 .left in
+    let e3 = sym (c .before .before .before .before .before .before .before .before .before .before .starts3 .ensures)
+    ∙ c .before .before .before .before .before .before .before .before .before .if3 .left in
     let e2 = sym (c .before .before .before .before .before .before .before .before .before .before .before .before .before .starts2 .ensures) ∙ c .before .before .before .before .before .before .before .before .before .before .before .before .if2 .left in
     let e1 = sym (c .before .before .before .before .before .before .before .before .before .before .before .before .before .before .before .before .starts .ensures) ∙ c .before .before .before .before .before .before .before .before .before .before .before .before .before .before .before .if1 .left in
     rw (e1, e2, e3, e4, e5, e6)
@@ -61,8 +68,10 @@ unfolding judged passes preview
 returns-7 c =
     let e7 = sym (c .before .equal .ensures) ∙ c .if7 .taken in
     let e6 = sym (c .before .before .before .before .starts6 .ensures) ∙ c .before .before .before .if6 .left in
-    let e5 = sym (c .before .before .before .before .before .before .before .starts5 .ensures) ∙ c .before .before .before .before .before .before .if5 .left in
-    let e4 = sym (c .before .before .before .before .before .before .before .before .before .before .starts4 .ensures) ∙ c .before .before .before .before .before .before .before .before .before .if4 .left in
+    let e5 = sym (c .before .before .before .before .before .before .before .starts5 .ensures)
+    ∙ c .before .before .before .before .before .before .if5 .left in
+    let e4 = sym (c .before .before .before .before .before .before .before .before .before .before .starts4 .ensures)
+    ∙ c .before .before .before .before .before .before .before .before .before .if4 .left in
     let e3 = sym (c .before .before .before .before .before .before .before .before .before .before .before .before .before .starts3 .ensures) ∙ c .before .before .before .before .before .before .before .before .before .before .before .before .if3 .left in
     let e2 = sym (c .before .before .before .before .before .before .before .before .before .before .before .before .before .before .before .before .starts2 .ensures) ∙ c .before .before .before .before .before .before .before .before .before .before .before .before .before .before .before .if2 .left in
     let e1 = sym (c .before .before .before .before .before .before .before .before .before .before .before .before .before .before .before .before .before .before .before .starts .ensures) ∙ c .before .before .before .before .before .before .before .before .before .before .before .before .before .before .before .before .before .before .if1 .left in
@@ -73,8 +82,10 @@ unfolding judged passes preview
 returns-8 c =
     let e7 = sym (c .before .equal .ensures) ∙ c .if7 .left in
     let e6 = sym (c .before .before .before .before .starts6 .ensures) ∙ c .before .before .before .if6 .left in
-    let e5 = sym (c .before .before .before .before .before .before .before .starts5 .ensures) ∙ c .before .before .before .before .before .before .if5 .left in
-    let e4 = sym (c .before .before .before .before .before .before .before .before .before .before .starts4 .ensures) ∙ c .before .before .before .before .before .before .before .before .before .if4 .left in
+    let e5 = sym (c .before .before .before .before .before .before .before .starts5 .ensures)
+    ∙ c .before .before .before .before .before .before .if5 .left in
+    let e4 = sym (c .before .before .before .before .before .before .before .before .before .before .starts4 .ensures)
+    ∙ c .before .before .before .before .before .before .before .before .before .if4 .left in
     let e3 = sym (c .before .before .before .before .before .before .before .before .before .before .before .before .before .starts3 .ensures) ∙ c .before .before .before .before .before .before .before .before .before .before .before .before .if3 .left in
     let e2 = sym (c .before .before .before .before .before .before .before .before .before .before .before .before .before .before .before .before .starts2 .ensures) ∙ c .before .before .before .before .before .before .before .before .before .before .before .before .before .before .before .if2 .left in
     let e1 = sym (c .before .before .before .before .before .before .before .before .before .before .before .before .before .before .before .before .before .before .before .starts .ensures) ∙ c .before .before .before .before .before .before .before .before .before .before .before .before .before .before .before .before .before .before .if1 .left in

@@ -34,7 +34,8 @@ returns-7 c = rw (c .match .keys7)
 returns-8 : tie.Need-returns-8
 returns-8 c =
     let r = c .match .rest in
-    numbered-past (c .before .args .n) (r .0 .0 .0 .0 .0 .0 .1) (r .0 .0 .0 .0 .0 .1) (r .0 .0 .0 .0 .1) (r .0 .0 .0 .1) (r .0 .0 .1) (r .0 .1) (r .1)
+    numbered-past (c .before .args .n) (r .0 .0 .0 .0 .0 .0 .1) (r .0 .0 .0 .0 .0 .1) (r .0 .0 .0 .0 .1) (r .0 .0 .0 .1)
+    (r .0 .0 .1) (r .0 .1) (r .1)
 
 pub domain-of-spec : {M : Type 1} → statement M
 domain-of-spec =

@@ -22,7 +22,8 @@ unfolding domainOf words wordIn
 returns-3 c =
     let e3 = sym (c .before .equal3 .ensures) ∙ c .if3 .taken in
     let e2 = sym (c .before .before .before .before .equal2 .ensures) ∙ c .before .before .before .if2 .left in
-    let e1 = sym (c .before .before .before .before .before .before .before .equal .ensures) ∙ c .before .before .before .before .before .before .if1 .left in
+    let e1 = sym (c .before .before .before .before .before .before .before .equal .ensures)
+    ∙ c .before .before .before .before .before .before .if1 .left in
     rw (e1, e2, e3)
 
 returns-4 : tie.Need-returns-4
@@ -30,8 +31,10 @@ unfolding domainOf words wordIn
 returns-4 c =
     let e4 = sym (c .before .equal4 .ensures) ∙ c .if4 .taken in
     let e3 = sym (c .before .before .before .before .equal3 .ensures) ∙ c .before .before .before .if3 .left in
-    let e2 = sym (c .before .before .before .before .before .before .before .equal2 .ensures) ∙ c .before .before .before .before .before .before .if2 .left in
-    let e1 = sym (c .before .before .before .before .before .before .before .before .before .before .equal .ensures) ∙ c .before .before .before .before .before .before .before .before .before .if1 .left in
+    let e2 = sym (c .before .before .before .before .before .before .before .equal2 .ensures)
+    ∙ c .before .before .before .before .before .before .if2 .left in
+    let e1 = sym (c .before .before .before .before .before .before .before .before .before .before .equal .ensures)
+    ∙ c .before .before .before .before .before .before .before .before .before .if1 .left in
     rw (e1, e2, e3, e4)
 
 returns-5 : tie.Need-returns-5
@@ -39,8 +42,10 @@ unfolding domainOf words wordIn
 returns-5 c =
     let e5 = sym (c .before .equal5 .ensures) ∙ c .if5 .taken in
     let e4 = sym (c .before .before .before .before .equal4 .ensures) ∙ c .before .before .before .if4 .left in
-    let e3 = sym (c .before .before .before .before .before .before .before .equal3 .ensures) ∙ c .before .before .before .before .before .before .if3 .left in
-    let e2 = sym (c .before .before .before .before .before .before .before .before .before .before .equal2 .ensures) ∙ c .before .before .before .before .before .before .before .before .before .if2 .left in
+    let e3 = sym (c .before .before .before .before .before .before .before .equal3 .ensures)
+    ∙ c .before .before .before .before .before .before .if3 .left in
+    let e2 = sym (c .before .before .before .before .before .before .before .before .before .before .equal2 .ensures)
+    ∙ c .before .before .before .before .before .before .before .before .before .if2 .left in
     let e1 = sym (c .before .before .before .before .before .before .before .before .before .before .before .before .before .equal .ensures) ∙ c .before .before .before .before .before .before .before .before .before .before .before .before .if1 .left in
     rw (e1, e2, e3, e4, e5)
 
@@ -49,8 +54,10 @@ unfolding domainOf words wordIn
 returns-6 c =
     let e6 = sym (c .before .equal6 .ensures) ∙ c .if6 .taken in
     let e5 = sym (c .before .before .before .before .equal5 .ensures) ∙ c .before .before .before .if5 .left in
-    let e4 = sym (c .before .before .before .before .before .before .before .equal4 .ensures) ∙ c .before .before .before .before .before .before .if4 .left in
-    let e3 = sym (c .before .before .before .before .before .before .before .before .before .before .equal3 .ensures) ∙ c .before .before .before .before .before .before .before .before .before .if3 .left in
+    let e4 = sym (c .before .before .before .before .before .before .before .equal4 .ensures)
+    ∙ c .before .before .before .before .before .before .if4 .left in
+    let e3 = sym (c .before .before .before .before .before .before .before .before .before .before .equal3 .ensures)
+    ∙ c .before .before .before .before .before .before .before .before .before .if3 .left in
     let e2 = sym (c .before .before .before .before .before .before .before .before .before .before .before .before .before .equal2 .ensures) ∙ c .before .before .before .before .before .before .before .before .before .before .before .before .if2 .left in
     let e1 = sym (c .before .before .before .before .before .before .before .before .before .before .before .before .before .before .before .before .equal .ensures) ∙ c .before .before .before .before .before .before .before .before .before .before .before .before .before .before .before .if1 .left in
     rw (e1, e2, e3, e4, e5, e6)
@@ -60,8 +67,10 @@ unfolding domainOf words wordIn
 returns-7 c =
     let e7 = sym (c .before .equal7 .ensures) ∙ c .if7 .taken in
     let e6 = sym (c .before .before .before .before .equal6 .ensures) ∙ c .before .before .before .if6 .left in
-    let e5 = sym (c .before .before .before .before .before .before .before .equal5 .ensures) ∙ c .before .before .before .before .before .before .if5 .left in
-    let e4 = sym (c .before .before .before .before .before .before .before .before .before .before .equal4 .ensures) ∙ c .before .before .before .before .before .before .before .before .before .if4 .left in
+    let e5 = sym (c .before .before .before .before .before .before .before .equal5 .ensures)
+    ∙ c .before .before .before .before .before .before .if5 .left in
+    let e4 = sym (c .before .before .before .before .before .before .before .before .before .before .equal4 .ensures)
+    ∙ c .before .before .before .before .before .before .before .before .before .if4 .left in
     let e3 = sym (c .before .before .before .before .before .before .before .before .before .before .before .before .before .equal3 .ensures) ∙ c .before .before .before .before .before .before .before .before .before .before .before .before .if3 .left in
     let e2 = sym (c .before .before .before .before .before .before .before .before .before .before .before .before .before .before .before .before .equal2 .ensures) ∙ c .before .before .before .before .before .before .before .before .before .before .before .before .before .before .before .if2 .left in
     let e1 = sym (c .before .before .before .before .before .before .before .before .before .before .before .before .before .before .before .before .before .before .before .equal .ensures) ∙ c .before .before .before .before .before .before .before .before .before .before .before .before .before .before .before .before .before .before .if1 .left in
@@ -72,8 +81,10 @@ unfolding domainOf words wordIn
 returns-8 c =
     let e8 = sym (c .before .equal8 .ensures) ∙ c .if8 .taken in
     let e7 = sym (c .before .before .before .before .equal7 .ensures) ∙ c .before .before .before .if7 .left in
-    let e6 = sym (c .before .before .before .before .before .before .before .equal6 .ensures) ∙ c .before .before .before .before .before .before .if6 .left in
-    let e5 = sym (c .before .before .before .before .before .before .before .before .before .before .equal5 .ensures) ∙ c .before .before .before .before .before .before .before .before .before .if5 .left in
+    let e6 = sym (c .before .before .before .before .before .before .before .equal6 .ensures)
+    ∙ c .before .before .before .before .before .before .if6 .left in
+    let e5 = sym (c .before .before .before .before .before .before .before .before .before .before .equal5 .ensures)
+    ∙ c .before .before .before .before .before .before .before .before .before .if5 .left in
     let e4 = sym (c .before .before .before .before .before .before .before .before .before .before .before .before .before .equal4 .ensures) ∙ c .before .before .before .before .before .before .before .before .before .before .before .before .if4 .left in
     let e3 = sym (c .before .before .before .before .before .before .before .before .before .before .before .before .before .before .before .before .equal3 .ensures) ∙ c .before .before .before .before .before .before .before .before .before .before .before .before .before .before .before .if3 .left in
     let e2 = sym (c .before .before .before .before .before .before .before .before .before .before .before .before .before .before .before .before .before .before .before .equal2 .ensures) ∙ c .before .before .before .before .before .before .before .before .before .before .before .before .before .before .before .before .before .before .if2 .left in
@@ -85,8 +96,10 @@ unfolding domainOf words wordIn
 returns-9 c =
     let e9 = sym (c .before .equal9 .ensures) ∙ c .if9 .taken in
     let e8 = sym (c .before .before .before .before .equal8 .ensures) ∙ c .before .before .before .if8 .left in
-    let e7 = sym (c .before .before .before .before .before .before .before .equal7 .ensures) ∙ c .before .before .before .before .before .before .if7 .left in
-    let e6 = sym (c .before .before .before .before .before .before .before .before .before .before .equal6 .ensures) ∙ c .before .before .before .before .before .before .before .before .before .if6 .left in
+    let e7 = sym (c .before .before .before .before .before .before .before .equal7 .ensures)
+    ∙ c .before .before .before .before .before .before .if7 .left in
+    let e6 = sym (c .before .before .before .before .before .before .before .before .before .before .equal6 .ensures)
+    ∙ c .before .before .before .before .before .before .before .before .before .if6 .left in
     let e5 = sym (c .before .before .before .before .before .before .before .before .before .before .before .before .before .equal5 .ensures) ∙ c .before .before .before .before .before .before .before .before .before .before .before .before .if5 .left in
     let e4 = sym (c .before .before .before .before .before .before .before .before .before .before .before .before .before .before .before .before .equal4 .ensures) ∙ c .before .before .before .before .before .before .before .before .before .before .before .before .before .before .before .if4 .left in
     let e3 = sym (c .before .before .before .before .before .before .before .before .before .before .before .before .before .before .before .before .before .before .before .equal3 .ensures) ∙ c .before .before .before .before .before .before .before .before .before .before .before .before .before .before .before .before .before .before .if3 .left in
@@ -99,8 +112,10 @@ unfolding domainOf words wordIn
 returns-10 c =
     let e9 = sym (c .before .equal9 .ensures) ∙ c .if9 .left in
     let e8 = sym (c .before .before .before .before .equal8 .ensures) ∙ c .before .before .before .if8 .left in
-    let e7 = sym (c .before .before .before .before .before .before .before .equal7 .ensures) ∙ c .before .before .before .before .before .before .if7 .left in
-    let e6 = sym (c .before .before .before .before .before .before .before .before .before .before .equal6 .ensures) ∙ c .before .before .before .before .before .before .before .before .before .if6 .left in
+    let e7 = sym (c .before .before .before .before .before .before .before .equal7 .ensures)
+    ∙ c .before .before .before .before .before .before .if7 .left in
+    let e6 = sym (c .before .before .before .before .before .before .before .before .before .before .equal6 .ensures)
+    ∙ c .before .before .before .before .before .before .before .before .before .if6 .left in
     let e5 = sym (c .before .before .before .before .before .before .before .before .before .before .before .before .before .equal5 .ensures) ∙ c .before .before .before .before .before .before .before .before .before .before .before .before .if5 .left in
     let e4 = sym (c .before .before .before .before .before .before .before .before .before .before .before .before .before .before .before .before .equal4 .ensures) ∙ c .before .before .before .before .before .before .before .before .before .before .before .before .before .before .before .if4 .left in
     let e3 = sym (c .before .before .before .before .before .before .before .before .before .before .before .before .before .before .before .before .before .before .before .equal3 .ensures) ∙ c .before .before .before .before .before .before .before .before .before .before .before .before .before .before .before .before .before .before .if3 .left in

@@ -32,8 +32,12 @@ loop-again c =
     let i = l .loop .i in
     let b = v .is-violation .result in
     let q : c .with-bit .result ≡ l .loop .set + one b * 2 ^ i =
-    c .with-bit .ensures ∙ ap (λ n. l .loop .set + one b * 2 ^ n) (l .loop .inv .1) in
-    (omega arith, omega arith, set-next (map violates vs) i (l .loop .set) (c .with-bit .result) b (v .is-violation .ensures ∙ flag-at vs i) (l .loop .inv .2) q)
+    c .with-bit .ensures ∙ ap (λ n. l .loop .set + one b * 2 ^ n) (l .loop .inv .1) in (
+      omega arith,
+      omega arith,
+      set-next (map violates vs) i (l .loop .set) (c .with-bit .result) b
+          (v .is-violation .ensures ∙ flag-at vs i) (l .loop .inv .2) q,
+    )
 
 returns : tie.Need-returns Inv-loop μ-loop
 returns c =

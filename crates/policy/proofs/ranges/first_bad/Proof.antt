@@ -22,7 +22,11 @@ returns c =
     let l = f .before .before .before in
     let a = l .before .args in
     let i = l .loop .i in
-    omega (arith, bad-here (a .n) (eight (a .t1)) i (slotOf (a .t1) i) (eight-next (a .t1) i (omega arith)) (sym (f .fits2 .ensures) ∙ not-true (f .fits2 .result) (c .if1 .taken)))
+    omega (
+      arith,
+      bad-here (a .n) (eight (a .t1)) i (slotOf (a .t1) i) (eight-next (a .t1) i (omega arith))
+          (sym (f .fits2 .ensures) ∙ not-true (f .fits2 .result) (c .if1 .taken)),
+    )
 
 loop-again : tie.Need-loop-again Inv-loop μ-loop
 loop-again c =
@@ -30,7 +34,11 @@ loop-again c =
     let l = f .before .before .before in
     let a = l .before .args in
     let i = l .loop .i in
-    omega (arith, bad-on (a .n) (eight (a .t1)) i (slotOf (a .t1) i) (eight-next (a .t1) i (omega arith)) (sym (f .fits2 .ensures) ∙ not-false (f .fits2 .result) (c .if1 .left)))
+    omega (
+      arith,
+      bad-on (a .n) (eight (a .t1)) i (slotOf (a .t1) i) (eight-next (a .t1) i (omega arith))
+          (sym (f .fits2 .ensures) ∙ not-false (f .fits2 .result) (c .if1 .left)),
+    )
 
 returns-2 : tie.Need-returns-2 Inv-loop μ-loop
 returns-2 c =

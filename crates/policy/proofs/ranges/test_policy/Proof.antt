@@ -8,7 +8,8 @@ returns c =
     let b = c .before in
     let t = b .before .before .before in
     let a = t .before .before .args in
-    test-range (a .s .now) (a .p) (t .test-text .ensures) (b .before .enum-told .given .1) (b .first-bad .result) (b .first-bad .ensures) (c .if1 .taken)
+    test-range (a .s .now) (a .p) (t .test-text .ensures) (b .before .enum-told .given .1) (b .first-bad .result)
+    (b .first-bad .ensures) (c .if1 .taken)
 
 returns-2 : tie.Need-returns-2
 returns-2 c =
@@ -22,7 +23,8 @@ returns-3 c =
     let b = c .before in
     let t = b .before .before .before in
     let a = t .before .before .args in
-    test-good (a .s .now) (a .p) (t .test-text .ensures) (b .before .enum-told .given .1) (b .first-bad .result) (b .first-bad .ensures) (c .if1 .left)
+    test-good (a .s .now) (a .p) (t .test-text .ensures) (b .before .enum-told .given .1) (b .first-bad .result)
+    (b .first-bad .ensures) (c .if1 .left)
 
 pub test-policy-spec : {M : Type 1} → statement M
 test-policy-spec =

@@ -36,7 +36,8 @@ returns c =
     let q = c .before .before in
     let t = q .before .before in
     let a = t .before .before .args in
-    called-is (a .s .now) (a .a) (a .e) (t .trimmed-at .result .from) (t .trimmed-at .result .past) (q .quotes-of .result) (c .unquoted-of .result) (t .trimmed-at .ensures) (q .quotes-of .ensures) (c .unquoted-of .ensures)
+    called-is (a .s .now) (a .a) (a .e) (t .trimmed-at .result .from) (t .trimmed-at .result .past) (q .quotes-of .result)
+    (c .unquoted-of .result) (t .trimmed-at .ensures) (q .quotes-of .ensures) (c .unquoted-of .ensures)
 
 pub called-at-spec : {M : Type 1} → statement M
 called-at-spec =

@@ -10,7 +10,9 @@ returns : tie.Need-returns
 returns c =
     let t = c .before .before in
     let a = t .before .before .args in
-    c .from-slug .ensures ∙ ap domainOf (sym (trim-is-bytes (a .s .now) (a .a) (a .e) (t .trimmed-at .result .from) (t .trimmed-at .result .past) (t .trimmed-at .ensures)))
+    c .from-slug .ensures
+    ∙ ap domainOf (sym (trim-is-bytes (a .s .now) (a .a) (a .e) (t .trimmed-at .result .from) (t .trimmed-at .result .past)
+    (t .trimmed-at .ensures)))
 
 pub domain-at-spec : {M : Type 1} → statement M
 domain-at-spec =

@@ -29,7 +29,12 @@ worded-at-requires c κs =
     let s = a .s .now in
     let x = t .trimmed-at .result .from in
     let y = t .trimmed-at .result .past in
-    omega (arith, t .trimmed-at .ensures .high, hash-fits s (a .a) (a .e) (f .find .result) x y (omega arith) (f .find .ensures) (t .trimmed-at .ensures))
+    omega (
+      arith,
+      t .trimmed-at .ensures .high,
+      hash-fits s (a .a) (a .e) (f .find .result) x y (omega arith) (f .find .ensures)
+          (t .trimmed-at .ensures),
+    )
 
 returns : tie.Need-returns
 returns c =
@@ -39,7 +44,9 @@ returns c =
     let s = a .s .now in
     let x = t .trimmed-at .result .from in
     let y = t .trimmed-at .result .past in
-    c .worded-at .ensures ∙ sym (ap ranged (directive-some s (a .a) (a .e) (f .find .result) x y (omega arith) (f .find .ensures) (t .trimmed-at .ensures) (omega arith) (omega arith)))
+    c .worded-at .ensures
+    ∙ sym (ap ranged (directive-some s (a .a) (a .e) (f .find .result) x y (omega arith) (f .find .ensures)
+    (t .trimmed-at .ensures) (omega arith) (omega arith)))
 
 returns-2 : tie.Need-returns-2
 returns-2 c =
@@ -49,7 +56,8 @@ returns-2 c =
     let s = a .s .now in
     let x = t .trimmed-at .result .from in
     let y = t .trimmed-at .result .past in
-    sym (ap ranged (directive-none s (a .a) (a .e) (f .find .result) x y (omega arith) (f .find .ensures) (t .trimmed-at .ensures) (omega arith) (omega arith)))
+    sym (ap ranged (directive-none s (a .a) (a .e) (f .find .result) x y (omega arith) (f .find .ensures) (t .trimmed-at .ensures)
+    (omega arith) (omega arith)))
 
 pub heard-at-spec : {M : Type 1} → statement M
 heard-at-spec =

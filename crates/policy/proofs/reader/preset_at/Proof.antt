@@ -9,19 +9,24 @@ returns : tie.Need-returns
 returns c =
     let t = c .before .before .before .before in
     let a = t .before .before .args in
-    preset-allow (a .s .now) (a .a) (a .e) (t .trimmed-at .result .from) (t .trimmed-at .result .past) (t .trimmed-at .ensures) (sym (c .before .equal .ensures) ∙ c .if1 .taken)
+    preset-allow (a .s .now) (a .a) (a .e) (t .trimmed-at .result .from) (t .trimmed-at .result .past) (t .trimmed-at .ensures)
+    (sym (c .before .equal .ensures) ∙ c .if1 .taken)
 
 returns-2 : tie.Need-returns-2
 returns-2 c =
     let t = c .before .before .before .before .before .before .before .before in
     let a = t .before .before .args in
-    preset-deny (a .s .now) (a .a) (a .e) (t .trimmed-at .result .from) (t .trimmed-at .result .past) (t .trimmed-at .ensures) (sym (c .before .before .before .before .before .equal .ensures) ∙ c .before .before .before .before .if1 .left) (sym (c .before .equal2 .ensures) ∙ c .if2 .taken)
+    preset-deny (a .s .now) (a .a) (a .e) (t .trimmed-at .result .from) (t .trimmed-at .result .past) (t .trimmed-at .ensures)
+    (sym (c .before .before .before .before .before .equal .ensures) ∙ c .before .before .before .before .if1 .left)
+    (sym (c .before .equal2 .ensures) ∙ c .if2 .taken)
 
 returns-3 : tie.Need-returns-3
 returns-3 c =
     let t = c .before .before .before .before .before .before .before .before in
     let a = t .before .before .args in
-    preset-bad (a .s .now) (a .a) (a .e) (t .trimmed-at .result .from) (t .trimmed-at .result .past) (t .trimmed-at .ensures) (sym (c .before .before .before .before .before .equal .ensures) ∙ c .before .before .before .before .if1 .left) (sym (c .before .equal2 .ensures) ∙ c .if2 .left)
+    preset-bad (a .s .now) (a .a) (a .e) (t .trimmed-at .result .from) (t .trimmed-at .result .past) (t .trimmed-at .ensures)
+    (sym (c .before .before .before .before .before .equal .ensures) ∙ c .before .before .before .before .if1 .left)
+    (sym (c .before .equal2 .ensures) ∙ c .if2 .left)
 
 pub preset-at-spec : {M : Type 1} → statement M
 preset-at-spec =

@@ -29,14 +29,16 @@ preset-at-requires c κs =
 returns-2 : tie.Need-returns-2
 returns-2 c =
     let a = c .before .before .before .before .before .before .before .before .before .before .args in
-    let e1 = sym (c .before .before .before .before .before .before .starts .ensures) ∙ c .before .before .before .before .before .if1 .left in
+    let e1 = sym (c .before .before .before .before .before .before .starts .ensures)
+    ∙ c .before .before .before .before .before .if1 .left in
     let e2 = sym (c .before .before .starts2 .ensures) ∙ c .before .if2 .taken in
     c .preset-at .ensures ∙ sym (worded-default (a .s .now) (a .a) (a .e) e1 e2)
 
 ruled-at-requires : tie.Need-ruled-at-requires
 ruled-at-requires c κs =
     let a = c .before .before .before .before .before .before .before .before .before .before .before .before .before .args in
-    let e1 = sym (c .before .before .before .before .before .before .before .before .before .starts .ensures) ∙ c .before .before .before .before .before .before .before .before .if1 .left in
+    let e1 = sym (c .before .before .before .before .before .before .before .before .before .starts .ensures)
+    ∙ c .before .before .before .before .before .before .before .before .if1 .left in
     let e2 = sym (c .before .before .before .before .before .starts2 .ensures) ∙ c .before .before .before .before .if2 .left in
     let e3 = sym (c .before .starts3 .ensures) ∙ c .if3 .taken in
     omega (arith, word-fits (a .s .now) (a .a) (a .e) allowW (omega arith) e3)
@@ -44,8 +46,10 @@ ruled-at-requires c κs =
 returns-3 : tie.Need-returns-3
 returns-3 c =
     let a = c .before .before .before .before .before .before .before .before .before .before .before .before .before .before .args in
-    let e1 = sym (c .before .before .before .before .before .before .before .before .before .before .starts .ensures) ∙ c .before .before .before .before .before .before .before .before .before .if1 .left in
-    let e2 = sym (c .before .before .before .before .before .before .starts2 .ensures) ∙ c .before .before .before .before .before .if2 .left in
+    let e1 = sym (c .before .before .before .before .before .before .before .before .before .before .starts .ensures)
+    ∙ c .before .before .before .before .before .before .before .before .before .if1 .left in
+    let e2 = sym (c .before .before .before .before .before .before .starts2 .ensures)
+    ∙ c .before .before .before .before .before .if2 .left in
     let e3 = sym (c .before .before .starts3 .ensures) ∙ c .before .if3 .taken in
     c .ruled-at .ensures ∙ sym (worded-allow (a .s .now) (a .a) (a .e) e1 e2 e3)
 
@@ -53,7 +57,8 @@ ruled-at-requires-2 : tie.Need-ruled-at-requires-2
 ruled-at-requires-2 c κs =
     let a = c .before .before .before .before .before .before .before .before .before .before .before .before .before .before .before .before .before .args in
     let e1 = sym (c .before .before .before .before .before .before .before .before .before .before .before .before .before .starts .ensures) ∙ c .before .before .before .before .before .before .before .before .before .before .before .before .if1 .left in
-    let e2 = sym (c .before .before .before .before .before .before .before .before .before .starts2 .ensures) ∙ c .before .before .before .before .before .before .before .before .if2 .left in
+    let e2 = sym (c .before .before .before .before .before .before .before .before .before .starts2 .ensures)
+    ∙ c .before .before .before .before .before .before .before .before .if2 .left in
     let e3 = sym (c .before .before .before .before .before .starts3 .ensures) ∙ c .before .before .before .before .if3 .left in
     let e4 = sym (c .before .starts4 .ensures) ∙ c .if4 .taken in
     omega (arith, word-fits (a .s .now) (a .a) (a .e) denyW (omega arith) e4)
@@ -62,8 +67,10 @@ returns-4 : tie.Need-returns-4
 returns-4 c =
     let a = c .before .before .before .before .before .before .before .before .before .before .before .before .before .before .before .before .before .before .args in
     let e1 = sym (c .before .before .before .before .before .before .before .before .before .before .before .before .before .before .starts .ensures) ∙ c .before .before .before .before .before .before .before .before .before .before .before .before .before .if1 .left in
-    let e2 = sym (c .before .before .before .before .before .before .before .before .before .before .starts2 .ensures) ∙ c .before .before .before .before .before .before .before .before .before .if2 .left in
-    let e3 = sym (c .before .before .before .before .before .before .starts3 .ensures) ∙ c .before .before .before .before .before .if3 .left in
+    let e2 = sym (c .before .before .before .before .before .before .before .before .before .before .starts2 .ensures)
+    ∙ c .before .before .before .before .before .before .before .before .before .if2 .left in
+    let e3 = sym (c .before .before .before .before .before .before .starts3 .ensures)
+    ∙ c .before .before .before .before .before .if3 .left in
     let e4 = sym (c .before .before .starts4 .ensures) ∙ c .before .if4 .taken in
     c .ruled-at2 .ensures ∙ sym (worded-deny (a .s .now) (a .a) (a .e) e1 e2 e3 e4)
 
@@ -71,7 +78,8 @@ returns-5 : tie.Need-returns-5
 returns-5 c =
     let a = c .before .before .before .before .before .before .before .before .before .before .before .before .before .before .before .before .before .args in
     let e1 = sym (c .before .before .before .before .before .before .before .before .before .before .before .before .before .starts .ensures) ∙ c .before .before .before .before .before .before .before .before .before .before .before .before .if1 .left in
-    let e2 = sym (c .before .before .before .before .before .before .before .before .before .starts2 .ensures) ∙ c .before .before .before .before .before .before .before .before .if2 .left in
+    let e2 = sym (c .before .before .before .before .before .before .before .before .before .starts2 .ensures)
+    ∙ c .before .before .before .before .before .before .before .before .if2 .left in
     let e3 = sym (c .before .before .before .before .before .starts3 .ensures) ∙ c .before .before .before .before .if3 .left in
     let e4 = sym (c .before .starts4 .ensures) ∙ c .if4 .left in
     sym (worded-wrong (a .s .now) (a .a) (a .e) e1 e2 e3 e4)

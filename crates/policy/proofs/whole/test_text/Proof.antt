@@ -16,7 +16,12 @@ unfolding wholeText
 returns-2 c =
     let v = c .before in
     let s = v .before .before .before .args .s .now in
-    rw (v .valid-up-to .ensures, le-ltb 65536 (length s) (v .before .if1 .left), lt-ltb (upTo s) (length s) (omega (arith, v .valid-up-to .ensures)))
+    rw (
+      v .valid-up-to .ensures,
+      le-ltb 65536 (length s) (v .before .if1 .left),
+      lt-ltb (upTo s) (length s)
+          (omega (arith, v .valid-up-to .ensures)),
+    )
 
 returns-3 : tie.Need-returns-3
 unfolding wholeText
