@@ -7,5 +7,6 @@ pub mod OfLeb
 pub mod OfImports
 pub mod OfWasm
 pub mod OfKinds
+pub mod OfPolicy
 pub mod Examples
 pub mod Rejected

@@ -1,0 +1,157 @@
+-- What a line says, from what the code's calls found. Assumes nothing.
+use mathlib.Core.Path.{_≡_, sym, ap, _∙_}
+use mathlib.Core.Bool.{Bool, true, false}
+use mathlib.Core.List.{List}
+use Prim.Native.Nat.{ℕ, _+_, _-_, _≤_, _<_}
+use native.Mathlib.Omega.{arith}
+use lib.Dec.{eqb, ltb}
+use lib.ListN.{length}
+use lib.Seq.{length-take-le}
+use borrow.Author.Tests.{eq-eqb, ne-eqb, lt-ltb, le-ltb}
+use Rattle.refusal.specs.Pick.{pick}
+use Rattle.text.specs.Find.{indexOf, begins, same}
+use Rattle.text.proofs.FindLaws.{index-le}
+use Rattle.policy.specs.Domain.{Perhaps, nothing, just, domainOf}
+use Rattle.policy.specs.Piece.{Piece, first, beyond, until, past, trim, closed, bare, quotes, unquoted}
+use Rattle.policy.specs.Directive.{policyW, defaultW, allowW, denyW, allow, deny, blank, called, defaulted, plainBy, listedBy}
+use Rattle.policy.specs.Directive.{ruled, worded, spoken, core, directive}
+use Rattle.policy.specs.Heard.{bytesOf, piece, ranged, TrimTo}
+use Rattle.policy.proofs.Pieces.{unquoted-le, begins-le, piece-long, first-piece, beyond-piece}
+use Rattle.policy.specs.declared.reader.Heard.the-variants as h
+
+module _ (s : List ℕ) (a e : ℕ) where
+  pub trim-is-bytes : (f g : ℕ) → TrimTo s a e f g → trim (piece s a e) .bytes ≡ bytesOf s f g
+  trim-is-bytes f g t = ap (λ (p : Piece). p .bytes) (t .same)
+
+  closed-called : (p : Piece) → ranged (called (closed p)) ≡ h.Called (p .at) (unquoted (p .bytes))
+  closed-called p = rw (length-take-le (unquoted (p .bytes)) (p .bytes) (unquoted-le (p .bytes)))
+
+  pub called-is : (f g m n : ℕ) → TrimTo s a e f g → m ≡ quotes (bytesOf s f g) → n ≡ unquoted (bytesOf s (f + m) g)
+      → h.Called (f + m) n ≡ ranged (called (bare (trim (piece s a e))))
+  unfolding bare
+  called-is f g m n t p q =
+      let x : beyond (quotes (bytesOf s f g)) (piece s f g) ≡ piece s (f + m) g = rw p (beyond-piece s f g (quotes (bytesOf s f g))) in
+      let y : ranged (called (closed (beyond (quotes (trim (piece s a e) .bytes)) (trim (piece s a e))))) ≡ ranged
+      (called (closed (beyond (quotes (bytesOf s f g)) (piece s f g)))) =
+      ap (λ (p : Piece). ranged (called (closed (beyond (quotes (p .bytes)) p)))) (t .same) in
+      sym (y ∙ ap (λ (p : Piece). ranged (called (closed p))) x ∙ closed-called (piece s (f + m) g)
+      ∙ ap (λ (k : ℕ). h.Called (f + m) k) (sym q))
+
+  -- ---- a default
+  module _ (f g : ℕ) (t : TrimTo s a e f g) where
+    pub preset-allow : same allow (bytesOf s f g) ≡ true → h.Preset true ≡ ranged (defaulted (trim (piece s a e) .bytes))
+    unfolding defaulted
+    preset-allow p = rw (trim-is-bytes f g t, p)
+
+    pub preset-deny : same allow (bytesOf s f g) ≡ false → same deny (bytesOf s f g) ≡ true
+        → h.Preset false ≡ ranged (defaulted (trim (piece s a e) .bytes))
+    unfolding defaulted
+    preset-deny p q = rw (trim-is-bytes f g t, p, q)
+
+    pub preset-bad : same allow (bytesOf s f g) ≡ false → same deny (bytesOf s f g) ≡ false
+        → h.Wrong 7 ≡ ranged (defaulted (trim (piece s a e) .bytes))
+    unfolding defaulted
+    preset-bad p q = rw (trim-is-bytes f g t, p, q)
+
+  -- ---- a rule
+  module _ (i : ℕ) (k : a ≤ e) (l : e ≤ length s) (q : i ≡ indexOf 58 (bytesOf s a e)) where
+    pub ruled-far : (t : Bool) → a + i < e → ruled t (piece s a e) ≡ listedBy t (domainOf (trim (piece s a (a + i)) .bytes))
+        (piece s (a + i + 1) e)
+    unfolding ruled
+    ruled-far t b =
+        let n = piece-long s a e l in
+        let u : until 58 (piece s a e) ≡ piece s a (a + i) = ap (λ (m : ℕ). first m (piece s a e)) (sym q)
+        ∙ first-piece s a e i (omega arith) in
+        let z : a + (i + 1) ≡ a + i + 1 = omega arith in
+        let v : past 58 (piece s a e) ≡ piece s (a + i + 1) e = ap (λ (m : ℕ). beyond (m + 1) (piece s a e)) (sym q)
+        ∙ beyond-piece s a e (i + 1) ∙ ap (λ (m : ℕ). piece s m e) z in
+        let c : ltb (indexOf 58 (bytesOf s a e)) (length (bytesOf s a e)) ≡ true =
+        lt-ltb (indexOf 58 (bytesOf s a e)) (length (bytesOf s a e)) (omega arith) in
+        ap (λ (x : Bool). pick x (listedBy t (domainOf (trim (until 58 (piece s a e)) .bytes)) (past 58 (piece s a e)))
+        (plainBy t (domainOf (trim (piece s a e) .bytes)))) c
+        ∙ ap (λ (p : Piece). listedBy t (domainOf (trim p .bytes)) (past 58 (piece s a e))) u
+        ∙ ap (λ (p : Piece). listedBy t (domainOf (trim (piece s a (a + i)) .bytes)) p) v
+
+    pub ruled-near : (t : Bool) → e ≤ a + i → ruled t (piece s a e) ≡ plainBy t (domainOf (trim (piece s a e) .bytes))
+    unfolding ruled
+    ruled-near t b =
+        let n = piece-long s a e l in
+        let c : ltb (indexOf 58 (bytesOf s a e)) (length (bytesOf s a e)) ≡ false =
+        le-ltb (indexOf 58 (bytesOf s a e)) (length (bytesOf s a e)) (omega arith) in
+        ap (λ (x : Bool). pick x (listedBy t (domainOf (trim (until 58 (piece s a e)) .bytes)) (past 58 (piece s a e)))
+        (plainBy t (domainOf (trim (piece s a e) .bytes)))) c
+
+  pub listed-wrong : (t : Bool) (d : Perhaps) (p : Piece) → d ≡ nothing → h.Wrong 8 ≡ ranged (listedBy t d p)
+  unfolding listedBy
+  listed-wrong t d p q = rw q
+
+  pub listed-right : (t : Bool) (d : Perhaps) (n : ℕ) (b : ℕ) → e ≤ length s → d ≡ just n
+      → h.Listed t n b (e - b) ≡ ranged (listedBy t d (piece s b e))
+  unfolding listedBy
+  listed-right t d n b l q = rw (q, piece-long s b e l)
+
+  pub plain-wrong : (t : Bool) (d : Perhaps) → d ≡ nothing → h.Wrong 8 ≡ ranged (plainBy t d)
+  unfolding plainBy
+  plain-wrong t d q = rw q
+
+  pub plain-right : (t : Bool) (d : Perhaps) (n : ℕ) → d ≡ just n → h.Plain t n ≡ ranged (plainBy t d)
+  unfolding plainBy
+  plain-right t d n q = rw q
+
+  -- ---- the words
+  pub word-fits : (w : List ℕ) → e ≤ length s → begins w (bytesOf s a e) ≡ true → length w ≤ e - a
+  word-fits w l q = omega (arith, begins-le w (bytesOf s a e) q, piece-long s a e l)
+
+  module _ (p : begins policyW (bytesOf s a e) ≡ false) where
+    module _ (q : begins defaultW (bytesOf s a e) ≡ false) where
+      pub worded-allow : begins allowW (bytesOf s a e) ≡ true → ranged (worded (piece s a e)) ≡ ranged (ruled true (piece s (a + 6) e))
+      unfolding worded
+      worded-allow r = rw (p, q, r) (ap (λ (x : Piece). ranged (ruled true x)) (beyond-piece s a e 6))
+
+      pub worded-deny : begins allowW (bytesOf s a e) ≡ false → begins denyW (bytesOf s a e) ≡ true
+          → ranged (worded (piece s a e)) ≡ ranged (ruled false (piece s (a + 5) e))
+      unfolding worded
+      worded-deny r o = rw (p, q, r, o) (ap (λ (x : Piece). ranged (ruled false x)) (beyond-piece s a e 5))
+
+      pub worded-wrong : begins allowW (bytesOf s a e) ≡ false → begins denyW (bytesOf s a e) ≡ false
+          → ranged (worded (piece s a e)) ≡ h.Wrong 6
+      unfolding worded
+      worded-wrong r o = rw (p, q, r, o)
+
+    pub worded-default : begins defaultW (bytesOf s a e) ≡ true
+        → ranged (worded (piece s a e)) ≡ ranged (defaulted (trim (piece s (a + 8) e) .bytes))
+    unfolding worded
+    worded-default q = rw (p, q) (ap (λ (x : Piece). ranged (defaulted (trim x .bytes))) (beyond-piece s a e 8))
+
+  pub worded-name : begins policyW (bytesOf s a e) ≡ true → ranged (worded (piece s a e)) ≡ ranged
+      (called (bare (trim (piece s (a + 7) e))))
+  unfolding worded
+  worded-name p = rw p (ap (λ (x : Piece). ranged (called (bare (trim x)))) (beyond-piece s a e 7))
+
+  -- ---- the line
+  module _ (i f g : ℕ) (l : e ≤ length s) (q : i ≡ indexOf 35 (bytesOf s a e)) (t : TrimTo s a (a + i) f g) where
+    core-is : core (piece s a e) ≡ piece s f g
+    unfolding core
+    core-is =
+        let n = piece-long s a e l in
+        let b = index-le 35 (bytesOf s a e) in
+        let u : until 35 (piece s a e) ≡ piece s a (a + i) = ap (λ (m : ℕ). first m (piece s a e)) (sym q)
+        ∙ first-piece s a e i (omega arith) in
+        ap trim u ∙ t .same
+
+    pub hash-fits : i ≤ e - a
+    hash-fits = omega (arith, q, index-le 35 (bytesOf s a e), piece-long s a e l)
+
+    pub directive-some : a ≤ e → f < g → directive (piece s a e) ≡ worded (piece s f g)
+    unfolding directive spoken
+    directive-some j k =
+        let n = piece-long s f g (omega (arith, t .high, hash-fits)) in
+        let c : eqb (length (bytesOf s f g)) 0 ≡ false = ne-eqb (length (bytesOf s f g)) 0 (λ z. omega arith) in
+        ap spoken core-is ∙ rw c
+
+    pub directive-none : a ≤ e → g ≤ f → directive (piece s a e) ≡ blank
+    unfolding directive spoken
+    directive-none j k =
+        let n = piece-long s f g (omega (arith, t .high, hash-fits)) in
+        let c : eqb (length (bytesOf s f g)) 0 ≡ true = eq-eqb (length (bytesOf s f g)) 0 (omega arith) in
+        ap spoken core-is ∙ rw c

@@ -1,0 +1,85 @@
+-- `head_of` meets its contract. Assumes nothing.
+use mathlib.Core.Path.{sym, _∙_}
+use borrow.Author.Needs.{needs}
+use Rattle.policy.specs.Classify.{judged, passes, heads}
+use Rattle.policy.proofs.classify.head_of.Statement.{statement}
+use Rattle.policy.proofs.classify.head_of.Tie as tie
+
+returns : tie.Need-returns
+unfolding judged passes heads
+returns c =
+    let e1 = sym (c .before .equal .ensures) ∙ c .if1 .taken in
+    rw (e1)
+
+returns-2 : tie.Need-returns-2
+unfolding judged passes heads
+returns-2 c =
+    let e2 = sym (c .before .equal2 .ensures) ∙ c .if2 .taken in
+    let e1 = sym (c .before .before .before .before .equal .ensures) ∙ c .before .before .before .if1 .left in
+    rw (e1, e2)
+
+returns-3 : tie.Need-returns-3
+unfolding judged passes heads
+returns-3 c =
+    let e3 = sym (c .before .equal3 .ensures) ∙ c .if3 .taken in
+    let e2 = sym (c .before .before .before .before .equal2 .ensures) ∙ c .before .before .before .if2 .left in
+    let e1 = sym (c .before .before .before .before .before .before .before .equal .ensures)
+    ∙ c .before .before .before .before .before .before .if1 .left in
+    rw (e1, e2, e3)
+
+returns-4 : tie.Need-returns-4
+unfolding judged passes heads
+returns-4 c =
+    let e4 = sym (c .before .equal4 .ensures) ∙ c .if4 .taken in
+    let e3 = sym (c .before .before .before .before .equal3 .ensures) ∙ c .before .before .before .if3 .left in
+    let e2 = sym (c .before .before .before .before .before .before .before .equal2 .ensures)
+    ∙ c .before .before .before .before .before .before .if2 .left in
+    let e1 = sym (c .before .before .before .before .before .before .before .before .before .before .equal .ensures)
+    ∙ c .before .before .before .before .before .before .before .before .before .if1 .left in
+    rw (e1, e2, e3, e4)
+
+returns-5 : tie.Need-returns-5
+unfolding judged passes heads
+returns-5 c =
+    let e5 = sym (c .before .equal5 .ensures) ∙ c .if5 .taken in
+    let e4 = sym (c .before .before .before .before .equal4 .ensures) ∙ c .before .before .before .if4 .left in
+    let e3 = sym (c .before .before .before .before .before .before .before .equal3 .ensures)
+    ∙ c .before .before .before .before .before .before .if3 .left in
+    let e2 = sym (c .before .before .before .before .before .before .before .before .before .before .equal2 .ensures)
+    ∙ c .before .before .before .before .before .before .before .before .before .if2 .left in
+    let e1 = sym (c .before .before .before .before .before .before .before .before .before .before .before .before .before .equal .ensures) ∙ c .before .before .before .before .before .before .before .before .before .before .before .before .if1 .left in
+    rw (e1, e2, e3, e4, e5)
+
+returns-6 : tie.Need-returns-6
+unfolding judged passes heads
+returns-6 c =
+    let e6 = sym (c .before .equal6 .ensures) ∙ c .if6 .taken in
+    let e5 = sym (c .before .before .before .before .equal5 .ensures) ∙ c .before .before .before .if5 .left in
+    let e4 = sym (c .before .before .before .before .before .before .before .equal4 .ensures)
+    ∙ c .before .before .before .before .before .before .if4 .left in
+    let e3 = sym (c .before .before .before .before .before .before .before .before .before .before .equal3 .ensures)
+    ∙ c .before .before .before .before .before .before .before .before .before .if3 .left in
+    let e2 = sym (c .before .before .before .before .before .before .before .before .before .before .before .before .before .equal2 .ensures) ∙ c .before .before .before .before .before .before .before .before .before .before .before .before .if2 .left in
+    let e1 = sym (c .before .before .before .before .before .before .before .before .before .before .before .before .before .before .before .before .equal .ensures) ∙ c .before .before .before .before .before .before .before .before .before .before .before .before .before .before .before .if1 .left in
+    rw (e1, e2, e3, e4, e5, e6)
+
+returns-7 : tie.Need-returns-7
+unfolding judged passes heads
+returns-7 c =
+    let e6 = sym (c .before .equal6 .ensures) ∙ c .if6 .left in
+    let e5 = sym (c .before .before .before .before .equal5 .ensures) ∙ c .before .before .before .if5 .left in
+    let e4 = sym (c .before .before .before .before .before .before .before .equal4 .ensures)
+    ∙ c .before .before .before .before .before .before .if4 .left in
+    let e3 = sym (c .before .before .before .before .before .before .before .before .before .before .equal3 .ensures)
+    ∙ c .before .before .before .before .before .before .before .before .before .if3 .left in
+    let e2 = sym (c .before .before .before .before .before .before .before .before .before .before .before .before .before .equal2 .ensures) ∙ c .before .before .before .before .before .before .before .before .before .before .before .before .if2 .left in
+    let e1 = sym (c .before .before .before .before .before .before .before .before .before .before .before .before .before .before .before .before .equal .ensures) ∙ c .before .before .before .before .before .before .before .before .before .before .before .before .before .before .before .if1 .left in
+    rw (e1, e2, e3, e4, e5, e6)
+
+pub head-of-spec : {M : Type 1} → statement M
+head-of-spec =
+    tie.close
+    (tie.spec
+    (λ c. search needs) (λ c κs. search needs) returns (λ c. search needs) (λ c κs. search needs) returns-2
+    (λ c. search needs) (λ c κs. search needs) returns-3 (λ c. search needs) (λ c κs. search needs) returns-4
+    (λ c. search needs) (λ c κs. search needs) returns-5 (λ c. search needs) (λ c κs. search needs) returns-6 returns-7)

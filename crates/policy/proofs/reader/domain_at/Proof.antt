@@ -1,0 +1,21 @@
+-- `domain_at` meets its contract. Assumes nothing.
+use mathlib.Core.Path.{sym, ap, _∙_}
+use borrow.Author.Needs.{needs}
+use Rattle.policy.specs.Domain.{domainOf}
+use Rattle.policy.proofs.HeardLaws.{trim-is-bytes}
+use Rattle.policy.proofs.reader.domain_at.Statement.{statement}
+use Rattle.policy.proofs.reader.domain_at.Tie as tie
+
+returns : tie.Need-returns
+returns c =
+    let t = c .before .before in
+    let a = t .before .before .args in
+    c .from-slug .ensures
+    ∙ ap domainOf (sym (trim-is-bytes (a .s .now) (a .a) (a .e) (t .trimmed-at .result .from) (t .trimmed-at .result .past)
+    (t .trimmed-at .ensures)))
+
+pub domain-at-spec : {M : Type 1} → statement M
+domain-at-spec =
+    tie.close
+    (tie.spec
+    (λ c κs. search needs) (λ c. search needs) (λ c. search needs) (λ c. search needs) (λ c κs. search needs) returns)

@@ -1,0 +1,67 @@
+-- `heard_at` meets its contract. Assumes nothing.
+use mathlib.Core.Path.{sym, ap, _∙_}
+use native.Mathlib.Omega.{arith}
+use borrow.Author.Needs.{needs}
+use Rattle.text.proofs.FindLaws.{index-le}
+use Rattle.policy.specs.Heard.{ranged, bytesOf}
+use Rattle.policy.proofs.Pieces.{piece-long}
+use Rattle.policy.proofs.HeardLaws.{hash-fits, directive-some, directive-none}
+use Rattle.policy.proofs.reader.heard_at.Statement.{statement}
+use Rattle.policy.proofs.reader.heard_at.Tie as tie
+
+add-h : tie.Need-add-h
+add-h c =
+    let a = c .before .before .before .args in
+    let s = a .s .now in
+    omega (arith, c .find .ensures, index-le 35 (bytesOf s (a .a) (a .e)), piece-long s (a .a) (a .e) (omega arith))
+
+trimmed-at-requires : tie.Need-trimmed-at-requires
+trimmed-at-requires c κs =
+    let a = c .before .before .before .args in
+    let s = a .s .now in
+    omega (arith, c .find .ensures, index-le 35 (bytesOf s (a .a) (a .e)), piece-long s (a .a) (a .e) (omega arith))
+
+worded-at-requires : tie.Need-worded-at-requires
+worded-at-requires c κs =
+    let t = c .before in
+    let f = t .before in
+    let a = f .before .before .before .args in
+    let s = a .s .now in
+    let x = t .trimmed-at .result .from in
+    let y = t .trimmed-at .result .past in
+    omega (
+      arith,
+      t .trimmed-at .ensures .high,
+      hash-fits s (a .a) (a .e) (f .find .result) x y (omega arith) (f .find .ensures)
+          (t .trimmed-at .ensures),
+    )
+
+returns : tie.Need-returns
+returns c =
+    let t = c .before .before in
+    let f = t .before in
+    let a = f .before .before .before .args in
+    let s = a .s .now in
+    let x = t .trimmed-at .result .from in
+    let y = t .trimmed-at .result .past in
+    c .worded-at .ensures
+    ∙ sym (ap ranged (directive-some s (a .a) (a .e) (f .find .result) x y (omega arith) (f .find .ensures)
+    (t .trimmed-at .ensures) (omega arith) (omega arith)))
+
+returns-2 : tie.Need-returns-2
+returns-2 c =
+    let t = c .before in
+    let f = t .before in
+    let a = f .before .before .before .args in
+    let s = a .s .now in
+    let x = t .trimmed-at .result .from in
+    let y = t .trimmed-at .result .past in
+    sym (ap ranged (directive-none s (a .a) (a .e) (f .find .result) x y (omega arith) (f .find .ensures) (t .trimmed-at .ensures)
+    (omega arith) (omega arith)))
+
+pub heard-at-spec : {M : Type 1} → statement M
+heard-at-spec =
+    tie.close
+    (tie.spec
+    (λ c. search needs) (λ c. search needs) (λ c. search needs) (λ c κs. search needs) add-h trimmed-at-requires
+    worded-at-requires returns returns-2)

@@ -1,0 +1,37 @@
+-- `preset_at` meets its contract. Assumes nothing.
+use mathlib.Core.Path.{sym, _∙_}
+use borrow.Author.Needs.{needs}
+use Rattle.policy.proofs.HeardLaws.{preset-allow, preset-deny, preset-bad}
+use Rattle.policy.proofs.reader.preset_at.Statement.{statement}
+use Rattle.policy.proofs.reader.preset_at.Tie as tie
+
+returns : tie.Need-returns
+returns c =
+    let t = c .before .before .before .before in
+    let a = t .before .before .args in
+    preset-allow (a .s .now) (a .a) (a .e) (t .trimmed-at .result .from) (t .trimmed-at .result .past) (t .trimmed-at .ensures)
+    (sym (c .before .equal .ensures) ∙ c .if1 .taken)
+
+returns-2 : tie.Need-returns-2
+returns-2 c =
+    let t = c .before .before .before .before .before .before .before .before in
+    let a = t .before .before .args in
+    preset-deny (a .s .now) (a .a) (a .e) (t .trimmed-at .result .from) (t .trimmed-at .result .past) (t .trimmed-at .ensures)
+    (sym (c .before .before .before .before .before .equal .ensures) ∙ c .before .before .before .before .if1 .left)
+    (sym (c .before .equal2 .ensures) ∙ c .if2 .taken)
+
+returns-3 : tie.Need-returns-3
+returns-3 c =
+    let t = c .before .before .before .before .before .before .before .before in
+    let a = t .before .before .args in
+    preset-bad (a .s .now) (a .a) (a .e) (t .trimmed-at .result .from) (t .trimmed-at .result .past) (t .trimmed-at .ensures)
+    (sym (c .before .before .before .before .before .equal .ensures) ∙ c .before .before .before .before .if1 .left)
+    (sym (c .before .equal2 .ensures) ∙ c .if2 .left)
+
+pub preset-at-spec : {M : Type 1} → statement M
+preset-at-spec =
+    tie.close
+    (tie.spec
+    (λ c κs. search needs) (λ c. search needs) (λ c. search needs) (λ c. search needs) (λ c. search needs)
+    (λ c κs. search needs) returns (λ c. search needs) (λ c. search needs) (λ c. search needs) (λ c. search needs)
+    (λ c κs. search needs) returns-2 returns-3)

@@ -1,0 +1,47 @@
+-- `unquoted_of` meets its contract. Assumes nothing.
+use mathlib.Core.Path.{_≡_, sym, ap}
+use Prim.Native.Nat.{_≤_}
+use native.Mathlib.Omega.{arith}
+use lib.ListN.{length, take}
+use lib.Seq.{take-length}
+use Rattle.policy.specs.Piece.{unquoted}
+use Rattle.policy.proofs.Pieces.{unquoted-quote, unquoted-other}
+use Rattle.policy.proofs.reader.unquoted_of.Statement.{statement}
+use Rattle.policy.proofs.reader.unquoted_of.Tie as tie
+
+abbrev Inv-loop : tie.InvT-loop
+Inv-loop s n₀ n = (n ≤ length s) × (unquoted s ≡ unquoted (take n s))
+
+abbrev μ-loop : tie.MeasureT-loop
+μ-loop s n₀ n = n
+
+loop-holds : tie.Need-loop-holds Inv-loop μ-loop
+loop-holds c = (omega arith, ap unquoted (sym (take-length (c .args .s .now))))
+
+returns : tie.Need-returns Inv-loop μ-loop
+returns c =
+    let l = c .before .before .before in
+    let s = l .before .args .s .now in
+    let n = l .loop .n in
+    omega (arith, unquoted-other s n (omega arith) (omega arith) (c .if1 .taken))
+
+loop-again : tie.Need-loop-again Inv-loop μ-loop
+loop-again c =
+    let l = c .before .before .before in
+    let s = l .before .args .s .now in
+    let n = l .loop .n in
+    omega (arith, unquoted-quote s n (omega arith) (omega arith) (c .if1 .left))
+
+returns-2 : tie.Need-returns-2 Inv-loop μ-loop
+unfolding unquoted
+returns-2 c =
+    let l = c .before in
+    let z : l .loop .n ≡ 0 = omega arith in
+    sym (rw z at (l .loop .inv .1))
+
+pub unquoted-of-spec : {M : Type 1} → statement M
+unquoted-of-spec =
+    tie.close
+    (tie.spec
+    Inv-loop μ-loop loop-holds (λ c. omega arith) (λ c. omega arith) returns (λ c. omega arith) (λ c. omega arith)
+    loop-again returns-2)

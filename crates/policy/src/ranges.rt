@@ -1,0 +1,61 @@
+// A policy handed in beside its text: its ranges may be anything.
+use crate::Policy;
+use crate::whole::test_text;
+use refusal::Answer;
+use refusal::Refusal;
+ghost use mathlib.Core.Path.{_≡_};
+ghost use Prim.Native.Nat.{_+_};
+ghost use lib.Dec.{leb};
+ghost use Rattle.refusal.specs.Said.{saidAnswer};
+ghost use Rattle.policy.specs.Eight.{eight, firstBad, policyTest};
+
+// Whether the range lies within n bytes.
+fn fits(from: usize, len: usize, n: usize) -> bool
+    ensures { λ r. ⌜ r ≡ leb (from + len) n ⌝ }
+{
+    if n < from {
+        return false;
+    }
+    if n - from < len {
+        return false;
+    }
+    true
+}
+
+// The first of a policy's eight ranges that leaves n bytes, 8 where none does.
+fn first_bad(p: Policy, n: usize) -> usize
+    ensures { λ r. ⌜ r ≡ firstBad n (eight p) ⌝ }
+{
+    let mut i = 0;
+    while i < 7 {
+        let x = p.rules[i];
+        let from = x.from;
+        let len = x.len;
+        if !fits(from, len, n) {
+            return i;
+        }
+        i += 1;
+    }
+    let from = p.start;
+    let len = p.size;
+    if fits(from, len, n) {
+        return 8;
+    }
+    7
+}
+
+// 14, 4, and 15: rows 0 to 6 are the rules' ranges, 7 is the name's.
+pub fn test_policy(s: &[u8], p: Policy) -> Answer
+    ensures { λ r. ⌜ saidAnswer r ≡ policyTest (now (s .entry)) p ⌝ }
+{
+    match test_text(s) {
+        Answer::Refused(why) => Answer::Refused(why),
+        Answer::Accepted => {
+            let row = first_bad(p, s.len());
+            if row < 8 {
+                return Answer::Refused(Refusal::BadTable(row));
+            }
+            Answer::Accepted
+        }
+    }
+}

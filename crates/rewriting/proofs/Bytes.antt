@@ -1,0 +1,263 @@
+-- Lists of bytes that lack a byte, and what is cut at one. Assumes nothing.
+use mathlib.Core.Path.{_≡_, refl, sym, ap, _∙_}
+use mathlib.Core.Bool.{Bool, true, false, false≢true}
+use mathlib.Core.List.{List, [], _∷_, _++_}
+use Prim.Native.Nat.{ℕ, zero, suc, _+_, _<_}
+use native.Mathlib.Omega.{arith}
+use native.Mathlib.Nat.{suc-add}
+use lib.Dec.{eqb, ltb}
+use lib.ListN.{length, take, drop}
+use lib.Seq.{take-all, length-take-le, take-append-seam}
+use borrow.Author.Tests.{eqb-true, eq-eqb, ltb-true, ltb-false}
+use Rattle.refusal.specs.Pick.{pick, both}
+use Rattle.text.specs.Find.{begins, seek, indexOf}
+use Rattle.text.specs.Trim.{trimStart, trimEnd, started, trimOf}
+use Rattle.text.proofs.FindLaws.{index-cons}
+use Rattle.text.proofs.Laws.{both-one, both-two}
+use Rattle.text.proofs.SplitLaws.{well, well-one, well-ascii}
+use Rattle.text.proofs.TrimLaws.{trim-well}
+use Rattle.policy.specs.Piece.{quotes, unquoted}
+use Rattle.policy.proofs.Pieces.{unquoted-le}
+
+-- b does not occur
+unfoldable pub lacks : ℕ → List ℕ → Bool
+lacks b [] = true
+lacks b (x ∷ s) = pick (eqb x b) false (lacks b s)
+
+module _ (b : ℕ) where
+  pub lacks-head : (x : ℕ) (s : List ℕ) → lacks b (x ∷ s) ≡ true → eqb x b ≡ false
+  unfolding lacks
+  lacks-head x s e = by (eqb x b) refl e
+    where
+      by : (t : Bool) → eqb x b ≡ t → pick t false (lacks b s) ≡ true → eqb x b ≡ false
+      by true q e = absurd (false≢true e)
+      by false q e = q
+
+  pub lacks-tail : (x : ℕ) (s : List ℕ) → lacks b (x ∷ s) ≡ true → lacks b s ≡ true
+  unfolding lacks
+  lacks-tail x s e = by (eqb x b) e
+    where
+      by : (t : Bool) → pick t false (lacks b s) ≡ true → lacks b s ≡ true
+      by true e = absurd (false≢true e)
+      by false e = e
+
+  pub lacks-cons : (x : ℕ) (s : List ℕ) → eqb x b ≡ false → lacks b s ≡ true → lacks b (x ∷ s) ≡ true
+  unfolding lacks
+  lacks-cons x s e h = rw (e, h)
+
+  pub lacks-take : (n : ℕ) (s : List ℕ) → lacks b s ≡ true → lacks b (take n s) ≡ true
+  unfolding lacks
+  lacks-take zero s e = refl
+  lacks-take (suc n) [] e = refl
+  lacks-take (suc n) (x ∷ s) e = lacks-cons x (take n s) (lacks-head x s e) (lacks-take n s (lacks-tail x s e))
+
+  pub lacks-drop : (n : ℕ) (s : List ℕ) → lacks b s ≡ true → lacks b (drop n s) ≡ true
+  unfolding lacks
+  lacks-drop zero s e = e
+  lacks-drop (suc n) [] e = refl
+  lacks-drop (suc n) (x ∷ s) e = lacks-drop n s (lacks-tail x s e)
+
+  pub lacks-append : (s t : List ℕ) → lacks b s ≡ true → lacks b t ≡ true → lacks b (s ++ t) ≡ true
+  unfolding lacks
+  lacks-append [] t e f = f
+  lacks-append (x ∷ s) t e f = lacks-cons x (s ++ t) (lacks-head x s e) (lacks-append s t (lacks-tail x s e) f)
+
+  pub index-none : (s : List ℕ) → lacks b s ≡ true → indexOf b s ≡ length s
+  unfolding indexOf seek
+  index-none [] e = refl
+  index-none (x ∷ s) e = index-cons b x s ∙ rw (lacks-head x s e) (ap suc (index-none s (lacks-tail x s e)))
+
+  pub index-at : (s t : List ℕ) → lacks b s ≡ true → indexOf b (s ++ b ∷ t) ≡ length s
+  index-at [] t e = index-cons b b t ∙ rw (eq-eqb b b refl)
+  index-at (x ∷ s) t e = index-cons b x (s ++ b ∷ t) ∙ rw (lacks-head x s e) (ap suc (index-at s t (lacks-tail x s e)))
+
+  pub until-lacks : (s : List ℕ) → lacks b (take (indexOf b s) s) ≡ true
+  unfolding lacks
+  until-lacks [] = unfold indexOf seek in refl
+  until-lacks (x ∷ s) = rw (index-cons b x s) (by (eqb x b) refl (until-lacks s))
+    where
+      by : (t : Bool) → eqb x b ≡ t → lacks b (take (indexOf b s) s) ≡ true → lacks b (take (pick t 0 (suc (indexOf b s))) (x ∷ s)) ≡ true
+      by true q ih = refl
+      by false q ih = rw (q, ih)
+
+  -- b stands where it is found
+  pub index-split : (s : List ℕ) → indexOf b s < length s → s ≡ take (indexOf b s) s ++ b ∷ drop (indexOf b s + 1) s
+  index-split [] h = absurd (omega arith)
+  index-split (x ∷ s) h = rw (index-cons b x s) (by (eqb x b) refl (index-split s) (rw (index-cons b x s) at h))
+    where
+      by : (t : Bool) → eqb x b ≡ t → (indexOf b s < length s → s ≡ take (indexOf b s) s ++ b ∷ drop (indexOf b s + 1) s)
+          → pick t 0 (suc (indexOf b s)) < suc (length s)
+          → _≡_ {A = List ℕ} (x ∷ s) (take (pick t 0 (suc (indexOf b s))) (x ∷ s) ++ b ∷ drop (pick t 0 (suc (indexOf b s)) + 1) (x ∷ s))
+      by true q ih h = rw (eqb-true x b q)
+      by false q ih h = rw (suc-add (indexOf b s) 1) (ap (λ (l : List ℕ). x ∷ l) (ih (omega arith)))
+
+  module _ (small : b < 0x80) where
+    pub well-until : (s : List ℕ) → well s ≡ true → well (take (indexOf b s) s) ≡ true
+    well-until s e = by (ltb (indexOf b s) (length s)) refl
+      where
+        by : (t : Bool) → ltb (indexOf b s) (length s) ≡ t → well (take (indexOf b s) s) ≡ true
+        by true q =
+            let p = take (indexOf b s) s in
+            let r = drop (indexOf b s + 1) s in
+            both-one (well p) (well r) (sym (well-ascii p b r small) ∙ rw (← index-split s (ltb-true (indexOf b s) (length s) q)) e)
+        by false q = rw (take-all (indexOf b s) s (ltb-false (indexOf b s) (length s) q)) e
+
+    pub well-past : (s : List ℕ) → indexOf b s < length s → well s ≡ true → well (drop (indexOf b s + 1) s) ≡ true
+    well-past s h e =
+        let p = take (indexOf b s) s in
+        let r = drop (indexOf b s + 1) s in
+        both-two (well p) (well r) (sym (well-ascii p b r small) ∙ rw (← index-split s h) e)
+
+-- ---- a part of a line that has no comment
+pub record Inner (s : List ℕ) : Type 0 where
+  pub good : well s ≡ true
+  pub lf : lacks 10 s ≡ true
+  pub hash : lacks 35 s ≡ true
+
+pub inner-take : (n : ℕ) (s : List ℕ) → well (take n s) ≡ true → Inner s → Inner (take n s)
+inner-take n s e i = record { good = e; lf = lacks-take 10 n s (i .lf); hash = lacks-take 35 n s (i .hash) }
+
+pub inner-drop : (n : ℕ) (s : List ℕ) → well (drop n s) ≡ true → Inner s → Inner (drop n s)
+inner-drop n s e i = record { good = e; lf = lacks-drop 10 n s (i .lf); hash = lacks-drop 35 n s (i .hash) }
+
+pub lacks-trim : (b : ℕ) (s : List ℕ) → lacks b s ≡ true → lacks b (trimOf s) ≡ true
+unfolding trimOf
+lacks-trim b s e = lacks-take b (trimEnd (started s)) (started s) (lacks-drop b (trimStart s) s e)
+
+pub inner-trim : (s : List ℕ) → Inner s → Inner (trimOf s)
+inner-trim s i = record { good = trim-well s (i .good); lf = lacks-trim 10 s (i .lf); hash = lacks-trim 35 s (i .hash) }
+
+pub inner-until : (b : ℕ) (s : List ℕ) → b < 0x80 → Inner s → Inner (take (indexOf b s) s)
+inner-until b s h i = inner-take (indexOf b s) s (well-until b h s (i .good)) i
+
+pub inner-past : (b : ℕ) (s : List ℕ) → b < 0x80 → indexOf b s < length s → Inner s → Inner (drop (indexOf b s + 1) s)
+inner-past b s h k i = inner-drop (indexOf b s + 1) s (well-past b h s k (i .good)) i
+
+-- after a word of ASCII
+unfoldable pub ascii : List ℕ → Bool
+ascii [] = true
+ascii (x ∷ w) = both (ltb x 0x80) (ascii w)
+
+pub well-word : (w t : List ℕ) → ascii w ≡ true → well (w ++ t) ≡ well t
+unfolding ascii
+well-word [] t e = refl
+well-word (x ∷ w) t e = well-one x (w ++ t) (ltb-true x 0x80 (both-one (ltb x 0x80) (ascii w) e))
+    ∙ well-word w t (both-two (ltb x 0x80) (ascii w) e)
+
+pub begins-split : (w s : List ℕ) → begins w s ≡ true → s ≡ w ++ drop (length w) s
+unfolding begins
+begins-split [] s e = refl
+begins-split (c ∷ w) [] e = absurd (false≢true e)
+begins-split (c ∷ w) (x ∷ s) e =
+    let q = eqb-true x c (both-one (eqb x c) (begins w s) e) in
+    let r = begins-split w s (both-two (eqb x c) (begins w s) e) in
+    rw q (ap (λ (l : List ℕ). c ∷ l) r)
+
+pub inner-word : (w s : List ℕ) → ascii w ≡ true → begins w s ≡ true → Inner s → Inner (drop (length w) s)
+inner-word w s a e i = inner-drop (length w) s (sym (well-word w (drop (length w) s) a) ∙ rw (← begins-split w s e) (i .good)) i
+
+-- ---- quotes
+well-quotes : (s : List ℕ) → well s ≡ true → well (drop (quotes s) s) ≡ true
+unfolding quotes
+well-quotes [] e = e
+well-quotes (x ∷ s) e = by (eqb x 34) refl (well-quotes s)
+  where
+    by : (t : Bool) → eqb x 34 ≡ t → (well s ≡ true → well (drop (quotes s) s) ≡ true)
+        → well (drop (pick t (suc (quotes s)) 0) (x ∷ s)) ≡ true
+    by true q ih = let z = eqb-true x 34 q in ih (sym (well-one x s (omega arith)) ∙ e)
+    by false q ih = e
+
+pub inner-quotes : (s : List ℕ) → Inner s → Inner (drop (quotes s) s)
+inner-quotes s i = inner-drop (quotes s) s (well-quotes s (i .good)) i
+
+unquoted-split : (s : List ℕ) → unquoted s < length s → s ≡ take (unquoted s) s ++ 34 ∷ drop (unquoted s + 1) s
+unfolding unquoted
+unquoted-split [] h = absurd (omega arith)
+unquoted-split (x ∷ s) h = by (both (eqb x 34) (eqb (unquoted s) 0)) refl (unquoted-split s) h
+  where
+    by : (t : Bool) → both (eqb x 34) (eqb (unquoted s) 0) ≡ t
+        → (unquoted s < length s → s ≡ take (unquoted s) s ++ 34 ∷ drop (unquoted s + 1) s)
+        → pick t 0 (suc (unquoted s)) < suc (length s)
+        → _≡_ {A = List ℕ} (x ∷ s) (take (pick t 0 (suc (unquoted s))) (x ∷ s) ++ 34 ∷ drop (pick t 0 (suc (unquoted s)) + 1) (x ∷ s))
+    by true q ih h = rw (eqb-true x 34 (both-one (eqb x 34) (eqb (unquoted s) 0) q))
+    by false q ih h = rw (suc-add (unquoted s) 1) (ap (λ (l : List ℕ). x ∷ l) (ih (omega arith)))
+
+pub inner-unquoted : (s : List ℕ) → Inner s → Inner (take (unquoted s) s)
+inner-unquoted s i = inner-take (unquoted s) s (by (ltb (unquoted s) (length s)) refl) i
+  where
+    by : (t : Bool) → ltb (unquoted s) (length s) ≡ t → well (take (unquoted s) s) ≡ true
+    by true q =
+        let p = take (unquoted s) s in
+        let r = drop (unquoted s + 1) s in
+        both-one (well p) (well r) (sym (well-ascii p 34 r (omega arith))
+        ∙ rw (← unquoted-split s (ltb-true (unquoted s) (length s) q)) (i .good))
+    by false q = rw (take-all (unquoted s) s (ltb-false (unquoted s) (length s) q)) (i .good)
+
+-- no quote at the front after they went
+quotes-gone : (s : List ℕ) → quotes (drop (quotes s) s) ≡ 0
+unfolding quotes
+quotes-gone [] = refl
+quotes-gone (x ∷ s) = by (eqb x 34) refl (quotes-gone s)
+  where
+    by : (t : Bool) → eqb x 34 ≡ t → quotes (drop (quotes s) s) ≡ 0 → quotes (drop (pick t (suc (quotes s)) 0) (x ∷ s)) ≡ 0
+    by true q ih = ih
+    by false q ih = rw q
+
+quotes-take : (n : ℕ) (s : List ℕ) → quotes s ≡ 0 → quotes (take n s) ≡ 0
+unfolding quotes
+quotes-take zero s e = refl
+quotes-take (suc n) [] e = refl
+quotes-take (suc n) (x ∷ s) e = by (eqb x 34) e
+  where
+    by : (t : Bool) → pick t (suc (quotes s)) 0 ≡ 0 → pick t (suc (quotes (take n s))) 0 ≡ 0
+    by true e = absurd (omega arith)
+    by false e = refl
+
+unquoted-take : (s : List ℕ) → unquoted (take (unquoted s) s) ≡ unquoted s
+unfolding unquoted
+unquoted-take [] = refl
+unquoted-take (x ∷ s) = by (both (eqb x 34) (eqb (unquoted s) 0)) refl (unquoted-take s)
+  where
+    by : (t : Bool) → both (eqb x 34) (eqb (unquoted s) 0) ≡ t → unquoted (take (unquoted s) s) ≡ unquoted s
+        → unquoted (take (pick t 0 (suc (unquoted s))) (x ∷ s)) ≡ pick t 0 (suc (unquoted s))
+    by true q ih = refl
+    by false q ih = rw (ih, q)
+
+-- ---- a name: no comment, no LF, no quote at either end
+pub record FineName (n : List ℕ) : Type 0 where
+  pub inner : Inner n
+  pub front : quotes n ≡ 0
+  pub back : unquoted n ≡ length n
+
+pub fine-name : (s : List ℕ) → Inner s → FineName (take (unquoted (drop (quotes s) s)) (drop (quotes s) s))
+fine-name s i =
+    let r = drop (quotes s) s in
+    record {
+      inner = inner-unquoted r (inner-quotes s i);
+      front = quotes-take (unquoted r) r (quotes-gone s);
+      back = unquoted-take r ∙ sym (length-take-le (unquoted r) r (unquoted-le r));
+    }
+
+-- a name between quotes
+quotes-before : (n : List ℕ) → quotes n ≡ 0 → 0 < length n → quotes (n ++ 34 ∷ []) ≡ 0
+unfolding quotes
+quotes-before [] e h = absurd (omega arith)
+quotes-before (x ∷ n) e h = by (eqb x 34) e
+  where
+    by : (t : Bool) → pick t (suc (quotes n)) 0 ≡ 0 → pick t (suc (quotes (n ++ 34 ∷ []))) 0 ≡ 0
+    by true e = absurd (omega arith)
+    by false e = refl
+
+unquoted-after : (n : List ℕ) → unquoted (n ++ 34 ∷ []) ≡ unquoted n
+unfolding unquoted
+unquoted-after [] = refl
+unquoted-after (x ∷ n) = rw (unquoted-after n)
+
+pub quoted-name : (n : List ℕ) → FineName n → take (unquoted (drop (quotes (34 ∷ (n ++ 34 ∷ []))) (34 ∷ (n ++ 34 ∷ []))))
+    (drop (quotes (34 ∷ (n ++ 34 ∷ []))) (34 ∷ (n ++ 34 ∷ []))) ≡ n
+unfolding quotes
+quoted-name [] f = unfold unquoted in refl
+quoted-name (x ∷ n) f =
+    let z : quotes (x ∷ (n ++ 34 ∷ [])) ≡ 0 = quotes-before (x ∷ n) (f .front) (omega arith) in
+    let u : unquoted (x ∷ (n ++ 34 ∷ [])) ≡ suc (length n) = unquoted-after (x ∷ n) ∙ f .back in
+    rw (z, u) (take-append-seam (x ∷ n) (34 ∷ []))
