@@ -96,6 +96,7 @@ module _ (s : List ℕ) (size : length s < 18446744073709551616) where
     pub past : at < start
     pub inside : start + length p ≤ length s
 
+  -- a size and so many bytes are read
   pub part-reads : (at : ℕ) (l p r : List ℕ) → drop at s ≡ l → Number l (length p) (p ++ r) → PartStands at p r
   unfolding countedAt takeAt onward
   part-reads at l p r e u =
@@ -129,6 +130,7 @@ module _ (s : List ℕ) (size : length s < 18446744073709551616) where
     pub inside : range .from + range .len ≤ length s
     pub in-s : next ≤ length s
 
+  -- a name is read
   pub name-reads : (at : ℕ) (l b r : List ℕ) → drop at s ≡ l → Named l b r → NameStands at b r
   unfolding nameAt checked onward
   name-reads at l b r e (named u w) =
@@ -162,6 +164,7 @@ module _ (s : List ℕ) (size : length s < 18446744073709551616) where
     pub first-in : first .from + first .len ≤ length s
     pub second-in : second .from + second .len ≤ length s
 
+  -- an import is read
   pub import-reads : (base at : ℕ) (l r : List ℕ) (v : ImportSaid) → drop at s ≡ l → AnyImport l v r
       → Entry (ImportRow base) (importAt s base at) v r
   unfolding importAt onward
@@ -192,6 +195,7 @@ module _ (s : List ℕ) (size : length s < 18446744073709551616) where
     pub name-is : bytesOf s first ≡ v .name
     pub first-in : first .from + first .len ≤ length s
 
+  -- an export is read
   pub export-reads : (base at : ℕ) (l r : List ℕ) (v : ExportSaid) → drop at s ≡ l → AnyExport l v r
       → Entry (ExportRow base) (exportAt s base at) v r
   unfolding exportAt onward
@@ -213,6 +217,7 @@ module _ (s : List ℕ) (size : length s < 18446744073709551616) where
     pub name-is : bytesOf s first ≡ v .name
     pub first-in : first .from + first .len ≤ length s
 
+  -- a function name is read
   pub function-reads : (base at : ℕ) (l r : List ℕ) (v : FunctionOf) → drop at s ≡ l → AnyAssoc l v r
       → Entry (FunctionRow base) (symbolAt s base at) v r
   unfolding symbolAt onward

@@ -19,6 +19,7 @@ use Rattle.wasm.specs.Module.{headerAt, magic}
 use Rattle.conform.specs.Claims.{Bytes}
 use Rattle.conform.specs.Port.{versionOf, AnyHeader}
 
+-- such a header is accepted
 pub header-reads : (b : List ℕ) → AnyHeader b → headerAt b ≡ accepted (got (versionOf b) 8)
 unfolding headerAt onward takeAt fixedAt magic
 header-reads b h =
@@ -45,6 +46,7 @@ fixed-only b v d e = by (leb 8 (length b)) refl e where
   by true t f = (leb-true 8 (length b) t, cc, cc)
   by false t f = absurd (never f)
 
+-- and no other is
 pub header-only : (b : List ℕ) (v d : ℕ) → headerAt b ≡ accepted (got v d) → HeaderOnly b v d
 unfolding headerAt magic
 header-only b v d e =

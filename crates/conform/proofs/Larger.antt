@@ -91,9 +91,11 @@ pub limits-largest : (z : Sizes) → Larger z limits
 unfolding capacityOf
 limits-largest z = record { sections = omega arith; imports = omega arith; exports = omega arith; names = omega arith }
 
+-- what some tables accept, tables at the limits accept
 pub limits-decide : LimitsDecide
 limits-decide b z m = larger-same b z limits m (limits-largest z)
 
+-- no two sizes of tables give two modules
 pub one-module : OneModule
 one-module b z w m n e f =
     let p = limits-decide b z m e in

@@ -51,6 +51,7 @@ module _ (s : List ℕ) (size : length s < 18446744073709551616) where
         ∙ ap (λ (k : ℕ). k ∷ drop d s) v
     by false t f = absurd (never f)
 
+  -- a number that was read
   pub only-u32 : (at v d : ℕ) → u32At s at ≡ accepted (got v d) → Number (drop at s) v (drop d s)
   only-u32 at v d e =
       let o = u32-only s at v d e in
@@ -73,6 +74,7 @@ module _ (s : List ℕ) (size : length s < 18446744073709551616) where
       let w = split p (omega (arith, e)) in
       rw (w .0) (subst (Number (drop at s) (p .len)) (w .1 ∙ ap (λ (k : ℕ). bytesOf s p ++ drop k s) e) u)
 
+  -- a size and bytes that were read
   pub only-counted : (at : ℕ) (p : Part) (d : ℕ) → countedAt s at ≡ accepted (got p d)
       → Number (drop at s) (length (bytesOf s p)) (bytesOf s p ++ drop d s)
   unfolding countedAt
@@ -83,6 +85,7 @@ module _ (s : List ℕ) (size : length s < 18446744073709551616) where
       sized at p d (omega (arith, t .start, t .size, t .next)) (omega (arith, t .next, t .in-s))
       (other-end (drop at s) (sym (t .size)) (sym (t .start)) u)
 
+  -- a name that was read lies in s
   pub only-name : (at : ℕ) (p : Part) (d : ℕ) → nameAt s at ≡ accepted (got p d)
       → Named (drop at s) (bytesOf s p) (drop d s) × (p .from + p .len ≤ length s)
   only-name at p d e =
@@ -171,6 +174,7 @@ module _ (s : List ℕ) (size : length s < 18446744073709551616) where
       subst (λ (k : List ℕ). AnyDesc 3 k m (drop d s)) (sym l)
       (subst (λ (i : Desc). AnyDesc 3 (x .what ∷ y .what ∷ drop d s) i (drop d s)) q globals)
 
+  -- a descriptor that was read
   pub only-desc : (kind at : ℕ) (m : Desc) (d : ℕ) → descAt s kind at ≡ accepted (got m d) → AnyDesc kind (drop at s) m (drop d s)
   unfolding descAt
   only-desc kind at m d e =
@@ -188,6 +192,7 @@ module _ (s : List ℕ) (size : length s < 18446744073709551616) where
     pub derives : P (drop at s) value (drop d s)
     pub agrees : R row value
 
+  -- an import that was read
   pub only-import : (base at : ℕ) (row : Import) (d : ℕ) → importAt s base at ≡ accepted (got row d)
       → Found AnyImport (ImportRow s size base) at row d
   unfolding importAt
@@ -217,6 +222,7 @@ module _ (s : List ℕ) (size : length s < 18446744073709551616) where
         };
       }
 
+  -- an export that was read
   pub only-export : (base at : ℕ) (row : Export) (d : ℕ) → exportAt s base at ≡ accepted (got row d)
       → Found AnyExport (ExportRow s size base) at row d
   unfolding exportAt
@@ -235,6 +241,7 @@ module _ (s : List ℕ) (size : length s < 18446744073709551616) where
         agrees = record { first = m .what; row-is = sym (g .0); name-is = refl; first-in = p .1 };
       }
 
+  -- a function name that was read
   pub only-function : (base at : ℕ) (row : Symbol) (d : ℕ) → symbolAt s base at ≡ accepted (got row d)
       → Found AnyAssoc (FunctionRow s size base) at row d
   unfolding symbolAt

@@ -49,6 +49,7 @@ added n row next t u d e = by (ltb (length (t .sections)) (capacityOf n 5 256)) 
   by true x f = (cc, cc, ltb-true (length (t .sections)) (capacityOf n 5 256) x)
   by false x f = absurd (never f)
 
+-- every accepted section is of this form
 pub took : (b : List ℕ) (z : Sizes) (at : ℕ) (t u : Tables) (d : ℕ) → sectionAt b z at t ≡ accepted (got u d) → Took b z at t u d
 unfolding sectionAt
 took b z at t u d e =
@@ -87,6 +88,7 @@ pub record TookSub (s : List ℕ) (base n at : ℕ) (t u : Names) (d : ℕ) : Ty
   pub ends : payload .from + payload .len ≡ d
   pub in-s : d ≤ length s
 
+-- every accepted subsection is of this form
 pub took-sub : (s : List ℕ) (base n at : ℕ) (t u : Names) (d : ℕ) → subsectionAt s base n at t ≡ accepted (got u d)
     → TookSub s base n at t u d
 unfolding subsectionAt

@@ -16,6 +16,7 @@ use Rattle.wasm.specs.Custom.{subsectionAt, nameWord, customAt}
 use Rattle.wasm.specs.Module.{contentsAt, addSection, sectionAt, headerAt, magic, noTables, moduleAt}
 use Rattle.conform.specs.Beyond.{Smallest}
 
+-- each by computing
 pub smallest : Smallest
 unfolding moduleAt headerAt magic takeAt fixedAt onward same walkFrom turned walk sectionAt byteAt countedAt u32At ulebAt told narrowed uN
     grown spent contentsAt customAt nameWord subsectionAt nameAt checked upTo scan seqLen after covers follow followIn importsOf

@@ -51,6 +51,7 @@ module _ {E : Type 0} (read : ℕ → Said (Got E)) (tn room : ℕ) where
       by v d ih true t = ih (omega (arith, ltb-true (length rows) room t, length-append rows (v ∷ [])))
       by v d ih false t = gives-stop (Of (Few room)) 13 tn
 
+  -- a count and so many entries
   pub few-run : (s : List ℕ) (rows : List E) → length rows ≤ room
       → Gives (Of (Few room)) (onward (u32At s 0) (λ n at. entriesFrom read tn room n at rows))
   few-run s rows h = gives-onward (Of (Few room)) (u32At s 0) _ (λ n at e. few-entries n at rows h)

@@ -302,6 +302,7 @@ rows-of b t vs h =
       name-is = h .adds .name-is unnamed refl;
     }
 
+-- whatever the port's grammar derives is read as exactly that
 pub any-conform : AnyConform
 unfolding moduleAt onward noTables
 any-conform b z vs short room (AnyModule.modul h s) =
