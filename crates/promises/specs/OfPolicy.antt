@@ -7,7 +7,7 @@ use denote.Ref.{now}
 use Rattle.refusal.proofs.Known.{answer-known}
 use Rattle.policy.proofs.DomainLaws.{same-domain}
 use Rattle.policy.proofs.Known.{found-known, read-known, evaluation-known}
-use Rattle.rewriting.proofs.Known.{one-answer, one-output}
+use Rattle.rewriting.proofs.Known.{one-answer, one-output, token-known}
 use Rattle.promises.specs.Decides.{Decides}
 use Rattle.policy.proofs.domain.domain_number.Kinds as domain-number-kinds
 use Rattle.policy.proofs.domain.domain_number.Reads as domain-number
@@ -37,6 +37,8 @@ use Rattle.policy.proofs.eval.is_compliant.Kinds as is-compliant-kinds
 use Rattle.policy.proofs.eval.is_compliant.Reads as is-compliant
 use Rattle.policy.proofs.eval.evaluate_domains.Kinds as evaluate-domains-kinds
 use Rattle.policy.proofs.eval.evaluate_domains.Reads as evaluate-domains
+use Rattle.rewriting.proofs.token.next_token.Kinds as next-token-kinds
+use Rattle.rewriting.proofs.token.next_token.Reads as next-token
 use Rattle.rewriting.proofs.write_policy.Kinds as write-policy-kinds
 use Rattle.rewriting.proofs.write_policy.Reads as write-policy
 
@@ -81,6 +83,9 @@ is-compliant-decides κs a x y s t p q = p ∙ sym q
 
 pub evaluate-domains-decides : Decides evaluate-domains-kinds.ps evaluate-domains-kinds.r evaluate-domains.Post
 evaluate-domains-decides κs a x y s t p q = evaluation-known x y p q
+
+pub next-token-decides : Decides next-token-kinds.ps next-token-kinds.r next-token.Post
+next-token-decides κs a x y s t p q = token-known x y (p ∙ sym q)
 
 pub write-policy-decides : Decides write-policy-kinds.ps write-policy-kinds.r write-policy.Post
 write-policy-decides κs a x y s t p q = one-answer p q

@@ -7,3 +7,4 @@ pub mod Trip
 pub mod Rewrite
 pub mod WriteLaws
 pub mod Known
+pub mod TokenLaws

@@ -1,3 +1,4 @@
 -- What the promises cite.
 pub mod Writer
 pub mod Writing
+pub mod Token

@@ -1,3 +1,4 @@
+-- `fault_at` meets its contract. Assumes nothing.
 use mathlib.Core.Path.{_≡_}
 use native.Mathlib.Omega.{arith}
 use Rattle.policy.proofs.fault_at.Statement.{statement}

@@ -1,3 +1,4 @@
+-- `read_policy` meets its contract. Assumes nothing.
 use borrow.Author.Needs.{needs}
 use Rattle.policy.proofs.LoopLaws.{read-good, read-bad}
 use Rattle.policy.proofs.read_policy.Statement.{statement}

@@ -1,6 +1,4 @@
--- `hello::copy_in` meets its contract. The invariant of its loop: `o` is `at + j`, `dst` is what it was with the first j bytes of `src` paste in from `at`, j is at most `src`'s length, and `dst` is as long as it was. The measure is `src`'s length less j.
--- A turn's store is `lib.Seq`'s `paste-suc`: the crate's `paste` is its `paste`.
--- Assumes nothing.
+-- `copy_in` meets its contract. Assumes nothing.
 use mathlib.Core.Path.{_≡_, refl, sym, ap, _∙_, subst}
 use mathlib.Core.List.{List}
 use Prim.Native.Nat.{ℕ, _+_, _-_, _<_, _≤_, zero-le}
@@ -13,7 +11,7 @@ use borrow.Author.Count.{falls}
 use Rattle.rewriting.proofs.copy_in.Statement.{statement}
 use Rattle.rewriting.proofs.copy_in.Tie as tie
 
--- src is the list of bytes that `src` refers to, and at is the parameter; dst₀ is what `dst` refers to where the loop begins; dst, j and o are the values at the head of the loop
+-- `o` is `at + j`, and `dst` is what it was, with the first j bytes of `src` from `at` on
 Inv-loop : tie.InvT-loop
 Inv-loop src dst₀ at j₀ o₀ dst j o = (o ≡ at + j) × (dst ≡ paste dst₀ at src j) × (j ≤ length src) × (length dst ≡ length dst₀)
 

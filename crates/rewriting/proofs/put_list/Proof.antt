@@ -113,7 +113,8 @@ put-token-requires c κs =
 
 sub-mark : tie.Need-sub-mark Inv-loop μ-loop
 sub-mark c =
-    let tr = c .before .before .before .before .before .before .before in
+    let c1 = c .before .before .before .before .before .before .before in
+    let tr = c1 in
     let fd = tr .before .before in
     let l = fd .before .before .before in
     let list = l .before .before .before .args .list .now in
@@ -124,7 +125,8 @@ sub-mark c =
 
 part-mark-start : tie.Need-part-mark-start Inv-loop μ-loop
 part-mark-start c =
-    let tr = c .before .before .before .before .before .before .before in
+    let c1 = c .before .before .before .before .before .before .before in
+    let tr = c1 in
     let fd = tr .before .before in
     let l = fd .before .before .before in
     let list = l .before .before .before .args .list .now in
@@ -135,7 +137,8 @@ part-mark-start c =
 
 part-mark-end : tie.Need-part-mark-end Inv-loop μ-loop
 part-mark-end c =
-    let tr = c .before .before .before .before .before .before .before in
+    let c1 = c .before .before .before .before .before .before .before in
+    let tr = c1 in
     let fd = tr .before .before in
     let l = fd .before .before .before in
     let list = l .before .before .before .args .list .now in
@@ -146,7 +149,8 @@ part-mark-end c =
 
 add-i : tie.Need-add-i Inv-loop μ-loop
 add-i c =
-    let tr = c .before .before .before .before .before .before .before .before .before in
+    let c1 = c .before .before .before .before .before .before .before .before .before in
+    let tr = c1 in
     let fd = tr .before .before in
     let l = fd .before .before .before in
     let list = l .before .before .before .args .list .now in
@@ -157,7 +161,8 @@ add-i c =
 
 loop-less : tie.Need-loop-less Inv-loop μ-loop
 loop-less c =
-    let tr = c .before .before .before .before .before .before .before .before .before in
+    let c1 = c .before .before .before .before .before .before .before .before .before in
+    let tr = c1 in
     let fd = tr .before .before in
     let l = fd .before .before .before in
     let list = l .before .before .before .args .list .now in
@@ -168,7 +173,9 @@ loop-less c =
 
 loop-again : tie.Need-loop-again Inv-loop μ-loop
 loop-again c =
-    let tr = c .before .before .before .before .before .before .before .before .before in
+    let c1 = c .before .before .before .before in
+    let c2 = c1 .before .before .before .before .before in
+    let tr = c2 in
     let fd = tr .before .before in
     let l = fd .before .before .before in
     let list = l .before .before .before .args .list .now in
@@ -177,11 +184,12 @@ loop-again c =
     let t = token-at list i k (tr .trim .result) (omega arith) (fd .find .ensures) (tr .trim .ensures) in
     let f = i + tr .trim .result .from in
     let g = f + tr .trim .result .len in
-    let w = c .before .before .before .before .put-token .ensures in
+    let w = c1 .put-token .ensures in
     let x = token-long (l .loop .some) (bytesOf list f g) in (
       omega (arith, t .near),
       omega (arith, w .next, x, t .near, t .part, t .long),
-      rw (c .mark .ensures) (going-next k f g _ _ (l .loop .inv .2) (omega arith) (omega arith) (fd .find .ensures) (t .part) w),
+      rw (c .mark .ensures)
+          (going-next k f g _ _ (l .loop .inv .2) (omega arith) (omega arith) (fd .find .ensures) (t .part) w),
     )
 
 same-length : tie.Need-same-length Inv-loop μ-loop

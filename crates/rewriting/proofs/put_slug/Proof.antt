@@ -36,11 +36,13 @@ put-requires c κs =
 
 returns-2 : tie.Need-returns-2
 returns-2 c =
-    let w = c .before .before .before .before .before .before in
+    let c1 = c .before .before in
+    let c2 = c1 .before .before .before .before in
+    let w = c2 in
     let dm = w .before .before in
     let o = dm .before .before in
     let i = slug-is (o .before .before .args .d) (omega arith) (o .domain-of .ensures) (dm .domain .given .1) (w .domain-slug .ensures) in
-    rw (i .word) (c .before .before .put .ensures)
+    rw (i .word) (c1 .put .ensures)
 
 pub put-slug-spec : {M : Type 1} → statement M
 put-slug-spec =

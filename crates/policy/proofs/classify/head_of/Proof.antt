@@ -21,59 +21,93 @@ returns-2 c =
 returns-3 : tie.Need-returns-3
 unfolding judged passes heads
 returns-3 c =
-    let e3 = sym (c .before .equal3 .ensures) ∙ c .if3 .taken in
-    let e2 = sym (c .before .before .before .before .equal2 .ensures) ∙ c .before .before .before .if2 .left in
-    let e1 = sym (c .before .before .before .before .before .before .before .equal .ensures)
-    ∙ c .before .before .before .before .before .before .if1 .left in
+    let c1 = c .before in
+    let c2 = c1 .before .before in
+    let c3 = c2 .before in
+    let c4 = c3 .before .before in
+    let c5 = c4 .before in
+    let e3 = sym (c1 .equal3 .ensures) ∙ c .if3 .taken in
+    let e2 = sym (c3 .equal2 .ensures) ∙ c2 .if2 .left in
+    let e1 = sym (c5 .equal .ensures) ∙ c4 .if1 .left in
     rw (e1, e2, e3)
 
 returns-4 : tie.Need-returns-4
 unfolding judged passes heads
 returns-4 c =
-    let e4 = sym (c .before .equal4 .ensures) ∙ c .if4 .taken in
-    let e3 = sym (c .before .before .before .before .equal3 .ensures) ∙ c .before .before .before .if3 .left in
-    let e2 = sym (c .before .before .before .before .before .before .before .equal2 .ensures)
-    ∙ c .before .before .before .before .before .before .if2 .left in
-    let e1 = sym (c .before .before .before .before .before .before .before .before .before .before .equal .ensures)
-    ∙ c .before .before .before .before .before .before .before .before .before .if1 .left in
+    let c1 = c .before in
+    let c2 = c1 .before .before in
+    let c3 = c2 .before in
+    let c4 = c3 .before .before in
+    let c5 = c4 .before in
+    let c6 = c5 .before .before in
+    let c7 = c6 .before in
+    let e4 = sym (c1 .equal4 .ensures) ∙ c .if4 .taken in
+    let e3 = sym (c3 .equal3 .ensures) ∙ c2 .if3 .left in
+    let e2 = sym (c5 .equal2 .ensures) ∙ c4 .if2 .left in
+    let e1 = sym (c7 .equal .ensures) ∙ c6 .if1 .left in
     rw (e1, e2, e3, e4)
 
 returns-5 : tie.Need-returns-5
 unfolding judged passes heads
 returns-5 c =
-    let e5 = sym (c .before .equal5 .ensures) ∙ c .if5 .taken in
-    let e4 = sym (c .before .before .before .before .equal4 .ensures) ∙ c .before .before .before .if4 .left in
-    let e3 = sym (c .before .before .before .before .before .before .before .equal3 .ensures)
-    ∙ c .before .before .before .before .before .before .if3 .left in
-    let e2 = sym (c .before .before .before .before .before .before .before .before .before .before .equal2 .ensures)
-    ∙ c .before .before .before .before .before .before .before .before .before .if2 .left in
-    let e1 = sym (c .before .before .before .before .before .before .before .before .before .before .before .before .before .equal .ensures) ∙ c .before .before .before .before .before .before .before .before .before .before .before .before .if1 .left in
+    let c1 = c .before in
+    let c2 = c1 .before .before in
+    let c3 = c2 .before in
+    let c4 = c3 .before .before in
+    let c5 = c4 .before in
+    let c6 = c5 .before .before in
+    let c7 = c6 .before in
+    let c8 = c7 .before .before in
+    let c9 = c8 .before in
+    let e5 = sym (c1 .equal5 .ensures) ∙ c .if5 .taken in
+    let e4 = sym (c3 .equal4 .ensures) ∙ c2 .if4 .left in
+    let e3 = sym (c5 .equal3 .ensures) ∙ c4 .if3 .left in
+    let e2 = sym (c7 .equal2 .ensures) ∙ c6 .if2 .left in
+    let e1 = sym (c9 .equal .ensures) ∙ c8 .if1 .left in
     rw (e1, e2, e3, e4, e5)
 
 returns-6 : tie.Need-returns-6
 unfolding judged passes heads
 returns-6 c =
-    let e6 = sym (c .before .equal6 .ensures) ∙ c .if6 .taken in
-    let e5 = sym (c .before .before .before .before .equal5 .ensures) ∙ c .before .before .before .if5 .left in
-    let e4 = sym (c .before .before .before .before .before .before .before .equal4 .ensures)
-    ∙ c .before .before .before .before .before .before .if4 .left in
-    let e3 = sym (c .before .before .before .before .before .before .before .before .before .before .equal3 .ensures)
-    ∙ c .before .before .before .before .before .before .before .before .before .if3 .left in
-    let e2 = sym (c .before .before .before .before .before .before .before .before .before .before .before .before .before .equal2 .ensures) ∙ c .before .before .before .before .before .before .before .before .before .before .before .before .if2 .left in
-    let e1 = sym (c .before .before .before .before .before .before .before .before .before .before .before .before .before .before .before .before .equal .ensures) ∙ c .before .before .before .before .before .before .before .before .before .before .before .before .before .before .before .if1 .left in
+    let c1 = c .before in
+    let c2 = c1 .before .before in
+    let c3 = c2 .before in
+    let c4 = c3 .before .before in
+    let c5 = c4 .before in
+    let c6 = c5 .before .before in
+    let c7 = c6 .before in
+    let c8 = c7 .before .before in
+    let c9 = c8 .before in
+    let c10 = c9 .before .before in
+    let c11 = c10 .before in
+    let e6 = sym (c1 .equal6 .ensures) ∙ c .if6 .taken in
+    let e5 = sym (c3 .equal5 .ensures) ∙ c2 .if5 .left in
+    let e4 = sym (c5 .equal4 .ensures) ∙ c4 .if4 .left in
+    let e3 = sym (c7 .equal3 .ensures) ∙ c6 .if3 .left in
+    let e2 = sym (c9 .equal2 .ensures) ∙ c8 .if2 .left in
+    let e1 = sym (c11 .equal .ensures) ∙ c10 .if1 .left in
     rw (e1, e2, e3, e4, e5, e6)
 
 returns-7 : tie.Need-returns-7
 unfolding judged passes heads
 returns-7 c =
-    let e6 = sym (c .before .equal6 .ensures) ∙ c .if6 .left in
-    let e5 = sym (c .before .before .before .before .equal5 .ensures) ∙ c .before .before .before .if5 .left in
-    let e4 = sym (c .before .before .before .before .before .before .before .equal4 .ensures)
-    ∙ c .before .before .before .before .before .before .if4 .left in
-    let e3 = sym (c .before .before .before .before .before .before .before .before .before .before .equal3 .ensures)
-    ∙ c .before .before .before .before .before .before .before .before .before .if3 .left in
-    let e2 = sym (c .before .before .before .before .before .before .before .before .before .before .before .before .before .equal2 .ensures) ∙ c .before .before .before .before .before .before .before .before .before .before .before .before .if2 .left in
-    let e1 = sym (c .before .before .before .before .before .before .before .before .before .before .before .before .before .before .before .before .equal .ensures) ∙ c .before .before .before .before .before .before .before .before .before .before .before .before .before .before .before .if1 .left in
+    let c1 = c .before in
+    let c2 = c1 .before .before in
+    let c3 = c2 .before in
+    let c4 = c3 .before .before in
+    let c5 = c4 .before in
+    let c6 = c5 .before .before in
+    let c7 = c6 .before in
+    let c8 = c7 .before .before in
+    let c9 = c8 .before in
+    let c10 = c9 .before .before in
+    let c11 = c10 .before in
+    let e6 = sym (c1 .equal6 .ensures) ∙ c .if6 .left in
+    let e5 = sym (c3 .equal5 .ensures) ∙ c2 .if5 .left in
+    let e4 = sym (c5 .equal4 .ensures) ∙ c4 .if4 .left in
+    let e3 = sym (c7 .equal3 .ensures) ∙ c6 .if3 .left in
+    let e2 = sym (c9 .equal2 .ensures) ∙ c8 .if2 .left in
+    let e1 = sym (c11 .equal .ensures) ∙ c10 .if1 .left in
     rw (e1, e2, e3, e4, e5, e6)
 
 pub head-of-spec : {M : Type 1} → statement M

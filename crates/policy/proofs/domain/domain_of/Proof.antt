@@ -1,3 +1,4 @@
+-- `domain_of` meets its contract. Assumes nothing.
 use Rattle.policy.specs.Domain.{numbered}
 use Rattle.policy.proofs.DomainLaws.{numbered-past}
 use Rattle.policy.proofs.domain.domain_of.Statement.{statement}

@@ -1,3 +1,4 @@
+-- `domain_slug` meets its contract. Assumes nothing.
 use borrow.Author.Needs.{needs}
 use Rattle.refusal.specs.Slug.{slugOf, padded}
 use Rattle.policy.specs.Domain.{slug, slugs}

@@ -1,3 +1,4 @@
+-- `test_policy` meets its contract. Assumes nothing.
 use borrow.Author.Needs.{needs}
 use Rattle.policy.proofs.EightLaws.{test-text, test-range, test-good}
 use Rattle.policy.proofs.ranges.test_policy.Statement.{statement}

@@ -14,19 +14,25 @@ returns c =
 
 returns-2 : tie.Need-returns-2
 returns-2 c =
-    let t = c .before .before .before .before .before .before .before .before in
+    let c1 = c .before in
+    let c2 = c1 .before .before .before in
+    let c3 = c2 .before in
+    let c4 = c3 .before .before .before in
+    let t = c4 in
     let a = t .before .before .args in
     preset-deny (a .s .now) (a .a) (a .e) (t .trimmed-at .result .from) (t .trimmed-at .result .past) (t .trimmed-at .ensures)
-    (sym (c .before .before .before .before .before .equal .ensures) ∙ c .before .before .before .before .if1 .left)
-    (sym (c .before .equal2 .ensures) ∙ c .if2 .taken)
+    (sym (c3 .equal .ensures) ∙ c2 .if1 .left) (sym (c1 .equal2 .ensures) ∙ c .if2 .taken)
 
 returns-3 : tie.Need-returns-3
 returns-3 c =
-    let t = c .before .before .before .before .before .before .before .before in
+    let c1 = c .before in
+    let c2 = c1 .before .before .before in
+    let c3 = c2 .before in
+    let c4 = c3 .before .before .before in
+    let t = c4 in
     let a = t .before .before .args in
     preset-bad (a .s .now) (a .a) (a .e) (t .trimmed-at .result .from) (t .trimmed-at .result .past) (t .trimmed-at .ensures)
-    (sym (c .before .before .before .before .before .equal .ensures) ∙ c .before .before .before .before .if1 .left)
-    (sym (c .before .equal2 .ensures) ∙ c .if2 .left)
+    (sym (c3 .equal .ensures) ∙ c2 .if1 .left) (sym (c1 .equal2 .ensures) ∙ c .if2 .left)
 
 pub preset-at-spec : {M : Type 1} → statement M
 preset-at-spec =

@@ -33,14 +33,16 @@ returns c =
 
 returns-2 : tie.Need-returns-2
 returns-2 c =
-    let f = c .before .before .before .before .before .before in
+    let c1 = c .before .before in
+    let c2 = c1 .before .before in
+    let c3 = c2 .before .before in
+    let f = c3 in
     let a = f .before .before .before .args in
     let s = a .s .now in
     let i = f .find .result in
     let q = ruled-far s (a .a) (a .e) i (omega arith) (omega arith) (f .find .ensures) (a .t) (omega arith) in
     let d = domainOf (trim (piece s (a .a) (a .a + i)) .bytes) in
-    let n = sym (c .before .before .before .before .domain-at .ensures) ∙ ap found (c .before .before .d .given .1)
-    ∙ ap just (sym (c .domain-number .ensures)) in
+    let n = sym (c2 .domain-at .ensures) ∙ ap found (c1 .d .given .1) ∙ ap just (sym (c .domain-number .ensures)) in
     listed-right s (a .a) (a .e) (a .t) d (c .domain-number .result) (a .a + i + 1) (omega arith) n ∙ sym (ap ranged q)
 
 returns-3 : tie.Need-returns-3
@@ -56,14 +58,16 @@ returns-3 c =
 
 returns-4 : tie.Need-returns-4
 returns-4 c =
-    let f = c .before .before .before .before .before .before in
+    let c1 = c .before .before in
+    let c2 = c1 .before .before in
+    let c3 = c2 .before .before in
+    let f = c3 in
     let a = f .before .before .before .args in
     let s = a .s .now in
     let i = f .find .result in
     let q = ruled-near s (a .a) (a .e) i (omega arith) (omega arith) (f .find .ensures) (a .t) (omega arith) in
     let d = domainOf (trim (piece s (a .a) (a .e)) .bytes) in
-    let n = sym (c .before .before .before .before .domain-at2 .ensures) ∙ ap found (c .before .before .d2 .given .1)
-    ∙ ap just (sym (c .domain-number2 .ensures)) in
+    let n = sym (c2 .domain-at2 .ensures) ∙ ap found (c1 .d2 .given .1) ∙ ap just (sym (c .domain-number2 .ensures)) in
     plain-right s (a .a) (a .e) (a .t) d (c .domain-number2 .result) n ∙ sym (ap ranged q)
 
 pub ruled-at-spec : {M : Type 1} → statement M

@@ -1,3 +1,4 @@
+-- `trimmed_at` meets its contract. Assumes nothing.
 use native.Mathlib.Omega.{arith}
 use borrow.Author.Needs.{needs}
 use Rattle.policy.proofs.Pieces.{trim-is}

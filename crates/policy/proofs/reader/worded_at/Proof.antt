@@ -15,73 +15,115 @@ called-at-requires c κs =
 
 returns : tie.Need-returns
 returns c =
-    let a = c .before .before .before .before .before .before .args in
-    let e1 = sym (c .before .before .starts .ensures) ∙ c .before .if1 .taken in
+    let c1 = c .before in
+    let c2 = c1 .before in
+    let c3 = c2 .before .before .before .before in
+    let a = c3 .args in
+    let e1 = sym (c2 .starts .ensures) ∙ c1 .if1 .taken in
     c .called-at .ensures ∙ sym (worded-name (a .s .now) (a .a) (a .e) e1)
 
 preset-at-requires : tie.Need-preset-at-requires
 preset-at-requires c κs =
-    let a = c .before .before .before .before .before .before .before .before .before .args in
-    let e1 = sym (c .before .before .before .before .before .starts .ensures) ∙ c .before .before .before .before .if1 .left in
-    let e2 = sym (c .before .starts2 .ensures) ∙ c .if2 .taken in
+    let c1 = c .before in
+    let c2 = c1 .before .before .before in
+    let c3 = c2 .before in
+    let c4 = c3 .before .before .before .before in
+    let a = c4 .args in
+    let e1 = sym (c3 .starts .ensures) ∙ c2 .if1 .left in
+    let e2 = sym (c1 .starts2 .ensures) ∙ c .if2 .taken in
     omega (arith, word-fits (a .s .now) (a .a) (a .e) defaultW (omega arith) e2)
 
 returns-2 : tie.Need-returns-2
 returns-2 c =
-    let a = c .before .before .before .before .before .before .before .before .before .before .args in
-    let e1 = sym (c .before .before .before .before .before .before .starts .ensures)
-    ∙ c .before .before .before .before .before .if1 .left in
-    let e2 = sym (c .before .before .starts2 .ensures) ∙ c .before .if2 .taken in
+    let c1 = c .before in
+    let c2 = c1 .before in
+    let c3 = c2 .before .before .before in
+    let c4 = c3 .before in
+    let c5 = c4 .before .before .before .before in
+    let a = c5 .args in
+    let e1 = sym (c4 .starts .ensures) ∙ c3 .if1 .left in
+    let e2 = sym (c2 .starts2 .ensures) ∙ c1 .if2 .taken in
     c .preset-at .ensures ∙ sym (worded-default (a .s .now) (a .a) (a .e) e1 e2)
 
 ruled-at-requires : tie.Need-ruled-at-requires
 ruled-at-requires c κs =
-    let a = c .before .before .before .before .before .before .before .before .before .before .before .before .before .args in
-    let e1 = sym (c .before .before .before .before .before .before .before .before .before .starts .ensures)
-    ∙ c .before .before .before .before .before .before .before .before .if1 .left in
-    let e2 = sym (c .before .before .before .before .before .starts2 .ensures) ∙ c .before .before .before .before .if2 .left in
-    let e3 = sym (c .before .starts3 .ensures) ∙ c .if3 .taken in
+    let c1 = c .before in
+    let c2 = c1 .before .before .before in
+    let c3 = c2 .before in
+    let c4 = c3 .before .before .before in
+    let c5 = c4 .before in
+    let c6 = c5 .before .before .before .before in
+    let a = c6 .args in
+    let e1 = sym (c5 .starts .ensures) ∙ c4 .if1 .left in
+    let e2 = sym (c3 .starts2 .ensures) ∙ c2 .if2 .left in
+    let e3 = sym (c1 .starts3 .ensures) ∙ c .if3 .taken in
     omega (arith, word-fits (a .s .now) (a .a) (a .e) allowW (omega arith) e3)
 
 returns-3 : tie.Need-returns-3
 returns-3 c =
-    let a = c .before .before .before .before .before .before .before .before .before .before .before .before .before .before .args in
-    let e1 = sym (c .before .before .before .before .before .before .before .before .before .before .starts .ensures)
-    ∙ c .before .before .before .before .before .before .before .before .before .if1 .left in
-    let e2 = sym (c .before .before .before .before .before .before .starts2 .ensures)
-    ∙ c .before .before .before .before .before .if2 .left in
-    let e3 = sym (c .before .before .starts3 .ensures) ∙ c .before .if3 .taken in
+    let c1 = c .before in
+    let c2 = c1 .before in
+    let c3 = c2 .before .before .before in
+    let c4 = c3 .before in
+    let c5 = c4 .before .before .before in
+    let c6 = c5 .before in
+    let c7 = c6 .before .before .before .before in
+    let a = c7 .args in
+    let e1 = sym (c6 .starts .ensures) ∙ c5 .if1 .left in
+    let e2 = sym (c4 .starts2 .ensures) ∙ c3 .if2 .left in
+    let e3 = sym (c2 .starts3 .ensures) ∙ c1 .if3 .taken in
     c .ruled-at .ensures ∙ sym (worded-allow (a .s .now) (a .a) (a .e) e1 e2 e3)
 
 ruled-at-requires-2 : tie.Need-ruled-at-requires-2
 ruled-at-requires-2 c κs =
-    let a = c .before .before .before .before .before .before .before .before .before .before .before .before .before .before .before .before .before .args in
-    let e1 = sym (c .before .before .before .before .before .before .before .before .before .before .before .before .before .starts .ensures) ∙ c .before .before .before .before .before .before .before .before .before .before .before .before .if1 .left in
-    let e2 = sym (c .before .before .before .before .before .before .before .before .before .starts2 .ensures)
-    ∙ c .before .before .before .before .before .before .before .before .if2 .left in
-    let e3 = sym (c .before .before .before .before .before .starts3 .ensures) ∙ c .before .before .before .before .if3 .left in
-    let e4 = sym (c .before .starts4 .ensures) ∙ c .if4 .taken in
+    let c1 = c .before in
+    let c2 = c1 .before .before .before in
+    let c3 = c2 .before in
+    let c4 = c3 .before .before .before in
+    let c5 = c4 .before in
+    let c6 = c5 .before .before .before in
+    let c7 = c6 .before in
+    let c8 = c7 .before .before .before .before in
+    let a = c8 .args in
+    let e1 = sym (c7 .starts .ensures) ∙ c6 .if1 .left in
+    let e2 = sym (c5 .starts2 .ensures) ∙ c4 .if2 .left in
+    let e3 = sym (c3 .starts3 .ensures) ∙ c2 .if3 .left in
+    let e4 = sym (c1 .starts4 .ensures) ∙ c .if4 .taken in
     omega (arith, word-fits (a .s .now) (a .a) (a .e) denyW (omega arith) e4)
 
 returns-4 : tie.Need-returns-4
 returns-4 c =
-    let a = c .before .before .before .before .before .before .before .before .before .before .before .before .before .before .before .before .before .before .args in
-    let e1 = sym (c .before .before .before .before .before .before .before .before .before .before .before .before .before .before .starts .ensures) ∙ c .before .before .before .before .before .before .before .before .before .before .before .before .before .if1 .left in
-    let e2 = sym (c .before .before .before .before .before .before .before .before .before .before .starts2 .ensures)
-    ∙ c .before .before .before .before .before .before .before .before .before .if2 .left in
-    let e3 = sym (c .before .before .before .before .before .before .starts3 .ensures)
-    ∙ c .before .before .before .before .before .if3 .left in
-    let e4 = sym (c .before .before .starts4 .ensures) ∙ c .before .if4 .taken in
+    let c1 = c .before in
+    let c2 = c1 .before in
+    let c3 = c2 .before .before .before in
+    let c4 = c3 .before in
+    let c5 = c4 .before .before .before in
+    let c6 = c5 .before in
+    let c7 = c6 .before .before .before in
+    let c8 = c7 .before in
+    let c9 = c8 .before .before .before .before in
+    let a = c9 .args in
+    let e1 = sym (c8 .starts .ensures) ∙ c7 .if1 .left in
+    let e2 = sym (c6 .starts2 .ensures) ∙ c5 .if2 .left in
+    let e3 = sym (c4 .starts3 .ensures) ∙ c3 .if3 .left in
+    let e4 = sym (c2 .starts4 .ensures) ∙ c1 .if4 .taken in
     c .ruled-at2 .ensures ∙ sym (worded-deny (a .s .now) (a .a) (a .e) e1 e2 e3 e4)
 
 returns-5 : tie.Need-returns-5
 returns-5 c =
-    let a = c .before .before .before .before .before .before .before .before .before .before .before .before .before .before .before .before .before .args in
-    let e1 = sym (c .before .before .before .before .before .before .before .before .before .before .before .before .before .starts .ensures) ∙ c .before .before .before .before .before .before .before .before .before .before .before .before .if1 .left in
-    let e2 = sym (c .before .before .before .before .before .before .before .before .before .starts2 .ensures)
-    ∙ c .before .before .before .before .before .before .before .before .if2 .left in
-    let e3 = sym (c .before .before .before .before .before .starts3 .ensures) ∙ c .before .before .before .before .if3 .left in
-    let e4 = sym (c .before .starts4 .ensures) ∙ c .if4 .left in
+    let c1 = c .before in
+    let c2 = c1 .before .before .before in
+    let c3 = c2 .before in
+    let c4 = c3 .before .before .before in
+    let c5 = c4 .before in
+    let c6 = c5 .before .before .before in
+    let c7 = c6 .before in
+    let c8 = c7 .before .before .before .before in
+    let a = c8 .args in
+    let e1 = sym (c7 .starts .ensures) ∙ c6 .if1 .left in
+    let e2 = sym (c5 .starts2 .ensures) ∙ c4 .if2 .left in
+    let e3 = sym (c3 .starts3 .ensures) ∙ c2 .if3 .left in
+    let e4 = sym (c1 .starts4 .ensures) ∙ c .if4 .left in
     sym (worded-wrong (a .s .now) (a .a) (a .e) e1 e2 e3 e4)
 
 pub worded-at-spec : {M : Type 1} → statement M

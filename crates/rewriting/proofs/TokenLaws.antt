@@ -1,0 +1,147 @@
+-- The tokens of a list, one after another. Assumes nothing.
+use mathlib.Core.Path.{_≡_, refl, sym, ap, _∙_}
+use mathlib.Core.Bool.{Bool, true, false}
+use mathlib.Core.List.{List, [], _∷_}
+use Prim.Native.Nat.{ℕ, zero, suc, _+_, _-_, _≤_, _<_}
+use native.Mathlib.Omega.{arith}
+use native.Mathlib.Nat.{add-zero, suc-add, add-suc}
+use native.Mathlib.Numerals.{add-one}
+use lib.Dec.{ltb}
+use lib.ListN.{length, take, drop}
+use borrow.Author.Tests.{eq-eqb, ne-eqb, lt-ltb, le-ltb, ltb-true, ltb-false}
+use Rattle.refusal.specs.Pick.{pick}
+use Rattle.refusal.specs.Said.{Said, accepted, refusedBy, saidAnswer, follow}
+use Rattle.refusal.specs.declared.Answer.{Answer}
+use Rattle.refusal.specs.declared.Part.{Part}
+use Rattle.refusal.specs.declared.Refusal.{Refusal}
+use Rattle.text.specs.Find.{indexOf}
+use Rattle.text.specs.Trim.{trimmed}
+use Rattle.text.proofs.FindLaws.{index-le}
+use Rattle.policy.specs.Piece.{Piece}
+use Rattle.policy.specs.Heard.{bytesOf}
+use Rattle.policy.specs.Eight.{FitsAll, slotOf, policyTest}
+use Rattle.policy.specs.Domain.{numberOf}
+use Rattle.policy.specs.Evaluate.{effectiveOf}
+use Rattle.policy.specs.declared.domain.Domain.{Domain}
+use Rattle.policy.specs.declared.eval.Rule.{Rule}
+use Rattle.policy.specs.declared.Policy.{Policy}
+use Rattle.policy.specs.declared.Stance.{Stance}
+use Rattle.policy.specs.declared.Stance.the-variants.{None, Allow, Deny}
+use Rattle.policy.proofs.DomainLaws.{number-small}
+use Rattle.policy.proofs.EightLaws.{tested}
+use Rattle.policy.proofs.Pieces.{piece-long, first-piece, beyond-piece, trim-is}
+use Rattle.rewriting.specs.Token.{Found, nothing, token, part, step, tokenFrom, clampTo, tokenIn, nextToken}
+
+-- ---- at the front of a list
+skips : (at k : ℕ) (s : List ℕ) → tokenFrom at k s ≡ tokenFrom (at + k) 0 (drop k s)
+unfolding tokenFrom
+skips at zero s = rw (add-zero at)
+skips at (suc k) [] = refl
+skips at (suc k) (x ∷ s) = skips (suc at) k s ∙ rw (suc-add at k, add-suc at k)
+
+empty-part : (at : ℕ) (s : List ℕ) → 0 < length s → trimmed (part s) .len ≡ 0
+    → tokenFrom at 0 s ≡ tokenFrom (at + (indexOf 44 s + 1)) 0 (drop (indexOf 44 s + 1) s)
+empty-part at [] h e = absurd (omega arith)
+empty-part at (x ∷ s) h e =
+    let i = indexOf 44 (x ∷ s) in
+    let z : tokenFrom at 0 (x ∷ s) ≡ tokenFrom (suc at) i s = unfold tokenFrom in rw (eq-eqb (trimmed (part (x ∷ s)) .len) 0 e) in
+    z ∙ skips (suc at) i s ∙ rw (add-one i, suc-add at i, add-suc at i)
+
+some-part : (at : ℕ) (s : List ℕ) → 0 < length s → (trimmed (part s) .len ≡ 0 → ⊥)
+    → tokenFrom at 0 s ≡ token (at + trimmed (part s) .from) (trimmed (part s) .len) (at + step s)
+unfolding tokenFrom
+some-part at [] h e = absurd (omega arith)
+some-part at (x ∷ s) h e = rw (ne-eqb (trimmed (part (x ∷ s)) .len) 0 e)
+
+-- ---- a turn of the loop: the part at i, and what was found in it
+module _ (s : List ℕ) (i e : ℕ) (more : i < e) (inside : e ≤ length s) (k : ℕ) (at : k ≡ indexOf 44 (bytesOf s i e)) where
+  pub comma-near : i + k ≤ e
+  comma-near = omega (arith, index-le 44 (bytesOf s i e), piece-long s i e inside)
+
+  some : 0 < length (bytesOf s i e)
+  some = omega (arith, piece-long s i e inside)
+
+  part-is : part (bytesOf s i e) ≡ bytesOf s i (i + k)
+  part-is =
+      let z = comma-near in
+      ap (λ (n : ℕ). take n (bytesOf s i e)) (sym at) ∙ ap (λ (p : Piece). p .bytes) (first-piece s i e k (omega arith))
+
+  module _ (t : Part) (found : t ≡ trimmed (bytesOf s i (i + k))) where
+    trims : trimmed (part (bytesOf s i e)) ≡ t
+    trims = ap trimmed part-is ∙ sym found
+
+    pub token-near : i + t .from + t .len ≤ i + k
+    token-near = let z = comma-near in trim-is s i (i + k) t (omega arith) (omega arith) found .high
+
+    pub token-next : t .len ≡ 0 → tokenFrom i 0 (bytesOf s i e) ≡ tokenFrom (i + k + 1) 0 (bytesOf s (i + k + 1) e)
+    token-next z =
+        let a = empty-part i (bytesOf s i e) some (ap (λ (x : Part). x .len) trims ∙ z) in
+        let b : tokenFrom (i + (indexOf 44 (bytesOf s i e) + 1)) 0 (drop (indexOf 44 (bytesOf s i e) + 1) (bytesOf s i e))
+        ≡ tokenFrom (i + (k + 1)) 0 (drop (k + 1) (bytesOf s i e)) =
+        ap (λ (n : ℕ). tokenFrom (i + (n + 1)) 0 (drop (n + 1) (bytesOf s i e))) (sym at) in
+        let d : drop (k + 1) (bytesOf s i e) ≡ bytesOf s (i + (k + 1)) e = ap (λ (p : Piece). p .bytes) (beyond-piece s i e (k + 1)) in
+        let y : i + (k + 1) ≡ i + k + 1 = omega arith in
+        a ∙ b ∙ ap (tokenFrom (i + (k + 1)) 0) d ∙ ap (λ (n : ℕ). tokenFrom n 0 (bytesOf s n e)) y
+
+    stepped : i + step (bytesOf s i e) ≡ pick (ltb (i + k) e) (i + k + 1) e
+    stepped = by (ltb (i + k) e) refl
+      where
+        by : (b : Bool) → ltb (i + k) e ≡ b → i + step (bytesOf s i e) ≡ pick b (i + k + 1) e
+        by true q =
+            let l = piece-long s i e inside in
+            let z = ltb-true (i + k) e q in
+            rw (lt-ltb (indexOf 44 (bytesOf s i e)) (length (bytesOf s i e)) (omega arith)) (omega arith)
+        by false q =
+            let l = piece-long s i e inside in
+            let z = ltb-false (i + k) e q in
+            rw (le-ltb (indexOf 44 (bytesOf s i e)) (length (bytesOf s i e)) (omega arith)) (omega arith)
+
+    pub token-found : (t .len ≡ 0 → ⊥) → {next : ℕ} → next ≡ pick (ltb (i + k) e) (i + k + 1) e
+        → tokenFrom i 0 (bytesOf s i e) ≡ token (i + t .from) (t .len) next
+    token-found z {next} q =
+        some-part i (bytesOf s i e) some (λ y. z (sym (ap (λ (x : Part). x .len) trims) ∙ y))
+        ∙ ap (λ (x : Part). token (i + x .from) (x .len) (i + step (bytesOf s i e))) trims
+        ∙ ap (token (i + t .from) (t .len)) (stepped ∙ sym q)
+
+pub token-none : (s : List ℕ) (i e : ℕ) → e ≤ i → tokenFrom i 0 (bytesOf s i e) ≡ nothing
+unfolding tokenFrom
+token-none s i e h = let z : e - i ≡ 0 = omega arith in rw z
+
+-- ---- the list of a domain
+pub rule-fits : (n : ℕ) (p : Policy) (d : ℕ) → FitsAll n (p .rules) → d < 7 → effectiveOf p d .from + effectiveOf p d .len ≤ n
+rule-fits n p d f h = by (slotOf p d .stance) refl
+  where
+    by : (x : Stance) → slotOf p d .stance ≡ x → effectiveOf p d .from + effectiveOf p d .len ≤ n
+    by None e = unfold effectiveOf in rw (e, effectiveOf) (omega arith)
+    by Allow e = unfold effectiveOf in rw (e, effectiveOf) (f d h)
+    by Deny e = unfold effectiveOf in rw (e, effectiveOf) (f d h)
+
+pub clamp-in : (a e from : ℕ) → a ≤ e → clampTo a e from ≤ e
+clamp-in a e from h = by (ltb from a) (ltb e from) refl
+  where
+    by : (t u : Bool) → ltb e from ≡ u → pick t a (pick u e from) ≤ e
+    by true u q = h
+    by false true q = omega arith
+    by false false q = ltb-false e from q
+
+module _ (s : List ℕ) (p : Policy) (d : Domain) {a : Answer} (said : saidAnswer a ≡ policyTest s p) where
+  pub list-fits : a ≡ Answer.Accepted → {r : Rule} → r ≡ effectiveOf p (numberOf d) → r .from + r .len ≤ length s
+  list-fits e {r} f =
+      let z = tested s p (sym said ∙ ap saidAnswer e) in
+      rw f (rule-fits (length s) p (numberOf d) (z .rules) (number-small d))
+
+  pub token-refused : (from : ℕ) {w : Refusal} → a ≡ Answer.Refused w → refusedBy w ≡ nextToken s p (numberOf d) from
+  unfolding nextToken follow
+  token-refused from {w} e = let z : policyTest s p ≡ refusedBy w = sym said ∙ ap saidAnswer e in rw z
+
+  pub token-given : (from : ℕ) → a ≡ Answer.Accepted → {r : Rule} → r ≡ effectiveOf p (numberOf d)
+      → {at : ℕ} → at ≡ clampTo (r .from) (r .from + r .len) from
+      → {x : Said Found} → x ≡ accepted (tokenFrom at 0 (bytesOf s at (r .from + r .len))) → x ≡ nextToken s p (numberOf d) from
+  unfolding nextToken follow tokenIn
+  token-given from e {r} f {at} c m =
+      let whole : (x : Rule) → Said Found =
+      λ (x : Rule). accepted (tokenIn s (x .from) (x .from + x .len) from) in
+      let z : policyTest s p ≡ accepted tt = sym said ∙ ap saidAnswer e in
+      let y : whole (effectiveOf p (numberOf d)) ≡ nextToken s p (numberOf d) from = rw z in
+      let w : accepted (tokenFrom at 0 (bytesOf s at (r .from + r .len))) ≡ whole r = rw c in
+      m ∙ w ∙ ap whole f ∙ y
