@@ -1,0 +1,2 @@
+-- The definitions at small modules.
+pub mod Examples

@@ -1,0 +1,4 @@
+-- What the comparison of two modules is.
+pub mod View
+pub mod Differences
+pub mod Compared
