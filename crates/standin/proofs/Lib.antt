@@ -3,3 +3,7 @@ pub mod Passing
 pub mod Differ
 pub mod Orders
 pub mod Lowest
+pub mod Views
+pub mod Builds
+pub mod Domains
+pub mod Theorems

@@ -7,14 +7,14 @@ use Prim.Native.Nat.{ℕ, zero, suc, _≤_, _<_}
 use native.Mathlib.Omega.{arith}
 use Rattle.refusal.specs.Pick.{pick}
 use Rattle.text.specs.declared.order.Order.the-variants.{Equal}
-use Rattle.sorting.specs.Sort.{_∈_, keep, upFrom}
+use Rattle.sorting.specs.Sort.{_∈_, sort, keep, upFrom}
 use Rattle.sorting.proofs.Sorts.{tie-self}
 use Rattle.sorting.proofs.Firsts.{Up, sort-lowest}
 use Rattle.sorting.proofs.Ranking.{keep-to, up-to}
 use Rattle.differences.specs.declared.Change.{Change}
 use Rattle.differences.specs.declared.Change.the-variants.{Removed, Added}
-use Rattle.differences.specs.View.{Need, Row, row, View}
-use Rattle.differences.specs.Differences.{Entry, entry, cmpNeed, needOrder, needDiff, hasKey, without, changes}
+use Rattle.differences.specs.View.{Need, Row, row}
+use Rattle.differences.specs.Differences.{Entry, entry, cmpNeed, needOrder, hasKey, without, changes}
 use Rattle.standin.specs.Replacing.{IsChange, IsLowest}
 use Rattle.standin.proofs.Differ.{map-mem, part-mem, apart, changes-mem, mem-changes}
 use Rattle.standin.proofs.Orders.{of-needs}
@@ -83,7 +83,7 @@ module _ (b c : List (Row Need)) (rb : Rising b) (rc : Rising c) where
       apart of-needs (x .row) (f .row) b c (part-mem of-needs Removed x b c i .1) (part-mem of-needs Added f c b j .1)
       (of-needs .ties x f t))
 
-  pub lowest-each : (e : Entry Need) → e ∈ Rattle.sorting.specs.Sort.sort needOrder (changes cmpNeed b c) ↔ (IsChange e b c × IsLowest e b c)
+  pub lowest-each : (e : Entry Need) → e ∈ sort needOrder (changes cmpNeed b c) ↔ (IsChange e b c × IsLowest e b c)
   unfolding at-of needOrder
   lowest-each e =
       let all = sort-lowest needOrder (of-needs .flaws) at-of e (changes cmpNeed b c) rising in (
