@@ -101,7 +101,7 @@ module _ {of : ℕ → ℕ} {good : ℕ → Bool} {n nd nr : ℕ} {domains rows 
       → Fills of (keep good (upFrom 0 n)) before0 domains before1 rows found
   fill-end h p q =
       let e : f .done ≡ keep good (upFrom 0 n) =
-          sym (append-nil (f .done)) ∙ ap (λ (l : List ℕ). f .done ++ l) (sym (keep-end good i n h)) ∙ f .goes-on in
+      sym (append-nil (f .done)) ∙ ap (λ (l : List ℕ). f .done ++ l) (sym (keep-end good i n h)) ∙ f .goes-on in
       record { count = f .count ∙ ap length e; in-domains = rw (← e, ← p) (f .in-domains); in-rows = rw (← e, ← q) (f .in-rows) }
 
 -- ---- what is told of table 7
