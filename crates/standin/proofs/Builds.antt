@@ -1,27 +1,27 @@
 -- What is known of an accepted module: its rows never give 15, and the comparison of two is answered from their lists. Assumes nothing.
 use mathlib.Core.Path.{_≡_, refl, sym, _∙_, ap, subst}
 use mathlib.Core.Bool.{Bool, true, false}
-use mathlib.Core.List.{List, [], _∷_, _++_, map}
-use Prim.Native.Nat.{ℕ, zero, suc, _+_, _*_, _/_, _≤_, _<_}
+use mathlib.Core.List.{List, [], _∷_}
+use Prim.Native.Nat.{ℕ, zero, suc, _+_, _/_, _≤_, _<_}
 use native.Mathlib.Omega.{arith}
 use native.Mathlib.Nat.{min-le-left}
-use lib.Dec.{leb, ltb}
+use lib.Dec.{leb}
 use lib.ListN.{length, getD, length-map}
 use borrow.Author.Tests.{le-leb, le-ltb}
 use Rattle.refusal.specs.Pick.{pick, both}
-use Rattle.refusal.specs.Said.{Said, accepted, refused, follow}
+use Rattle.refusal.specs.Said.{Said, accepted, follow}
 use Rattle.refusal.proofs.Following.{Followed, followed, follow-goes}
 use Rattle.table.specs.Table.{laid, cells, cellOf, capacityOf}
 use Rattle.table.specs.Testing.{firstFrom, tested}
 use Rattle.table.proofs.Cells.{row-starts, capacity-limit}
-use Rattle.table.proofs.Giving.{Each, no-row, row}
+use Rattle.table.proofs.Giving.{Each, row}
 use Rattle.table.proofs.Laws.{length-laid, length-cells, cell-laid}
 use Rattle.table.proofs.Testing.{tested-rows}
 use Rattle.leb.specs.Reads.{part}
 use Rattle.wasm.specs.declared.Module.{Module}
 use Rattle.wasm.specs.Shapes.{Import, Export, func}
 use Rattle.wasm.specs.Rows.{importCells, exportCells}
-use Rattle.wasm.specs.Module.{Sizes, Tables, Parsed, moduleAt, moduleOf, countsOf, tablesOf, Holds}
+use Rattle.wasm.specs.Module.{Tables, Parsed, moduleAt, moduleOf, countsOf, tablesOf, Holds}
 use Rattle.conform.specs.Sound.{ImportOk, ExportOk, ModuleOk}
 use Rattle.conform.proofs.Sound.{rows-sound}
 use Rattle.conform.proofs.Exactly.{only-these}
@@ -31,6 +31,7 @@ use Rattle.differences.specs.View.{exportAt, needAt}
 use Rattle.differences.specs.View.{row as rowOf}
 use Rattle.differences.specs.Compared.{exportFits, exportBad, exportsTested, tablesTested, lists, roomed, compared}
 use Rattle.standin.specs.Builds.{Build, handed, view}
+use Rattle.standin.proofs.Passing.{one-value}
 use Rattle.standin.proofs.Views.{keep-length}
 
 -- ---- tables whose rows are all good
@@ -136,21 +137,18 @@ module _ (b : Build) where
   sound : ModuleOk (b .file) (b .sizes) (read .what)
   sound = rows-sound (b .file) (b .sizes) (read .what) (b .bytes) (read .first)
 
-  short : length (b .file) ≤ 16777216
+  pub short : length (b .file) ≤ 16777216
   short = only-these (b .file) (b .sizes) (read .what) (b .bytes) (read .first) .short
-
-  same : {X : Type 0} {v w : X} → accepted v ≡ accepted w → v ≡ w
-  same e = cc
 
   import-count : b .answer .imports ≡ length (parsed .imports)
   unfolding parsed moduleOf countsOf
-  import-count = ap (λ (m : Module). m .imports) (sym (same (read .then)))
+  import-count = ap (λ (m : Module). m .imports) (sym (one-value (read .then)))
 
   export-count : b .answer .exports ≡ length (parsed .exports)
   unfolding parsed moduleOf countsOf
-  export-count = ap (λ (m : Module). m .exports) (sym (same (read .then)))
+  export-count = ap (λ (m : Module). m .exports) (sym (one-value (read .then)))
 
-  imports-tested : importsTested (length (b .file)) (b .tables .imports) (b .answer .imports) ≡ accepted tt
+  pub imports-tested : importsTested (length (b .file)) (b .tables .imports) (b .answer .imports) ≡ accepted tt
   unfolding parsed
   imports-tested =
       ap (λ (t : List ℕ). importsTested (length (b .file)) t (b .answer .imports)) (holds .imports-are)
@@ -178,12 +176,18 @@ module _ (b : Build) where
   unfolding parsed
   few-exports = omega (arith, export-count, sound .rows-ok .exports-few, capacity-limit (b .sizes .exports) 4 1024)
 
-up-length : (i n : ℕ) → length (upFrom i n) ≡ n
+pub up-length : (i n : ℕ) → length (upFrom i n) ≡ n
 up-length i zero = refl
 up-length i (suc n) = ap suc (up-length (suc i) n)
 
 pub view-exports : (b : Build) → length (view b .exports) ≤ 1024
-view-exports b = omega (arith, few-exports b, up-length 0 (b .answer .exports), length-map (upFrom 0 (b .answer .exports)) (rowOf (exportAt (b .file) (b .tables .exports))))
+view-exports b =
+    omega (
+      arith,
+      few-exports b,
+      up-length 0 (b .answer .exports),
+      length-map (upFrom 0 (b .answer .exports)) (rowOf (exportAt (b .file) (b .tables .exports))),
+    )
 
 pub view-needs : (b : Build) → length (view b .needs) ≤ 1024
 view-needs b =
@@ -197,7 +201,8 @@ view-needs b =
     )
 
 -- the comparison of two builds: the lists, where there is room for them
-pub compared-is : (b c : Build) (room8 room9 : ℕ) → compared (handed b) (handed c) room8 room9 ≡ roomed room8 room9 (lists (view b) (view c))
+pub compared-is : (b c : Build) (room8 room9 : ℕ)
+    → compared (handed b) (handed c) room8 room9 ≡ roomed room8 room9 (lists (view b) (view c))
 unfolding compared follow
 compared-is b c room8 room9 =
     rw (le-ltb 16777216 (length (b .file)) (short b), le-ltb 16777216 (length (c .file)) (short c), tables-tested b, tables-tested c)

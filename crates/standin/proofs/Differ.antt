@@ -26,7 +26,9 @@ mem-map f x (y ∷ l) m = ⊎-elim (λ p. List·Memᴰ·head (ap f p)) (λ t. Li
 
 pub map-mem : {A B : Type 0} (f : A → B) (y : B) (l : List A) → y ∈ map f l → (x : A) × (x ∈ l) × (y ≡ f x)
 map-mem f y [] m = absurd (List·Memᴰ·not-nil m)
-map-mem f y (a ∷ l) m = ⊎-elim (λ p. (a, List·Memᴰ·head refl, p)) (λ t. let s = map-mem f y l t in (s .0, List·Memᴰ·tail (s .1), s .2)) (List·Memᴰ·cases-cons m)
+map-mem f y (a ∷ l) m =
+    ⊎-elim (λ p. (a, List·Memᴰ·head refl, p)) (λ t. let s = map-mem f y l t in (s .0, List·Memᴰ·tail (s .1), s .2))
+    (List·Memᴰ·cases-cons m)
 
 no-tie-of : {A : Type 0} (cmp : A → A → Order) (y : A) (l : List A) → ((x : A) → x ∈ l → cmp y x ≡ Equal → ⊥) → NoTie cmp y l
 no-tie-of cmp y [] n = tt
@@ -87,7 +89,8 @@ module _ {K : Type 0} where
   pub reports-turned : (c : Change) (k : K) (d : List (Entry K)) → Reports c k d → Reports (other c) k (map turned d)
   reports-turned c k d r = (turned (r .0), mem-map turned (r .0) d (r .1), ap other (r .2), r .3)
 
--- a comparison of keys and an order of entries that serve: both lawful, only equal keys tie, and the order goes by the key and not by the change
+-- a comparison of keys and an order of entries that serve: both lawful, only equal keys tie, and the order goes by the key and not by
+-- the change
 pub record Keyed {K : Type 0} (cmp : K → K → Order) (fine : Entry K → Entry K → Order) : Type 0 where
   pub laws : Lawful cmp
   pub exact : (x y : K) → cmp x y ≡ Equal → x ≡ y
@@ -111,7 +114,8 @@ module _ {K : Type 0} {cmp : K → K → Order} {fine : Entry K → Entry K → 
   mem-hasKey k [] m = absurd (List·Memᴰ·not-nil m)
   mem-hasKey k (r ∷ l) m = go (List·Memᴰ·cases-cons m) (mem-hasKey k l) (ties (cmp k (r .key))) refl
     where
-      go : (k ≡ r .key) ⊎ (k ∈ keys l) → (k ∈ keys l → hasKey cmp k l ≡ true) → (b : Bool) → ties (cmp k (r .key)) ≡ b → (b || hasKey cmp k l) ≡ true
+      go : (k ≡ r .key) ⊎ (k ∈ keys l) → (k ∈ keys l → hasKey cmp k l ≡ true) → (b : Bool) → ties (cmp k (r .key)) ≡ b
+          → (b || hasKey cmp k l) ≡ true
       go i ih true e = refl
       go (inl p) ih false e = absurd (true≢false (ap ties (sym (tie-self cmp (o .laws) k) ∙ ap (cmp k) p) ∙ e))
       go (inr t) ih false e = ih t
@@ -145,10 +149,12 @@ module _ {K : Type 0} {cmp : K → K → Order} {fine : Entry K → Entry K → 
   pub mem-changes : (e : Entry K) (b c : List (Row K)) → IsChange e b c → e ∈ changes cmp b c
   mem-changes e b c (inl u) =
       Memᴰ·append-left (map (entry Added) (without cmp c b))
-      (Memᴰ·cast (λ i. record { change = u .0 i; row = e .row }) (mem-map (entry Removed) (e .row) (without cmp b c) (mem-without (e .row) b c (u .1))))
+      (Memᴰ·cast (λ i. record { change = u .0 i; row = e .row })
+      (mem-map (entry Removed) (e .row) (without cmp b c) (mem-without (e .row) b c (u .1))))
   mem-changes e b c (inr u) =
       Memᴰ·append-right (map (entry Removed) (without cmp b c))
-      (Memᴰ·cast (λ i. record { change = u .0 i; row = e .row }) (mem-map (entry Added) (e .row) (without cmp c b) (mem-without (e .row) c b (u .1))))
+      (Memᴰ·cast (λ i. record { change = u .0 i; row = e .row })
+      (mem-map (entry Added) (e .row) (without cmp c b) (mem-without (e .row) c b (u .1))))
 
   -- a row of each module has a key that the other lacks: the keys differ
   pub apart : (r s : Row K) (b c : List (Row K)) → Only r b c → Only s c b → r .key ≡ s .key → ⊥
@@ -238,6 +244,7 @@ module _ {K : Type 0} {cmp : K → K → Order} {fine : Entry K → Entry K → 
     pub none-added : (hasNo Added (sort fine (changes cmp b c)) ≡ true) ↔ ((k : K) → k ∈ keys c → k ∈ keys b)
     none-added = (
       (λ h k m. bool-cases (hasKey cmp k b) (λ t. hasKey-mem k b t)
-          (λ f. absurd (hasNo-none Added (sort fine (changes cmp b c)) h k (added-all k m (λ i. true≢false (sym (mem-hasKey k b i) ∙ f)))))),
+          (λ f. absurd (hasNo-none Added (sort fine (changes cmp b c)) h k
+          (added-all k m (λ i. true≢false (sym (mem-hasKey k b i) ∙ f)))))),
       λ all. none-hasNo Added (sort fine (changes cmp b c)) (λ k r. let u = added-only k r in u .1 (all k (u .0))),
     )

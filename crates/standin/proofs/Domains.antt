@@ -1,17 +1,15 @@
 -- A build's domains: numbers of domains, no more than an evaluation takes; so it meets a policy exactly where each is allowed.
 -- Assumes nothing.
-use mathlib.Core.Path.{_≡_, refl, sym, _∙_, ap}
-use mathlib.Core.Logic.{⊎-elim}
+use mathlib.Core.Path.{_≡_, refl, sym, _∙_, ap, subst}
 use mathlib.Core.Bool.{Bool, true, false}
-use mathlib.Core.List.{List, [], _∷_, _++_, map, List·Memᴰ·head, List·Memᴰ·tail}
+use mathlib.Core.List.{List, [], _∷_, map, List·Memᴰ·head, List·Memᴰ·tail}
 use Prim.Native.Nat.{ℕ, suc, _-_, _≤_, _<_}
 use native.Mathlib.Omega.{arith}
-use lib.Dec.{ltb}
 use lib.ListN.{length, take, drop, replicate, length-map}
 use lib.Seq.{take-append-seam}
-use borrow.Author.Tests.{le-ltb}
+use borrow.Author.Tests.{le-leb, le-ltb}
 use Rattle.refusal.specs.Pick.{pick}
-use Rattle.refusal.specs.Said.{accepted}
+use Rattle.refusal.specs.Said.{accepted, follow}
 use Rattle.text.specs.Find.{begins, same}
 use Rattle.table.specs.Table.{laid}
 use Rattle.table.proofs.Laws.{length-laid}
@@ -21,12 +19,16 @@ use Rattle.policy.specs.declared.Policy.{Policy}
 use Rattle.policy.specs.Classify.{passes, Entry, entry, judged, preview, heads, wasi, preview1, unstable, headOf, pathDomain, importDomain}
 use Rattle.policy.specs.Evaluate.{firstPast, domainsTest}
 use Rattle.differences.specs.View.{Need, Row, row, needAt}
-use Rattle.imports.specs.Queries.{kindIs}
-use Rattle.standin.specs.Passing.{Allows}
+use Rattle.imports.specs.Queries.{asked, kindIs}
+use Rattle.requirements.specs.Requirements.{functionRows, rowDomain, moduleRows}
+use Rattle.table.specs.Listing.{fitted}
+use Rattle.standin.specs.Replacing.{keys}
+use Rattle.standin.specs.Passing.{Allows, Passes}
 use Rattle.standin.specs.Builds.{Build, view, pairs, domains, Meets}
-use Rattle.standin.proofs.Passing.{allows-passes, passes-allows}
+use Rattle.standin.proofs.Passing.{one-value, allows-passes, passes-allows}
 use Rattle.standin.proofs.Differ.{map-mem}
-use Rattle.standin.proofs.Builds.{view-needs}
+use Rattle.standin.proofs.Views.{keep-length}
+use Rattle.standin.proofs.Builds.{up-length, short, imports-tested, few-imports}
 
 -- ---- classification gives the number of a domain
 pick-small : (t : Bool) {x y : ℕ} → x < 7 → y < 7 → pick t x y < 7
@@ -66,7 +68,8 @@ pub small : (b : Build) (d : ℕ) → d ∈ domains b → d < 7
 small b d m =
     let u = map-mem (λ (n : Need). n .domain) d (pairs b) m in
     let v = map-mem (λ (r : Row Need). r .key) (u .0) (view b .needs) (u .1) in
-    let w = map-mem (row (needAt (b .file) (b .tables .imports))) (v .0) (keep (kindIs (b .tables .imports) 0) (upFrom 0 (b .answer .imports))) (v .1) in
+    let fns = keep (kindIs (b .tables .imports) 0) (upFrom 0 (b .answer .imports)) in
+    let w = map-mem (row (needAt (b .file) (b .tables .imports))) (v .0) fns (v .1) in
     let e : d ≡ needAt (b .file) (b .tables .imports) (w .0) .domain =
     u .2 ∙ ap (λ (n : Need). n .domain) (v .2 ∙ ap (λ (r : Row Need). r .key) (w .2)) in
     omega (arith, need-small (b .file) (b .tables .imports) (w .0))
@@ -85,18 +88,79 @@ laid-front n ds = take-append-seam ds (replicate (n - length ds) 0)
 test-passes : (ds : List ℕ) → length ds ≤ 1024 → ((d : ℕ) → d ∈ ds → d < 7) → domainsTest (laid 1024 ds) (length ds) ≡ accepted tt
 unfolding domainsTest
 test-passes ds few h =
-    rw (length-laid 1024 ds few, laid-front 1024 ds, none-past ds h, le-ltb 1024 (length ds) few, le-ltb (length ds) (length ds) (omega arith))
+    rw (
+      length-laid 1024 ds few,
+      laid-front 1024 ds,
+      none-past ds h,
+      le-ltb 1024 (length ds) few,
+      le-ltb (length ds) (length ds) (omega arith),
+    )
 
-few-domains : (b : Build) → length (domains b) ≤ 1024
-few-domains b = omega (arith, view-needs b, length-map (view b .needs) (λ (r : Row Need). r .key), length-map (pairs b) (λ (n : Need). n .domain))
+-- ---- what a build is asked for
+-- its function imports, and their domains
+functions : Build → List ℕ
+functions b = functionRows (b .tables .imports) (b .answer .imports)
 
-pub meets-allows : (p : Policy) (b : Build) → Meets p b → Allows p (domains b)
-meets-allows p b q =
-    rw (laid-front 1024 (domains b)) at
-    (passes-allows p (laid 1024 (domains b)) (length (domains b)) (test-passes (domains b) (few-domains b) (small b))
-    (rw (laid-front 1024 (domains b)) (small b)) q)
+few-functions : (b : Build) → length (functions b) ≤ 1024
+unfolding functions
+few-functions b =
+    omega (
+      arith,
+      few-imports b,
+      up-length 0 (b .answer .imports),
+      keep-length (kindIs (b .tables .imports) 0) (upFrom 0 (b .answer .imports)),
+    )
 
-pub allows-meets : (p : Policy) (b : Build) → Allows p (domains b) → Meets p b
-allows-meets p b a =
-    allows-passes p (laid 1024 (domains b)) (length (domains b)) (test-passes (domains b) (few-domains b) (small b))
-    (rw (laid-front 1024 (domains b)) a)
+module _ (b : Build) where
+  asked-for : moduleRows (b .file) (b .tables .imports) (b .answer .imports) 1024 ≡ accepted (functions b)
+  unfolding moduleRows asked fitted follow functions
+  asked-for =
+      rw (le-ltb 16777216 (length (b .file)) (short b), imports-tested b, le-leb (length (functions b)) 1024 (few-functions b))
+
+  domain-of : (l : List ℕ) → map (λ (n : Need). n .domain) (keys (map (row (needAt (b .file) (b .tables .imports))) l))
+      ≡ map (rowDomain (b .file) (b .tables .imports)) l
+  unfolding needAt
+  domain-of [] = refl
+  domain-of (i ∷ l) = ap (_∷_ (rowDomain (b .file) (b .tables .imports) i)) (domain-of l)
+
+  domains-are : domains b ≡ map (rowDomain (b .file) (b .tables .imports)) (functions b)
+  unfolding functions
+  domains-are = domain-of (functions b)
+
+module _ (p : Policy) (b : Build) where
+  abbrev of : ℕ → ℕ
+  of i = rowDomain (b .file) (b .tables .imports) i
+
+  -- both calls in one
+  abbrev Passed : List ℕ → Type 0
+  Passed ds = Passes p (laid 1024 ds) (length ds)
+
+  good : domainsTest (laid 1024 (domains b)) (length (domains b)) ≡ accepted tt
+  good = test-passes (domains b) (omega (arith, few-functions b, long)) (small b)
+    where
+      long : length (domains b) ≡ length (functions b)
+      long = ap (λ (l : List ℕ). length l) (domains-are b) ∙ length-map (functions b) of
+
+  pub meets-allows : Meets p b → Allows p (domains b)
+  meets-allows q =
+      rw (laid-front 1024 (domains b)) at
+      (passes-allows p (laid 1024 (domains b)) (length (domains b)) good (rw (laid-front 1024 (domains b)) (small b)) passed)
+    where
+      rows : q .rows ≡ functions b
+      rows = one-value (sym (q .required) ∙ asked-for b)
+
+      passed : Passed (domains b)
+      passed =
+          subst Passed (ap (λ (l : List ℕ). map of l) rows ∙ sym (domains-are b))
+          (subst (λ (n : ℕ). Passes p (laid 1024 (map of (q .rows))) n) (sym (length-map (q .rows) of)) (q .passes))
+
+  pub allows-meets : Allows p (domains b) → Meets p b
+  allows-meets a =
+      record {
+        rows = functions b;
+        required = asked-for b;
+        passes =
+            subst (λ (n : ℕ). Passes p (laid 1024 (map of (functions b))) n) (length-map (functions b) of)
+            (subst Passed (domains-are b)
+            (allows-passes p (laid 1024 (domains b)) (length (domains b)) good (rw (laid-front 1024 (domains b)) a)));
+      }

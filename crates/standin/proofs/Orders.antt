@@ -1,7 +1,7 @@
 -- The orders of exports and of pairs: lawful, and only equals tie. Assumes nothing.
 use mathlib.Core.Path.{_≡_, refl, sym, _∙_, ap}
 use mathlib.Core.Bool.{Bool, true, false}
-use mathlib.Core.List.{List, [], _∷_}
+use mathlib.Core.List.{List}
 use Prim.Native.Nat.{ℕ, _+_, _-_, _*_, _/_, _%_}
 use native.Mathlib.Omega.{arith}
 use native.Mathlib.Nat.{div-add-mod}
@@ -29,7 +29,7 @@ digit-hex : (n : ℕ) → digit (hexOf n) ≡ n
 unfolding digit
 digit-hex n = by (ltb n 10) refl
   where
-    by : (t : Bool) → ltb n 10 ≡ t → pick (ltb (pick t (48 + n) (97 + (n - 10))) 58) (pick t (48 + n) (97 + (n - 10)) - 48) (pick t (48 + n) (97 + (n - 10)) - 87) ≡ n
+    by : (t : Bool) → ltb n 10 ≡ t → let c : ℕ = pick t (48 + n) (97 + (n - 10)) in pick (ltb c 58) (c - 48) (c - 87) ≡ n
     by true e = let h = ltb-true n 10 e in rw (lt-ltb (48 + n) 58 (omega arith)) (omega arith)
     by false e = let h = ltb-false n 10 e in rw (le-ltb (97 + (n - 10)) 58 (omega arith)) (omega arith)
 
@@ -97,7 +97,9 @@ of-exports =
     record {
       laws = lawful-export;
       exact = exact-export;
-      flaws = lawful-then (lawful-on lawful-export (λ (e : Entry Export). e .row .key)) (lawful-on lawful-nat (λ (e : Entry Export). e .row .at));
+      flaws =
+          lawful-then (lawful-on lawful-export (λ (e : Entry Export). e .row .key))
+          (lawful-on lawful-nat (λ (e : Entry Export). e .row .at));
       ties =
           λ e f h.
           exact-export (e .row .key) (f .row .key)

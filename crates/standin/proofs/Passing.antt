@@ -1,12 +1,12 @@
 -- No domain violates exactly where each that is needed is allowed; and the witness texts read. Assumes nothing.
 use mathlib.Core.Path.{_≡_, refl, sym, _∙_, ap}
 use mathlib.Core.Bool.{Bool, true, false, not, true≢false}
-use mathlib.Core.Logic.{_⊎_, inl, inr, _↔_}
-use mathlib.Core.List.{List, [], _∷_, _++_, map, List·Memᴰ·head, List·Memᴰ·tail, List·Memᴰ·not-nil, List·Memᴰ·cases-cons}
+use mathlib.Core.Logic.{_⊎_, inl, inr}
+use mathlib.Core.List.{List, [], _∷_, map, List·Memᴰ·head, List·Memᴰ·tail, List·Memᴰ·not-nil, List·Memᴰ·cases-cons}
 use Prim.Native.Nat.{ℕ, zero, suc, _+_, _≤_, _<_}
 use native.Mathlib.Omega.{arith}
 use lib.Dec.{eqb, ltb}
-use borrow.Author.Tests.{eqb-true, eqb-false, ltb-true, ltb-false, lt-ltb, le-ltb}
+use borrow.Author.Tests.{eqb-true, eqb-false, ltb-true, ltb-false, lt-ltb}
 use lib.ListN.{getD, take, set, replicate}
 use lib.Seq.{getD-set-same, getD-set-other}
 use Rattle.refusal.specs.Pick.{pick, both}
@@ -99,6 +99,9 @@ module _ (p : Policy) (ns : List ℕ) where
       by d true q = spared d (a d (in-many d ns (ltb-true 0 (howMany d ns) q)))
       by d false q = rw q
 
+pub one-value : {X : Type 0} {v w : X} → accepted v ≡ accepted w → v ≡ w
+one-value e = cc
+
 -- domains that are domains' numbers, and no more than the evaluation takes: it is accepted, and none violates exactly where each is allowed
 module _ (p : Policy) (ds : List ℕ) (n : ℕ) (good : domainsTest ds n ≡ accepted tt) where
   evaluation : evaluated ds n p ≡ accepted (outcome p (take n ds))
@@ -110,10 +113,7 @@ module _ (p : Policy) (ds : List ℕ) (n : ℕ) (good : domainsTest ds n ≡ acc
 
   pub passes-allows : ((d : ℕ) → d ∈ take n ds → d < 7) → Passes p ds n → Allows p (take n ds)
   passes-allows small q =
-      count-allows p (take n ds) (ap (λ (o : Outcome). o .count) (same (sym evaluation ∙ q .evaluation)) ∙ q .none) small
-    where
-      same : {v w : Outcome} → accepted v ≡ accepted w → v ≡ w
-      same e = cc
+      count-allows p (take n ds) (ap (λ (o : Outcome). o .count) (one-value (sym evaluation ∙ q .evaluation)) ∙ q .none) small
 
 -- ---- the witness texts
 abbrev pub allBut : ℕ → Policy

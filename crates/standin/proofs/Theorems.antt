@@ -2,31 +2,31 @@
 use mathlib.Core.Path.{_≡_, refl, sym, _∙_, ap}
 use mathlib.Core.Logic.{_⊎_, inl, inr, _↔_, ⊎-elim}
 use mathlib.Core.Bool.{Bool, true, false, true≢false}
-use mathlib.Core.List.{List, [], _∷_, map, List·Memᴰ·head, List·Memᴰ·tail, List·Memᴰ·not-nil, List·Memᴰ·cases-cons, Memᴰ·cast}
-use Prim.Native.Nat.{ℕ, _+_, _≤_, _<_}
+use mathlib.Core.List.{List, [], _∷_, List·Memᴰ·head, List·Memᴰ·tail, List·Memᴰ·not-nil, List·Memᴰ·cases-cons, Memᴰ·cast}
+use Prim.Native.Nat.{ℕ, _≤_, _<_}
 use native.Mathlib.Omega.{arith}
 use native.Mathlib.Decide.{ℕ-discrete}
 use lib.Dec.{leb, eqb}
 use lib.ListN.{length, length-map}
-use borrow.Author.Tests.{leb-true, leb-false, le-leb}
+use borrow.Author.Tests.{leb-false}
 use Rattle.refusal.specs.Pick.{pick, both}
-use Rattle.refusal.specs.Said.{Said, accepted, refused, refusedBy, follow, saidAnswer}
+use Rattle.refusal.specs.Said.{Said, accepted, refused, follow, saidAnswer}
 use Rattle.refusal.specs.declared.Answer.{Answer}
 use Rattle.refusal.proofs.Following.{never}
 use Rattle.table.specs.Entries.{finished}
 use Rattle.sorting.specs.Sort.{_∈_}
 use Rattle.policy.specs.declared.Policy.{Policy}
 use Rattle.policy.specs.declared.eval.Evaluation.{Evaluation}
-use Rattle.policy.specs.Evaluate.{effectiveOf, EvaluatedAs, acceptedAs, compliant}
+use Rattle.policy.specs.Evaluate.{EvaluatedAs, acceptedAs, compliant}
 use Rattle.imports.specs.Queries.{kindIs}
 use Rattle.differences.specs.View.{Need, needAt}
 use Rattle.differences.specs.Differences.{cmpExport, cmpNeed, exportOrder, needOrder, exportDiff, needDiff}
 use Rattle.differences.specs.Compared.{Lists, lists, roomed, compared, Verdict, verdictOf}
-use Rattle.standin.specs.Passing.{Allows, witness}
+use Rattle.standin.specs.Passing.{witness}
 use Rattle.standin.specs.Replacing.{turned}
 use Rattle.standin.specs.Builds.{Build, handed, view, domains, pairs, comparison, StandsIn, Chain, last, exchanged, Read, Meets}
 use Rattle.standin.specs.Claims.{Covers, Replacement, Listing, FailSafe}
-use Rattle.standin.proofs.Passing.{allBut, witness-reads, but-denied, but-allowed}
+use Rattle.standin.proofs.Passing.{one-value, allBut, witness-reads, but-denied, but-allowed}
 use Rattle.standin.proofs.Differ.{mem-map, map-mem}
 use Rattle.standin.proofs.Lowest.{Rising, rising-rows, lowest-each}
 use Rattle.standin.proofs.Views.{few-changes, says, exports-exchange, needs-exchange, exports-ascend, needs-ascend, exports-each}
@@ -90,24 +90,23 @@ otherwise b c room8 room9 = by (roomed-as room8 room9 (lists (view b) (view c)))
     by (full9 e h) = inr (inr (by-lists b c room8 room9 ∙ ap on e, h))
 
 -- ---- what compatible means
-same : {X : Type 0} {v w : X} → accepted v ≡ accepted w → v ≡ w
-same e = cc
-
 -- an accepted comparison gives the verdict on the whole lists
-verdict-is : (b c : Build) (room8 room9 : ℕ) (v : Verdict) → comparison b c room8 room9 ≡ accepted v → v ≡ verdictOf (lists (view b) (view c))
+verdict-is : (b c : Build) (room8 room9 : ℕ) (v : Verdict) → comparison b c room8 room9 ≡ accepted v
+    → v ≡ verdictOf (lists (view b) (view c))
 verdict-is b c room8 room9 v e = by (otherwise b c room8 room9)
   where
     by : (comparison b c room8 room9 ≡ comparison b c 2048 2048)
         ⊎ ((comparison b c room8 room9 ≡ refused 13 8) × (room8 < length (exportDiff (view b) (view c))))
         ⊎ ((comparison b c room8 room9 ≡ refused 13 9) × (room9 < length (needDiff (view b) (view c))))
         → v ≡ verdictOf (lists (view b) (view c))
-    by (inl h) = same (sym e ∙ h ∙ answered b c)
+    by (inl h) = one-value (sym e ∙ h ∙ answered b c)
     by (inr (inl h)) = absurd (never (sym (h .0) ∙ e))
     by (inr (inr h)) = absurd (never (sym (h .0) ∙ e))
 
-means : (b c : Build) (room8 room9 : ℕ) (v : Verdict) → comparison b c room8 room9 ≡ accepted v → (v .compatible ≡ true) ↔ Covers b c
+means : (b c : Build) (room8 room9 : ℕ) (v : Verdict) → comparison b c room8 room9 ≡ accepted v
+    → (v .compatible ≡ true) ↔ Covers b c
 means b c room8 room9 v e =
-    let z : v .compatible ≡ verdictOf (lists (view b) (view c)) .compatible = ap (λ (w : Verdict). w .compatible) (verdict-is b c room8 room9 v e) in
+    let z = ap (λ (w : Verdict). w .compatible) (verdict-is b c room8 room9 v e) in
     let s = says (view b) (view c) in (
       (λ h. let t = s .0 (sym z ∙ h) in record { has = t .0; needs = t .1 }),
       λ k. z ∙ s .1 (k .has, k .needs),
@@ -158,7 +157,8 @@ exchanged-lists b c =
     let q = needs-exchange (view b) (view c) in
     λ i. record { exports = p i; needs = q i }
 
-roomed-exchanged : (room8 room9 : ℕ) (l : Lists) → roomed room8 room9 (exchanged l) ≡ follow (roomed room8 room9 l) (λ l. accepted (exchanged l))
+roomed-exchanged : (room8 room9 : ℕ) (l : Lists)
+    → roomed room8 room9 (exchanged l) ≡ follow (roomed room8 room9 l) (λ l. accepted (exchanged l))
 unfolding roomed finished follow
 roomed-exchanged room8 room9 l =
     rw (length-map (l .exports) turned, length-map (l .needs) turned)

@@ -1,22 +1,23 @@
 -- The two lists of modules as the comparison sees them. Assumes nothing.
-use mathlib.Core.Path.{_≡_, refl, sym, _∙_, ap}
+use mathlib.Core.Path.{_≡_, refl, sym, ap}
 use mathlib.Core.Logic.{_↔_}
 use mathlib.Core.Bool.{Bool, true, false, not, _&&_, true≢false}
-use mathlib.Core.List.{List, [], _∷_, _++_, map}
-use Prim.Native.Nat.{ℕ, zero, suc, _+_, _≤_}
+use mathlib.Core.List.{List, [], _∷_, map}
+use Prim.Native.Nat.{_+_, _≤_}
 use native.Mathlib.Omega.{arith}
 use lib.ListN.{length, length-append, length-map}
 use Rattle.refusal.specs.Pick.{pick}
 use Rattle.text.specs.declared.order.Order.{Order}
 use Rattle.text.specs.declared.order.Order.the-variants.{Equal}
-use Rattle.sorting.specs.Sort.{_∈_, Ascending, sort, keep, upFrom}
+use Rattle.sorting.specs.Sort.{_∈_, Ascending, sort, keep}
 use Rattle.sorting.proofs.Sorts.{sort-only, sort-all, sort-ascends, sort-length}
 use Rattle.differences.specs.declared.Change.the-variants.{Removed, Added}
 use Rattle.differences.specs.View.{Export, Need, Row, View}
-use Rattle.differences.specs.Differences.{Entry, entry, cmpExport, cmpNeed, exportOrder, needOrder, hasKey, without, changes, exportDiff, needDiff, hasNo}
+use Rattle.differences.specs.Differences.{Entry, entry, cmpExport, cmpNeed, exportOrder, needOrder, hasKey, without, changes}
+use Rattle.differences.specs.Differences.{exportDiff, needDiff, hasNo}
 use Rattle.differences.specs.Compared.{lists, verdictOf}
 use Rattle.standin.specs.Replacing.{keys, Reports, IsChange, turned}
-use Rattle.standin.proofs.Differ.{Keyed, changes-mem, mem-changes, one-kind, exchange, removed, added, none-removed, none-added}
+use Rattle.standin.proofs.Differ.{changes-mem, mem-changes, one-kind, exchange, removed, added, none-removed, none-added}
 use Rattle.standin.proofs.Orders.{of-exports, of-needs, tie-row}
 
 and-both : (x y : Bool) → ((x && y) ≡ true) ↔ ((x ≡ true) × (y ≡ true))

@@ -6,14 +6,13 @@ use Prim.Native.Nat.{ℕ}
 use lib.ListN.{length}
 use Rattle.refusal.specs.Said.{Said, accepted, follow}
 use Rattle.table.specs.Table.{laid}
-use Rattle.sorting.specs.Sort.{_∈_}
 use Rattle.wasm.specs.declared.Module.{Module}
 use Rattle.wasm.specs.Module.{Sizes, moduleAt, Lent, ModuleIs}
 use Rattle.conform.specs.Claims.{Bytes}
 use Rattle.policy.specs.declared.Policy.{Policy}
 use Rattle.policy.specs.Reader.{readPolicy}
+use Rattle.requirements.specs.Requirements.{rowDomain, moduleRows}
 use Rattle.differences.specs.View.{View, Need, Export}
-use Rattle.differences.specs.Differences.{exportDiff, needDiff}
 use Rattle.differences.specs.Compared.{Given, given, viewed, Lists, compared, Verdict, verdictOf}
 use Rattle.standin.specs.Passing.{Passes}
 use Rattle.standin.specs.Replacing.{keys, turned}
@@ -75,6 +74,8 @@ pub record Read (p : Policy) : Type 0 where
   pub text : List ℕ
   pub reads : readPolicy text ≡ accepted p
 
--- the build's domains, in a column of 1,024 cells, are evaluated against the policy without a violation
-abbrev pub Meets : Policy → Build → Type 0
-Meets p b = Passes p (laid 1024 (domains b)) (length (domains b))
+-- what `requirements_from_module` and then `evaluate_domains` promise, with columns of 1,024 cells: both accept, and no domain violates
+pub record Meets (p : Policy) (b : Build) : Type 0 where
+  pub rows : List ℕ
+  pub required : moduleRows (b .file) (b .tables .imports) (b .answer .imports) 1024 ≡ accepted rows
+  pub passes : Passes p (laid 1024 (map (rowDomain (b .file) (b .tables .imports)) rows)) (length rows)

@@ -5,17 +5,18 @@ use mathlib.Core.Bool.{true}
 use mathlib.Core.List.{List}
 use Prim.Native.Nat.{ℕ, _<_}
 use lib.ListN.{length}
-use Rattle.refusal.specs.Said.{Said, accepted, refused, follow}
+use Rattle.refusal.specs.Said.{accepted, refused, follow}
 use Rattle.sorting.specs.Sort.{_∈_, Ascending}
 use Rattle.policy.specs.declared.Policy.{Policy}
 use Rattle.policy.specs.declared.eval.Evaluation.{Evaluation}
-use Rattle.policy.specs.Evaluate.{Outcome, EvaluatedAs, compliant}
+use Rattle.policy.specs.Evaluate.{EvaluatedAs, compliant}
 use Rattle.differences.specs.declared.Change.the-variants.{Removed, Added}
 use Rattle.differences.specs.View.{Export, Need}
 use Rattle.differences.specs.Differences.{Entry, exportOrder, needOrder, exportDiff, needDiff}
-use Rattle.differences.specs.Compared.{Lists, lists, compared, Verdict, verdictOf}
-use Rattle.standin.specs.Replacing.{Reports, IsChange, IsLowest, turned}
-use Rattle.standin.specs.Builds.{Build, handed, view, exports, pairs, domains, comparison, StandsIn, Chain, last, exchanged, Read, Meets}
+use Rattle.differences.specs.Compared.{lists, compared, Verdict, verdictOf}
+use Rattle.standin.specs.Replacing.{Reports, IsChange, IsLowest}
+use Rattle.standin.specs.Builds.{Build, handed, view, exports, pairs, domains, comparison, StandsIn, Chain, last}
+use Rattle.standin.specs.Builds.{exchanged, Read, Meets}
 
 -- c has every export of b, by name and kind, and its function imports need no pair of domain and source that those of b do not
 pub record Covers (b c : Build) : Type 0 where
