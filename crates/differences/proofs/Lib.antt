@@ -1,2 +1,4 @@
--- The definitions at small modules.
+-- Laws of the tables handed in, and the definitions at small modules.
+pub mod Tests
+pub mod Ranks
 pub mod Examples
