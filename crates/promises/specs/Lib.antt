@@ -9,5 +9,6 @@ pub mod OfWasm
 pub mod OfKinds
 pub mod OfPolicy
 pub mod OfRequirements
+pub mod OfEvaluation
 pub mod Examples
 pub mod Rejected
