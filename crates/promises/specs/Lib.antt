@@ -8,5 +8,6 @@ pub mod OfImports
 pub mod OfWasm
 pub mod OfKinds
 pub mod OfPolicy
+pub mod OfRequirements
 pub mod Examples
 pub mod Rejected
