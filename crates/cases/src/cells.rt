@@ -35,6 +35,12 @@ pub(crate) fn place(n: usize) -> usize {
     }
 }
 
+// Where the rule of domain d is laid, or the verdict on it.
+pub(crate) fn rule_place(d: usize) -> usize {
+    let twice = wrapping_add_usize(d, d);
+    wrapping_add_usize(RULES, wrapping_add_usize(twice, d))
+}
+
 pub(crate) fn cell(cells: &[usize], at: usize) -> usize {
     if at < cells.len() { cells[at] } else { 0 }
 }

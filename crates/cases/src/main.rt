@@ -27,6 +27,8 @@ fn main() {
     let mut t = Tally { hits: 0, cases: 0 };
     t = run(t, b"modules.txt");
     t = run(t, b"policies.txt");
+    t = run(t, b"samples.txt");
+    t = run(t, b"layers.txt");
     t.print();
 }
 

@@ -17,8 +17,11 @@ use wasm::Module;
 use wasm::ModuleRead;
 
 pub(crate) fn put_refusal(got: &mut [usize], why: Refusal) {
-    put(got, 0, refusal::number(why) as usize);
-    put(got, 1, refusal::place(why));
+    lay(
+        got,
+        0,
+        &[refusal::number(why) as usize, refusal::place(why)],
+    );
 }
 
 pub(crate) fn put_count(got: &mut [usize], answer: Count) {
@@ -87,15 +90,18 @@ fn put_read(got: &mut [usize], read: ModuleRead) {
 }
 
 fn put_module(got: &mut [usize], m: Module) {
-    put(got, 2, m.version as usize);
-    put(got, 3, m.length);
-    put(got, 4, bit(m.named));
-    put(got, 5, m.start);
-    put(got, 6, m.size);
-    put(got, 7, m.sections);
-    put(got, 8, m.imports);
-    put(got, 9, m.exports);
-    put(got, 10, m.symbols);
+    let row = [
+        m.version as usize,
+        m.length,
+        bit(m.named),
+        m.start,
+        m.size,
+        m.sections,
+        m.imports,
+        m.exports,
+        m.symbols,
+    ];
+    lay(got, 2, &row);
 }
 
 pub(crate) fn functions(cells: &[usize], got: &mut [usize]) {
@@ -141,8 +147,7 @@ pub(crate) fn other_kind(cells: &[usize], got: &mut [usize]) {
 
 // Its byte, its word, and whether it has a name of its own.
 fn put_kind(got: &mut [usize], k: ExternalKind) {
-    put(got, 2, kinds::kind_byte(k) as usize);
-    put(got, 3, rank(k));
+    lay(got, 2, &[kinds::kind_byte(k) as usize, rank(k)]);
     put_slug(got, kinds::kind_slug(k));
 }
 

@@ -1,13 +1,14 @@
 // Calls on domains and policies: what each answers, as cells.
-use crate::cells::RULES;
 use crate::cells::bit;
 use crate::cells::cell;
 use crate::cells::count;
 use crate::cells::given;
+use crate::cells::lay;
 use crate::cells::lay_bytes;
 use crate::cells::lent;
 use crate::cells::place;
 use crate::cells::put;
+use crate::cells::rule_place;
 use crate::modules::put_refusal;
 use crate::modules::put_slug;
 use crate::modules::put_written;
@@ -20,7 +21,6 @@ use policy::eval::Evaluation;
 use policy::eval::Verdict;
 use refusal::Answer;
 use rewriting::token::Token;
-use std::num::wrapping_add_usize;
 
 // 7 where there is no domain.
 fn put_found(got: &mut [usize], found: DomainFound) {
@@ -85,9 +85,7 @@ fn given_domain(cells: &[usize]) -> Domain {
 
 pub(crate) fn effective(cells: &[usize], got: &mut [usize]) {
     let rule = policy::eval::effective(given_policy(cells), given_domain(cells));
-    put(got, 2, bit(rule.allow));
-    put(got, 3, rule.from);
-    put(got, 4, rule.len);
+    lay(got, 2, &[bit(rule.allow), rule.from, rule.len]);
 }
 
 // 1, a token's range and where the next is looked for; or nothing.
@@ -101,10 +99,7 @@ pub(crate) fn token(text: &[u8], cells: &[usize], got: &mut [usize]) {
         Token::Done => {}
         Token::Refused(why) => put_refusal(got, why),
         Token::At(part, next) => {
-            put(got, 2, 1);
-            put(got, 3, part.from);
-            put(got, 4, part.len);
-            put(got, 5, next);
+            lay(got, 2, &[1, part.from, part.len, next]);
         }
     }
 }
@@ -118,27 +113,21 @@ pub(crate) fn evaluate(cells: &[usize], got: &mut [usize]) {
 pub(crate) fn put_evaluation(got: &mut [usize], e: Evaluation) {
     let answer = e.answer;
     put_answer(got, answer);
-    put(got, 2, e.set as usize);
-    put(got, 3, e.count);
-    put(got, 4, bit(policy::eval::is_compliant(e)));
+    let compliant = policy::eval::is_compliant(e);
+    lay(got, 2, &[e.set as usize, e.count, bit(compliant)]);
     let v = e.verdicts;
     put_verdicts(got, v);
 }
 
 fn put_verdicts(got: &mut [usize], v: [Verdict; 7]) {
-    put_verdict(got, RULES, v[0]);
-    put_verdict(got, RULES + 3, v[1]);
-    put_verdict(got, RULES + 6, v[2]);
-    put_verdict(got, RULES + 9, v[3]);
-    put_verdict(got, RULES + 12, v[4]);
-    put_verdict(got, RULES + 15, v[5]);
-    put_verdict(got, RULES + 18, v[6]);
+    for d in 0..7 {
+        let verdict = v[d];
+        put_verdict(got, rule_place(d), verdict);
+    }
 }
 
 fn put_verdict(got: &mut [usize], at: usize, v: Verdict) {
-    put(got, at, bit(v.required));
-    put(got, wrapping_add_usize(at, 1), bit(v.allowed));
-    put(got, wrapping_add_usize(at, 2), v.many);
+    lay(got, at, &[bit(v.required), bit(v.allowed), v.many]);
 }
 
 pub(crate) fn write(text: &[u8], cells: &[usize], got: &mut [usize]) {

@@ -6,13 +6,12 @@ use crate::cells::bit;
 use crate::cells::cell;
 use crate::cells::lay;
 use crate::cells::place;
-use crate::cells::put;
+use crate::cells::rule_place;
 use policy::Policy;
 use policy::Slot;
 use policy::Stance;
 use refusal::Answer;
 use std::num::wrapping_add_usize;
-use wasm::Module;
 use wasm::ModuleRead;
 
 // Tables 2 and 3 as the module leaves them, and their counts. False where it is refused.
@@ -26,8 +25,7 @@ pub(crate) fn give_module(file: &[u8], cells: &mut [usize]) -> bool {
         ModuleRead::Module(m) => {
             lay(cells, place(2), &imports);
             lay(cells, place(3), &exports);
-            put(cells, COUNT + 2, m.imports);
-            put(cells, COUNT + 3, m.exports);
+            lay(cells, COUNT + 2, &[m.imports, m.exports]);
             true
         }
     }
@@ -46,29 +44,25 @@ pub(crate) fn give_policy(text: &[u8], cells: &mut [usize]) -> bool {
 }
 
 pub(crate) fn put_policy(cells: &mut [usize], p: Policy) {
-    put(cells, POLICY, bit(p.named));
-    put(cells, POLICY + 1, p.start);
-    put(cells, POLICY + 2, p.size);
-    put(cells, POLICY + 3, bit(p.permit));
+    lay(
+        cells,
+        POLICY,
+        &[bit(p.named), p.start, p.size, bit(p.permit)],
+    );
     let rules = p.rules;
     put_rules(cells, rules);
 }
 
 fn put_rules(cells: &mut [usize], rules: [Slot; 7]) {
-    put_rule(cells, RULES, rules[0]);
-    put_rule(cells, RULES + 3, rules[1]);
-    put_rule(cells, RULES + 6, rules[2]);
-    put_rule(cells, RULES + 9, rules[3]);
-    put_rule(cells, RULES + 12, rules[4]);
-    put_rule(cells, RULES + 15, rules[5]);
-    put_rule(cells, RULES + 18, rules[6]);
+    for d in 0..7 {
+        let rule = rules[d];
+        put_rule(cells, rule_place(d), rule);
+    }
 }
 
 fn put_rule(cells: &mut [usize], at: usize, rule: Slot) {
     let stance = rule.stance;
-    put(cells, at, stance_number(stance));
-    put(cells, wrapping_add_usize(at, 1), rule.from);
-    put(cells, wrapping_add_usize(at, 2), rule.len);
+    lay(cells, at, &[stance_number(stance), rule.from, rule.len]);
 }
 
 fn stance_number(s: Stance) -> usize {

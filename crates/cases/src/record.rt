@@ -2,15 +2,16 @@
 use crate::cells::COUNT;
 use crate::cells::LENT;
 use crate::cells::POLICY;
-use crate::cells::RULES;
 use crate::cells::SPAN;
 use crate::cells::between;
 use crate::cells::byte;
 use crate::cells::column;
+use crate::cells::lay;
 use crate::cells::place;
 use crate::cells::put;
 use crate::cells::put_byte;
 use crate::cells::repeat;
+use crate::cells::rule_place;
 use crate::file::read_file;
 use crate::prepare::give_module;
 use crate::prepare::give_policy;
@@ -135,12 +136,25 @@ pub(crate) fn read_record(line: &[u8], bytes: &mut [u8], cells: &mut [usize]) ->
 
 // A table that a record does not speak of is lent with its limit.
 fn limits(cells: &mut [usize]) {
-    put(cells, LENT + 1, 1280);
-    put(cells, LENT + 2, 5120);
-    put(cells, LENT + 3, 4096);
-    put(cells, LENT + 4, 12288);
-    put(cells, LENT + 7, 1024);
-    put(cells, LENT + 15, 1024);
+    let rows = [
+        0,
+        1280,
+        5120,
+        4096,
+        12288,
+        0,
+        0,
+        1024,
+        0,
+        0,
+        0,
+        0,
+        0,
+        0,
+        0,
+        1024,
+    ];
+    lay(cells, LENT, &rows);
 }
 
 fn step(r: Record, line: &[u8], i: usize, bytes: &mut [u8], cells: &mut [usize]) -> Record {
@@ -228,16 +242,12 @@ fn item(r: Record, w: &[u8], bytes: &mut [u8], cells: &mut [usize]) -> Record {
     if b'Z' < c {
         return plain(r, w, bytes, cells);
     }
-    if equal(w, b"HDR") {
-        return piece(r, b"0061736d01000000", bytes);
+    match c {
+        b'H' => piece(r, b"0061736d01000000", bytes),
+        b'M' => kept(r, give_module(r.string(bytes), cells)),
+        b'O' => kept(r, give_policy(r.string(bytes), cells)),
+        _ => marked(r, c, w),
     }
-    if equal(w, b"READ") {
-        return kept(r, give_module(r.string(bytes), cells));
-    }
-    if equal(w, b"OBEY") {
-        return kept(r, give_policy(r.string(bytes), cells));
-    }
-    marked(r, w)
 }
 
 fn kept(r: Record, good: bool) -> Record {
@@ -318,36 +328,27 @@ fn counted(r: Record, n: usize, cells: &mut [usize]) -> Record {
 }
 
 // Where the words that follow go: a string, or cells.
-fn marked(r: Record, w: &[u8]) -> Record {
-    if equal(w, b"A") {
-        return r.string_from(0);
-    }
-    if equal(w, b"B") {
-        return r.string_from(1);
-    }
-    if equal(w, b"OUT") {
-        return r.string_from(2);
-    }
-    if equal(w, b"N") {
-        return r.cells_from(0);
-    }
-    if equal(w, b"P") {
-        return r.cells_from(POLICY);
-    }
-    let Number::Is(n) = decimal(w, 1) else {
-        return r.wrong();
-    };
-    match byte(w, 0) {
-        b'T' => r.cells_from(place(n)),
-        b'L' => r.cells_from(wrapping_add_usize(LENT, n)),
-        b'C' => r.cells_from(wrapping_add_usize(COUNT, n)),
-        b'R' => r.cells_from(rule(n)),
-        _ => r.wrong(),
+fn marked(r: Record, c: u8, w: &[u8]) -> Record {
+    match c {
+        b'A' => r.string_from(0),
+        b'B' => r.string_from(1),
+        b'S' => r.string_from(2),
+        b'N' => r.cells_from(0),
+        b'P' => r.cells_from(POLICY),
+        _ => numbered(r, c, decimal(w, 1)),
     }
 }
 
-// Where the rule, or the verdict, of domain d is laid.
-fn rule(d: usize) -> usize {
-    let twice = wrapping_add_usize(d, d);
-    wrapping_add_usize(RULES, wrapping_add_usize(twice, d))
+// The cells of a table, how many it is lent with, how many rows it has; a domain's rule or verdict.
+fn numbered(r: Record, c: u8, word: Number) -> Record {
+    let Number::Is(n) = word else {
+        return r.wrong();
+    };
+    match c {
+        b'T' => r.cells_from(place(n)),
+        b'L' => r.cells_from(wrapping_add_usize(LENT, n)),
+        b'C' => r.cells_from(wrapping_add_usize(COUNT, n)),
+        b'R' => r.cells_from(rule_place(n)),
+        _ => r.wrong(),
+    }
 }
