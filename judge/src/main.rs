@@ -1,6 +1,7 @@
 //! The comparison of the port with the original: see docs/JUDGE.md.
 mod case;
 mod limits;
+mod list;
 mod make;
 mod plant;
 mod port;
@@ -13,12 +14,16 @@ mod vectors;
 use case::{Case, CALLS};
 use port::Port;
 use std::io::{Read, Write};
+use std::process::{Command, Stdio};
 use std::time::{Duration, Instant};
 
 const USAGE: &str = "usage: judge run [--seed N] [--long SECONDS]     the fixed cases, then seeded ones for so long
        judge one CALL NUMBERS STRINGS             one case, as a disagreement prints it
        judge strip < FILE.rt                      a file of Rattle as Rust, unproved
-       judge apart < FILE.wasm                    the original on one file, in this process
+       judge apart [policy] < FILE                the original alone on a module or a policy, in this process
+       judge list                                 the fixed list of answers, as records of worked cases
+       judge vectors FOLDER                       the modules below a folder
+       judge mistakes LIST; judge plant LIST N CRATES    for tools/teeth
 VISCROMBAL_PORT is the command of the port's process.";
 
 fn main() {
@@ -30,7 +35,9 @@ fn main() {
         ["mistakes", list] => mistakes(list),
         ["plant", list, number, crates] => plant_one(list, number, crates),
         ["strip"] => strip_input(),
-        ["apart"] => apart(),
+        ["apart"] => apart(|file| says::module_says(&says::parse(file))),
+        ["apart", "policy"] => apart(says::policy_alone),
+        ["list"] => fixed_list(),
         ["vectors", folder] => published(folder),
         _ => {
             eprintln!("{USAGE}");
@@ -56,10 +63,10 @@ fn strip_input() -> bool {
     std::io::stdout().write_all(strip::stripped(&source).as_bytes()).is_ok()
 }
 
-fn apart() -> bool {
+fn apart(says: impl Fn(&[u8]) -> String) -> bool {
     let mut file = Vec::new();
     std::io::stdin().read_to_end(&mut file).expect("a file");
-    println!("{}", says::module_says(&says::parse(&file)));
+    println!("{}", says(&file));
     true
 }
 
@@ -89,6 +96,44 @@ fn one(text: &str) -> bool {
     let (original, port) = both(&mut the_port(), &case).expect("a case for the original");
     println!("original: {original}\nport:     {port}");
     original == port
+}
+
+/// What the original and the port agreed on, for a program of the repository to replay without Rust.
+fn fixed_list() -> bool {
+    let mut court = Court::new(false);
+    court.list = Some(list::List::new());
+    for round in 0..20 {
+        make::seeded(&mut court, round);
+    }
+    make::fixed(&mut court);
+    court.decide();
+    println!("# The original's answers, as 'judge list' obtained them by running it beside the port: docs/JUDGE.md.");
+    for record in &court.list.as_ref().unwrap().records {
+        println!("{record}");
+    }
+    court.disagreements == 0
+}
+
+/// Files whose declared count the original reserves memory for: each in a process of its own. How many there are, and how many ended it.
+fn heard_apart(court: &mut Court) -> (u64, u64) {
+    let (mut files, mut ended) = (0, 0);
+    for file in make::reserving() {
+        let case = Case::new(case::Call::Module, &[1280, 5120, 4096, 12288], &[&file]);
+        let expected = says::original_says(&case);
+        let exe = std::env::current_exe().expect("this program");
+        let mut child = Command::new(exe).arg("apart").stdin(Stdio::piped()).stdout(Stdio::piped()).stderr(Stdio::null()).spawn().expect("a process");
+        child.stdin.take().unwrap().write_all(&file).expect("a pipe");
+        let out = child.wait_with_output().expect("an end");
+        files += 1;
+        if !out.status.success() {
+            ended += 1;
+        } else if !expected.starts_with(String::from_utf8_lossy(&out.stdout).trim_end()) {
+            println!("disagreement: the original with its own count says {}", String::from_utf8_lossy(&out.stdout));
+            court.disagreements += 1;
+        }
+        court.hear(case);
+    }
+    (files, ended)
 }
 
 /// The modules below a folder, by both: how many there are, how they are answered, and what the suite calls malformed that both accept.
@@ -133,11 +178,13 @@ pub struct Court {
     disagreements: u64,
     /// The first disagreement ends it, as it is.
     quick: bool,
+    /// Where both agree, a few cases of every kind.
+    list: Option<list::List>,
 }
 
 impl Court {
     fn new(quick: bool) -> Court {
-        Court { port: the_port(), batch: Vec::new(), bytes: 0, counts: [0; CALLS.len() + 1], disagreements: 0, quick }
+        Court { port: the_port(), batch: Vec::new(), bytes: 0, counts: [0; CALLS.len() + 1], disagreements: 0, quick, list: None }
     }
 
     pub fn hear(&mut self, case: Case) {
@@ -162,6 +209,8 @@ impl Court {
                 let (original, said) = (says::original_says(case), says::port_says(case, answer));
                 if original != said {
                     self.tell(case);
+                } else if let Some(list) = &mut self.list {
+                    list.add(case, answer);
                 }
             }
             if answers.len() < rest.len() {
@@ -200,6 +249,8 @@ fn run(words: &[&str]) -> bool {
     let time = Duration::from_secs(option(words, "--long", 60));
     let mut court = Court::new(words.contains(&"--quick"));
     let began = Instant::now();
+    let (files, ended) = heard_apart(&mut court);
+    println!("run apart: {files} files, of which {ended} end the original's process");
     make::fixed(&mut court);
     court.decide();
     let fixed: u64 = court.counts.iter().sum();

@@ -304,11 +304,17 @@ fn parsed(text: &[u8]) -> Result<Policy, String> {
     Policy::parse(whole(text)?).map_err(|e| line_error(&e))
 }
 
+/// The original alone, whatever the text's length.
+pub fn policy_alone(text: &[u8]) -> String {
+    let text = std::str::from_utf8(text).expect("text");
+    Policy::parse(text).map_or_else(|e| line_error(&e), |p| policy_says(&p))
+}
+
 fn policy_read(text: &[u8]) -> String {
-    let p = match parsed(text) {
-        Ok(p) => p,
-        Err(why) => return why,
-    };
+    parsed(text).map_or_else(|why| why, |p| policy_says(&p))
+}
+
+fn policy_says(p: &Policy) -> String {
     let mut out = format!("name {} default {}", hex(p.name.as_bytes()), p.default_allow);
     for (d, domain) in DOMAINS.iter().enumerate() {
         let Some(rule) = p.rules.get(domain) else { continue };

@@ -3,10 +3,9 @@ use std::collections::BTreeMap;
 use std::fs;
 use std::path::{Path, PathBuf};
 
-/// A module, where it is from, and the suite's reason where the suite calls it malformed.
+/// A module, and the suite's reason where the suite calls it malformed.
 pub struct Vector {
     pub bytes: Vec<u8>,
-    pub from: String,
     pub malformed: Option<String>,
 }
 
@@ -118,15 +117,15 @@ fn binary(list: &[Node]) -> Option<Vec<u8>> {
     Some(list.iter().flat_map(|n| if let Node::Text(t) = n { t.clone() } else { Vec::new() }).collect())
 }
 
-fn walk(list: &[Node], from: &str, out: &mut Vec<Vector>) {
+fn walk(list: &[Node], out: &mut Vec<Vector>) {
     let asserted = matches!(list.first(), Some(Node::Word(w)) if w == "assert_malformed");
     for node in list {
         let Node::List(inner) = node else { continue };
         if let Some(bytes) = binary(inner) {
             let reason = list.iter().rev().find_map(|n| if let Node::Text(t) = n { Some(String::from_utf8_lossy(t).into_owned()) } else { None });
-            out.push(Vector { bytes, from: from.into(), malformed: if asserted { reason } else { None } });
+            out.push(Vector { bytes, malformed: if asserted { reason } else { None } });
         } else {
-            walk(inner, from, out);
+            walk(inner, out);
         }
     }
 }
@@ -139,11 +138,10 @@ pub fn below(folder: &Path) -> Vec<Vector> {
     let mut out = Vec::new();
     for file in files {
         let Ok(bytes) = fs::read(&file) else { continue };
-        let from = file.strip_prefix(folder).unwrap_or(&file).display().to_string();
-        if from.ends_with(".wasm") {
-            out.push(Vector { bytes, from, malformed: None });
+        if file.extension().is_some_and(|e| e == "wasm") {
+            out.push(Vector { bytes, malformed: None });
         } else {
-            walk(&Parser { s: &bytes, at: 0 }.nodes(), &from, &mut out);
+            walk(&Parser { s: &bytes, at: 0 }.nodes(), &mut out);
         }
     }
     out

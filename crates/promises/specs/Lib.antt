@@ -10,3 +10,5 @@ pub mod OfKinds
 pub mod OfPolicy
 pub mod Examples
 pub mod Rejected
+pub mod OfCapi
+pub mod OfJudged

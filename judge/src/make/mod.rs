@@ -7,6 +7,8 @@ mod tables;
 use crate::random::Random;
 use crate::Court;
 
+pub use modules::reserving;
+
 pub fn fixed(court: &mut Court) {
     numbers::fixed(court);
     policies::fixed(court);

@@ -269,6 +269,20 @@ pub fn fixed(court: &mut Court) {
     limits_themselves(court);
 }
 
+/// Declared counts far beyond the entries, with none, one and a bad entry after them.
+pub fn reserving() -> Vec<Vec<u8>> {
+    let mut out = Vec::new();
+    for count in [&b"\xff\xff\xff\xff\x0f"[..], b"\xff\xff\xff\xff\x07", b"\x80\x80\x80\x80\x04", b"\xff\xff\xff\x7f", b"\x80\x94\xeb\xdc\x03"] {
+        for (id, entry) in [(2u8, &b"\x01m\x01f\x00\x00"[..]), (7, b"\x01x\x00\x00")] {
+            for rest in [&b""[..], entry, b"\x01\xff"] {
+                let payload = [count, rest].concat();
+                out.push([HEADER, &[id, payload.len() as u8], &payload].concat());
+            }
+        }
+    }
+    out
+}
+
 /// The largest tables, and tables larger than the limits.
 fn limits_themselves(court: &mut Court) {
     let more = FULL.map(|n| n + 10);
