@@ -11,10 +11,8 @@ use lib.ListN.{length}
 use Rattle.refusal.specs.Pick.{pick, both}
 use Rattle.refusal.specs.Said.{Said, accepted, refused, follow}
 use Rattle.table.specs.Testing.{firstFrom, tested}
-use Rattle.table.specs.Listing.{fitted, Lists}
 use Rattle.table.proofs.Testing.{tested-rows}
-use Rattle.sorting.specs.Keys.{byName, sortedRows}
-use Rattle.imports.specs.Queries.{importCell, importFits, importBad, kindBad, kindIs, importsTested, namespacesOf}
+use Rattle.imports.specs.Queries.{importCell, importFits, importBad, kindBad, kindIs, importsTested, asked}
 
 -- a range's end by a difference
 pub ends-inside : (a len n : ℕ) → len ≤ n → leb a (n - len) ≡ leb (a + len) n
@@ -77,18 +75,17 @@ module _ (imports : List ℕ) (i : ℕ) {k : ℕ} (e : k ≡ importCell imports 
   unfolding kindIs
   kind-miss {kind} h = rw (← e, ne-eqb k kind h)
 
--- namespaces: 14, then 15, then the list
-module _ (file imports : List ℕ) (n room : ℕ) where
-  pub spaces-long : 16777216 < length file → namespacesOf file imports n room ≡ refused 14 0
-  unfolding namespacesOf
-  spaces-long h = rw (lt-ltb 16777216 (length file) h)
+-- 14, then 15, then what the rows answer
+module _ {X : Type 0} (file imports : List ℕ) (n : ℕ) (then : Said X) where
+  pub asked-long : 16777216 < length file → asked file imports n then ≡ refused 14 0
+  unfolding asked
+  asked-long h = rw (lt-ltb 16777216 (length file) h)
 
   module _ (short : length file ≤ 16777216) where
-    pub spaces-bad : {m p : ℕ} → importsTested (length file) imports n ≡ refused m p → namespacesOf file imports n room ≡ refused m p
-    unfolding namespacesOf follow
-    spaces-bad e = rw (le-ltb 16777216 (length file) short, e)
+    pub asked-bad : {m p : ℕ} → importsTested (length file) imports n ≡ refused m p → asked file imports n then ≡ refused m p
+    unfolding asked follow
+    asked-bad e = rw (le-ltb 16777216 (length file) short, e)
 
-    pub spaces-good : {u : Unit {0}} → importsTested (length file) imports n ≡ accepted u
-        → namespacesOf file imports n room ≡ fitted 15 room (sortedRows file file imports (byName 5 0 1 5 0) n)
-    unfolding namespacesOf follow
-    spaces-good e = rw (le-ltb 16777216 (length file) short, e)
+    pub asked-good : {u : Unit {0}} → importsTested (length file) imports n ≡ accepted u → asked file imports n then ≡ then
+    unfolding asked follow
+    asked-good e = rw (le-ltb 16777216 (length file) short, e)

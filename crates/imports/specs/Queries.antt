@@ -41,8 +41,11 @@ kindIs imports kind i = eqb (importCell imports i 4) kind
 unfoldable pub importedOf : List ℕ → ℕ → ℕ → Said ℕ
 importedOf imports n kind = follow (kindsTested imports n) (λ u. accepted (countFrom (kindIs imports kind) 0 n))
 
+-- 14 for the file, then 15 for table 2, then what the rows answer
+unfoldable pub asked : {X : Type 0} → List ℕ → List ℕ → ℕ → Said X → Said X
+asked file imports n then =
+    pick (ltb 16777216 (length file)) (refused 14 0) (follow (importsTested (length file) imports n) (λ u. then))
+
 -- of each module name, of whatever kind of import, the lowest row, by bytes
 unfoldable pub namespacesOf : List ℕ → List ℕ → ℕ → ℕ → Said (List ℕ)
-namespacesOf file imports n room =
-    pick (ltb 16777216 (length file)) (refused 14 0)
-    (follow (importsTested (length file) imports n) (λ u. fitted 15 room (sortedRows file file imports (byName 5 0 1 5 0) n)))
+namespacesOf file imports n room = asked file imports n (fitted 15 room (sortedRows file file imports (byName 5 0 1 5 0) n))

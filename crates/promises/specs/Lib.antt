@@ -8,6 +8,7 @@ pub mod OfImports
 pub mod OfWasm
 pub mod OfKinds
 pub mod OfPolicy
+pub mod OfRequirements
 pub mod Examples
 pub mod Rejected
 pub mod OfCapi

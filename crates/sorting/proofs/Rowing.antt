@@ -1,6 +1,6 @@
 -- The order of rows: how the code finds it, and that it is lawful. Assumes nothing.
 use mathlib.Core.Path.{_≡_, refl, sym, _∙_}
-use mathlib.Core.Bool.{Bool, true, false}
+use mathlib.Core.Bool.{Bool, true, false, not}
 use mathlib.Core.List.{List}
 use Prim.Native.Nat.{ℕ}
 use native.Mathlib.Nat.{le-refl}
@@ -12,7 +12,7 @@ use Rattle.text.specs.declared.order.Order.the-variants.{Equal}
 use Rattle.table.specs.Table.{rangeOf}
 use Rattle.table.proofs.Cells.{cell-beside}
 use Rattle.sorting.specs.Order.{Lawful}
-use Rattle.sorting.specs.Keys.{byName, nameAt, cellIn, fileOf, nameOf, rowOrder, marked}
+use Rattle.sorting.specs.Keys.{byName, nameAt, cellIn, fileOf, nameOf, rowOrder, marked, unmarked, wanted}
 use Rattle.sorting.specs.declared.Keys.{Keys}
 use Rattle.sorting.proofs.Orders.{decided, undecided, lawful-nat, lawful-bytes, lawful-on, lawful-then, lawful-tie, nat-same}
 
@@ -29,13 +29,25 @@ module _ (first second rows : List ℕ) (k : Keys) where
     name-second z = rw (f, l, ne-eqb _ _ (λ q. z (e ∙ q)))
 
   -- a row's mark, from its cell
-  pub marked-yes : {x : ℕ} (i : ℕ) → x ≡ cellIn first second rows k (k .mark) i → x ≡ k .value → marked first second rows k i ≡ true
+  marked-yes : {x : ℕ} (i : ℕ) → x ≡ cellIn first second rows k (k .mark) i → x ≡ k .value → marked first second rows k i ≡ true
   unfolding marked
   marked-yes i e q = eq-eqb _ _ (sym e ∙ q)
 
-  pub marked-no : {x : ℕ} (i : ℕ) → x ≡ cellIn first second rows k (k .mark) i → (x ≡ k .value → ⊥) → marked first second rows k i ≡ false
+  marked-no : {x : ℕ} (i : ℕ) → x ≡ cellIn first second rows k (k .mark) i → (x ≡ k .value → ⊥) → marked first second rows k i ≡ false
   unfolding marked
   marked-no i e q = ne-eqb _ _ (λ h. q (e ∙ h))
+
+  pub wanted-yes : {x : ℕ} (like : Bool) (i : ℕ) → x ≡ cellIn first second rows k (k .mark) i → x ≡ k .value
+      → like ≡ wanted first second rows k like i
+  unfolding wanted unmarked
+  wanted-yes true i e q = sym (marked-yes i e q)
+  wanted-yes false i e q = rw (marked-yes i e q)
+
+  pub wanted-no : {x : ℕ} (like : Bool) (i : ℕ) → x ≡ cellIn first second rows k (k .mark) i → (x ≡ k .value → ⊥)
+      → not like ≡ wanted first second rows k like i
+  unfolding wanted unmarked
+  wanted-no true i e q = sym (marked-no i e q)
+  wanted-no false i e q = rw (marked-no i e q)
 
   -- the order of two rows, by the first answer that is no tie
   module _ (i j : ℕ) where

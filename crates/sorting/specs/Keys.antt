@@ -1,6 +1,6 @@
 -- docs/RULES.md, "Tables", sorted lists: which rows are listed, in which order, and what the table lent for them holds.
 use mathlib.Core.Path.{_≡_}
-use mathlib.Core.Bool.{Bool, false}
+use mathlib.Core.Bool.{Bool, true, false}
 use mathlib.Core.List.{List}
 use Prim.Native.Nat.{ℕ}
 use lib.Dec.{eqb}
@@ -56,13 +56,28 @@ module _ (first second rows : List ℕ) (k : Keys) where
       (andThen (cmpBytes (nameOf i) (nameOf j))
       (andThen (cmpNat (cellIn (k .minor) i) (cellIn (k .minor) j)) (pick (k .every) (cmpNat i j) Equal)))
 
-  -- row i is wanted
+  -- row i is marked
   unfoldable pub marked : ℕ → Bool
   marked i = eqb (cellIn (k .mark) i) (k .value)
 
-  -- the wanted rows below n in order; of rows that tie the lowest
+  -- the marked rows below n in order; of rows that tie the lowest
   unfoldable pub sortedRows : ℕ → List ℕ
   sortedRows n = sort rowOrder (keep marked (upFrom 0 n))
+
+  -- and those that are not marked
+  unfoldable pub unmarked : ℕ → Bool
+  unmarked i = pick (marked i) false true
+
+  unfoldable pub otherRows : ℕ → List ℕ
+  otherRows n = sort rowOrder (keep unmarked (upFrom 0 n))
+
+  -- for the code: the ones or the others
+  unfoldable pub wanted : Bool → ℕ → Bool
+  wanted true i = marked i
+  wanted false i = unmarked i
+
+  unfoldable pub wantedRows : Bool → ℕ → List ℕ
+  wantedRows like n = sort rowOrder (keep (wanted like) (upFrom 0 n))
 
 -- the answer in the paper's words, for a table with the number tn
 abbrev pub saidSorted : ℕ → Sorted → Said ℕ

@@ -2,11 +2,12 @@
 use text::order::Order;
 ghost use mathlib.Core.Path.{_≡_};
 ghost use Prim.Native.Nat.{ℕ, _≤_, _<_};
+ghost use mathlib.Core.List.{List};
 ghost use lib.ListN.{length, take};
 ghost use Rattle.text.specs.Order.{cmpNat};
 ghost use Rattle.table.specs.Table.{cellOf};
 ghost use Rattle.sorting.specs.Sort.{put};
-ghost use Rattle.sorting.specs.Keys.{byName, nameOf, rowOrder, sortedRows, Sorts};
+ghost use Rattle.sorting.specs.Keys.{byName, nameOf, rowOrder, wanted, wantedRows, sortedRows, otherRows, Sorts};
 ghost use Rattle.sorting.specs.Filling.{Placed, Ordered, inserted, Inserted};
 
 // Which rows are sorted, and by which of their cells. A cell that a row does not have is zero, so a column
@@ -57,7 +58,7 @@ pub fn by_name(width: usize, from: usize, len: usize, mark: usize, value: usize)
     }
 }
 
-// The numbers below `n` of the rows that are wanted, sorted; then zeros. Zero throughout where there is no room.
+// The numbers below `n` of the marked rows, sorted; then zeros. Zero throughout where there is no room.
 pub fn sort<'a, 'b, 'c>(
     first: &'a [u8],
     second: &'a [u8],
@@ -69,13 +70,53 @@ pub fn sort<'a, 'b, 'c>(
     ensures { λ r. ⌜ Sorts (sortedRows (now (first .entry)) (now (second .entry)) (now (rows .entry)) keys n)
         (now (sorted .entry)) (now (sorted .exit)) r ⌝ }
 {
+    sort_wanted(first, second, rows, keys, true, n, sorted)
+}
+
+// The same of the rows that are not marked.
+pub fn sort_others<'a, 'b, 'c>(
+    first: &'a [u8],
+    second: &'a [u8],
+    rows: &'b [usize],
+    keys: Keys,
+    n: usize,
+    sorted: &'c mut [usize],
+) -> Sorted
+    ensures { λ r. ⌜ Sorts (otherRows (now (first .entry)) (now (second .entry)) (now (rows .entry)) keys n)
+        (now (sorted .entry)) (now (sorted .exit)) r ⌝ }
+{
+    sort_wanted(first, second, rows, keys, false, n, sorted)
+}
+
+// Row i is marked, or is not, as `like` says.
+fn is_wanted(rows: &[usize], keys: Keys, like: bool, i: usize) -> bool
+    ensures { λ r. ⌜ ((first second : List ℕ) → r ≡ wanted first second (now (rows .entry)) keys like i) ⌝ }
+{
+    if table::cell(rows, keys.width, i, keys.mark) == keys.value {
+        return like;
+    }
+    !like
+}
+
+fn sort_wanted<'a, 'b, 'c>(
+    first: &'a [u8],
+    second: &'a [u8],
+    rows: &'b [usize],
+    keys: Keys,
+    like: bool,
+    n: usize,
+    sorted: &'c mut [usize],
+) -> Sorted
+    ensures { λ r. ⌜ Sorts (wantedRows (now (first .entry)) (now (second .entry)) (now (rows .entry)) keys like n)
+        (now (sorted .entry)) (now (sorted .exit)) r ⌝ }
+{
     table::clear(sorted);
     let mut k = 0;
     let mut i = n;
     // from the last row to the first, so that of rows that tie the lowest stays
     while 0 < i {
         i -= 1;
-        if table::cell(rows, keys.width, i, keys.mark) == keys.value {
+        if is_wanted(rows, keys, like, i) {
             let put = insert(first, second, rows, keys, sorted, k, i);
             let Sorted::Rows(more) = put else {
                 // the list only grows: once it has no room it has none in the end

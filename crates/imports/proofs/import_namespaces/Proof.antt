@@ -9,21 +9,23 @@ use Rattle.sorting.specs.Keys.{byName, sortedRows, saidSorted, Sorts}
 use Rattle.sorting.specs.declared.Keys.{Keys}
 use Rattle.sorting.specs.declared.Sorted.{Sorted}
 use Rattle.imports.specs.Queries.{namespacesOf}
-use Rattle.imports.proofs.Asking.{spaces-long, spaces-bad, spaces-good}
+use Rattle.imports.proofs.Asking.{asked-long, asked-bad, asked-good}
 use Rattle.table.proofs.Listing.{lists-stop, lists-sorted}
 use Rattle.imports.proofs.import_namespaces.Statement.{statement}
 use Rattle.imports.proofs.import_namespaces.Tie as tie
 
 returns : tie.Need-returns
+unfolding namespacesOf
 returns c =
     let k = c .before .before in
-    lists-stop (spaces-long _ _ _ _ (k .before .before .if1 .taken)) (k .clear .ensures)
+    lists-stop (asked-long _ _ _ _ (k .before .before .if1 .taken)) (k .clear .ensures)
 
 returns-2 : tie.Need-returns-2
+unfolding namespacesOf
 returns-2 c =
     let k = c .before .before in
     let q = k .before .before .before .before .before in
-    lists-stop (spaces-bad _ _ _ _ (q .before .if1 .left) (sym (q .check-imports .ensures) ∙ ap saidAnswer
+    lists-stop (asked-bad _ _ _ _ (q .before .if1 .left) (sym (q .check-imports .ensures) ∙ ap saidAnswer
     (k .before .before .before .r .given .1)))
     (k .clear2 .ensures)
 
@@ -45,11 +47,12 @@ listed : (c : tie.After-sort) (r : Sorted) → c .sort .result ≡ r
     → let a = c .before .before .before .before .before .before .before .before .before .before .args in
     Lists (namespacesOf (now (a .file)) (now (a .imports)) (a .n) (length (now (a .sorted))))
     (now (a .sorted)) (c .sort .last .1 .1 .1 .1 .1 .0) (saidSorted 15 r)
+unfolding namespacesOf
 listed c r e =
     let s = sorts c in
     let t = c .before .before .before in
     let q = t .before .before in
-    rw (spaces-good _ _ _ _ (q .before .if1 .left) (sym (q .check-imports .ensures) ∙ ap saidAnswer (t .enum-told .given .1)))
+    rw (asked-good _ _ _ _ (q .before .if1 .left) (sym (q .check-imports .ensures) ∙ ap saidAnswer (t .enum-told .given .1)))
     (lists-sorted 15 _ _ _ (ap (saidSorted 15) (sym e) ∙ s .answer-is 15) (s .table-is))
 
 returns-3 : tie.Need-returns-3

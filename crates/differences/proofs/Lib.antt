@@ -1,0 +1,4 @@
+-- Laws of the tables handed in, and the definitions at small modules.
+pub mod Tests
+pub mod Ranks
+pub mod Examples

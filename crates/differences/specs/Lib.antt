@@ -1,0 +1,5 @@
+-- What the comparison of two modules is.
+pub mod View
+pub mod Differences
+pub mod Rank
+pub mod Compared

@@ -1,0 +1,52 @@
+-- `reference_at` meets its contract. Assumes nothing.
+use mathlib.Core.Path.{_≡_, sym, ap, _∙_}
+use native.Mathlib.Omega.{arith}
+use borrow.Author.Needs.{needs}
+use Rattle.pieces.specs.Piece.{piece, trim, bytesOf}
+use Rattle.pieces.proofs.Pieces.{piece-long}
+use Rattle.wit.specs.Line.{unbraced, referenceOf}
+use Rattle.wit.proofs.LineLaws.{boundary-le, bare-is, split-far, split-none}
+use Rattle.wit.proofs.line.reference_at.Statement.{statement}
+use Rattle.wit.proofs.line.reference_at.Tie as tie
+
+-- the whole reference, without its braces and trimmed
+bare : (c : tie.After-trimmed-at2)
+    → let a = c .before .before .before .before .args in
+    unbraced (trim (piece (a .s .now) (a .a) (a .e))) ≡ piece (a .s .now) (c .trimmed-at2 .result .from) (c .trimmed-at2 .result .past)
+bare c =
+    let u = c .before in
+    let a = u .before .before .before .args in
+    bare-is (a .s .now) (a .a) (a .e) _ _ _ _ _ (u .before .trimmed-at .ensures) (u .unbraced-at .ensures .2) (c .trimmed-at2 .ensures)
+
+add-i : tie.Need-add-i
+add-i c =
+    let t = c .before .before in
+    let s = t .before .before .before .before .args .s .now in
+    let b = t .trimmed-at2 .result .from in
+    let e = t .trimmed-at2 .result .past in
+    omega (arith, c .boundary-of .ensures, boundary-le (bytesOf s b e), piece-long s b e (omega arith))
+
+returns : tie.Need-returns
+returns c =
+    let i = c .before .before in
+    let o = i .before in
+    let t = o .before .before in
+    let a = t .before .before .before .before .args in
+    split-far (a .s .now) _ _ _ (omega arith) (o .boundary-of .ensures) (a .export) (i .if1 .taken) _ _ (c .before .part-at .ensures)
+    (c .part-at2 .ensures) ∙ ap (referenceOf (a .export)) (sym (bare t))
+
+returns-2 : tie.Need-returns-2
+returns-2 c =
+    let o = c .before in
+    let t = o .before .before in
+    let a = t .before .before .before .before .args in
+    split-none (a .s .now) _ _ _ (omega arith) (o .boundary-of .ensures) (a .export) (c .if1 .left)
+    ∙ ap (referenceOf (a .export)) (sym (bare t))
+
+pub reference-at-spec : {M : Type 1} → statement M
+reference-at-spec =
+    tie.close
+    (tie.spec
+    (λ c κs. search needs) (λ c κs. search needs) (λ c κs. search needs) (λ c. search needs) (λ c. search needs)
+    (λ c. search needs) (λ c κs. search needs) add-i (λ c κs. search needs) (λ c. search needs) (λ c κs. search needs)
+    returns (λ c. search needs) returns-2)
