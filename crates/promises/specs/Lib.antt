@@ -12,3 +12,5 @@ pub mod OfRequirements
 pub mod OfEvaluation
 pub mod Examples
 pub mod Rejected
+pub mod OfCapi
+pub mod OfJudged
