@@ -10,6 +10,7 @@ pub mod OfKinds
 pub mod OfPolicy
 pub mod OfRequirements
 pub mod OfEvaluation
+pub mod OfChecking
 pub mod Examples
 pub mod Rejected
 pub mod OfCapi
