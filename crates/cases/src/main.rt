@@ -2,6 +2,7 @@
 mod calls;
 mod cells;
 mod file;
+mod manifests;
 mod modules;
 mod policies;
 mod prepare;
@@ -27,6 +28,7 @@ fn main() {
     let mut t = Tally { hits: 0, cases: 0 };
     t = run(t, b"modules.txt");
     t = run(t, b"policies.txt");
+    t = run(t, b"manifests.txt");
     t = run(t, b"samples.txt");
     t = run(t, b"layers.txt");
     t.print();
