@@ -3,3 +3,4 @@ pub mod View
 pub mod Differences
 pub mod Rank
 pub mod Compared
+pub mod Numbers

@@ -9,5 +9,8 @@ pub mod OfWasm
 pub mod OfKinds
 pub mod OfPolicy
 pub mod OfRequirements
+pub mod OfEvaluation
 pub mod Examples
 pub mod Rejected
+pub mod OfCapi
+pub mod OfJudged
