@@ -12,3 +12,4 @@ pub mod OfRequirements
 pub mod OfEvaluation
 pub mod Examples
 pub mod Rejected
+pub mod Unclassified
