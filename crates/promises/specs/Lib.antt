@@ -15,3 +15,4 @@ pub mod Examples
 pub mod Rejected
 pub mod OfCapi
 pub mod OfJudged
+pub mod Unclassified
