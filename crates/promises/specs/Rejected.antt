@@ -109,7 +109,7 @@ pub first-line-only : (κs : Lfts 1) (a : Dens κs read-policy-kinds.ps) (s : At
     (r : PolicyRead) → now (a .0) ≡ bothLines → r .policy ≡ policyOf (readPolicy firstLine) → read-policy.Post κs a r s → ⊥
 first-line-only κs a s r e f p =
     let q : policyOf (readPolicy firstLine) ≡ policyOf (readPolicy bothLines) =
-        sym f ∙ p .policy ∙ ap (λ (t : List ℕ). policyOf (readPolicy t)) e in
+    sym f ∙ p .policy ∙ ap (λ (t : List ℕ). policyOf (readPolicy t)) e in
     let k : true ≡ false = sym first-allows ∙ ap (λ (v : Policy). effectiveOf v 0 .allow) q ∙ later-denies in
     let z : _≡_ {A = ℕ} 0 1 = cc in
     omega arith
