@@ -5,7 +5,7 @@ use mathlib.Core.Path.{_≡_, refl}
 use mathlib.Core.Bool.{false}
 use mathlib.Core.List.{List, [], _∷_, _++_}
 use lib.IntN.{ℤ, pos, negsuc}
-use Rattle.refusal.specs.Said.{Said, accepted, refused, Got, got, onward}
+use Rattle.refusal.specs.Said.{Said, accepted, refused, follow, Got, got, onward}
 use Rattle.leb.specs.Groups.{uN, sN, twos, grown, spent}
 use Rattle.leb.specs.Reads.{told, narrowed, ulebAt, u32At, slebAt, part, byteAt, fixedAt, takeAt, countedAt, checked, nameAt}
 use Rattle.text.specs.Find.{same}
@@ -20,6 +20,16 @@ use Rattle.wasm.specs.Entry.{funcAt, descAt, importAt}
 use Rattle.wasm.specs.Rows.{importsOf}
 use Rattle.wasm.specs.Module.{Sizes, Parsed, noTables, magic, headerAt, contentsAt, addSection, sectionAt, moduleAt}
 use Rattle.wasm.specs.Shapes.{func}
+use Rattle.text.specs.Find.{seek, begins, indexOf, indexOf2}
+use Rattle.text.specs.Lines.{lineLen, lineStep, crBefore}
+use Rattle.text.specs.White.{whites, isWhite}
+use Rattle.text.specs.Ranges.{inSome}
+use Rattle.text.specs.Chars.{codeBy, codeOf, moreBy, more, charsFrom, chars}
+use Rattle.text.specs.Trim.{startLen, endLen, trimStart, trimEnd}
+use Rattle.pieces.specs.Whole.{wholeText}
+use Rattle.pieces.specs.Piece.{trim, shorn}
+use Rattle.wit.specs.Line.{unbraced, worded, core, spoken, directive}
+use Rattle.wit.specs.Manifest.{State, sized, start, closeAt, openAt, obeyAt, lineAt, linesAt, manifestAt}
 
 -- bytes, and what reading them from their start answers
 pub data Example : Type 0 where
@@ -27,6 +37,7 @@ pub data Example : Type 0 where
   unsigned32 : List ℕ → Said (Got ℕ) → Example
   signed : List ℕ → Said (Got ℤ) → Example
   file : List ℕ → Said Parsed → Example
+  manifest : List ℕ → Said State → Example
 
 -- room for two rows in each table
 abbrev pub two : Sizes
@@ -37,6 +48,7 @@ Holds (unsigned s r) = ulebAt s 0 ≡ r
 Holds (unsigned32 s r) = u32At s 0 ≡ r
 Holds (signed s r) = slebAt s 0 ≡ r
 Holds (file b r) = moduleAt b two ≡ r
+Holds (manifest s r) = manifestAt s (sized 4 14) ≡ r
 
 abbrev pub AllHold : List Example → Type 0
 AllHold [] = Unit {0}
@@ -65,6 +77,20 @@ oneImportRead =
       };
     }
 
+-- `world x {}`, and its world, named `x {}` and ended by the end of the text
+abbrev pub oneWorld : List ℕ
+oneWorld = 119 ∷ 111 ∷ 114 ∷ 108 ∷ 100 ∷ 32 ∷ 120 ∷ 32 ∷ 123 ∷ 125 ∷ []
+
+abbrev pub oneWorldRead : State
+oneWorldRead =
+    record {
+      line = 1;
+      pack = record { given = false; from = 0; len = 0 };
+      world = record { given = false; from = 0; len = 0 };
+      worlds = record { from = 6; len = 4 } ∷ [];
+      references = [];
+    }
+
 abbrev pub examples : List Example
 examples =
     unsigned (0xe5 ∷ 0x8e ∷ 0x26 ∷ []) (accepted (got 624485 3))
@@ -78,10 +104,13 @@ examples =
     ∷ file header (accepted (record { version = 1; tables = noTables }))
     ∷ file (0x00 ∷ 0x61 ∷ 0x73 ∷ 0x6d ∷ 0x00 ∷ 0x00 ∷ 0x00 ∷ 0x00 ∷ []) (refused 2 4)
     ∷ file oneImport (accepted oneImportRead)
+    ∷ manifest oneWorld (accepted oneWorldRead)
     ∷ []
 
 pub examples-hold : AllHold examples
 unfolding ulebAt u32At slebAt told narrowed onward uN sN twos grown spent byteAt fixedAt takeAt countedAt checked nameAt moduleAt headerAt magic same
     walkFrom walk turned sectionAt contentsAt addSection capacityOf noTables importsOf entriesFrom importAt descAt funcAt upTo scan seqLen after follow8
-    followIn covers table
-examples-hold = (refl, (refl, (refl, (refl, (refl, (refl, (refl, (refl, (refl, (refl, (refl, tt)))))))))))
+    followIn covers table follow seek begins indexOf indexOf2 lineLen lineStep crBefore whites isWhite inSome codeBy codeOf moreBy more charsFrom
+    chars startLen endLen trimStart trimEnd wholeText trim shorn unbraced worded core spoken directive start closeAt openAt obeyAt lineAt linesAt
+    manifestAt
+examples-hold = (refl, (refl, (refl, (refl, (refl, (refl, (refl, (refl, (refl, (refl, (refl, (refl, tt))))))))))))

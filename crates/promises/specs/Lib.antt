@@ -6,8 +6,12 @@ pub mod OfSorting
 pub mod OfLeb
 pub mod OfImports
 pub mod OfWasm
+pub mod OfPieces
+pub mod OfWit
+pub mod OfReferences
 pub mod OfKinds
 pub mod OfPolicy
 pub mod OfRequirements
+pub mod OfInterfaces
 pub mod Examples
 pub mod Rejected
