@@ -9,7 +9,7 @@ use lib.IntN.{ℤ, pos, negsuc}
 use Rattle.refusal.specs.Said.{Said, accepted, refused, follow, Got, got, onward}
 use Rattle.leb.specs.Groups.{uN, sN, twos, grown, spent}
 use Rattle.leb.specs.Reads.{told, narrowed, ulebAt, u32At, slebAt, part, byteAt, fixedAt, takeAt, countedAt, checked, nameAt}
-use Rattle.text.specs.Find.{seek, begins, same, indexOf}
+use Rattle.text.specs.Find.{seek, begins, same, indexOf, indexOf2}
 use Rattle.text.specs.Ranges.{inSome}
 use Rattle.text.specs.White.{whites, isWhite}
 use Rattle.text.specs.Chars.{codeBy, codeOf, moreBy, more, charsFrom, chars}
@@ -38,13 +38,19 @@ use Rattle.policy.specs.Directive.{defaultW, allow, defaulted, worded, spoken, 
 use Rattle.policy.specs.Reader.{run, readWith, zeroPolicy, obey, readPolicy}
 use Rattle.policy.specs.Evaluate.{effectiveOf}
 use Rattle.requirements.specs.Requirements.{rowDomain, moduleRows}
+use Rattle.pieces.specs.Whole.{wholeText as wholeManifest}
+use Rattle.pieces.specs.Piece.{shorn}
+use Rattle.pieces.specs.Piece.{trim as trimPiece}
+use Rattle.wit.specs.Line.{unbraced}
+use Rattle.wit.specs.Line.{worded as wordedLine, core as coreLine, spoken as spokenLine, directive as directiveLine}
+use Rattle.wit.specs.Manifest.{State, sized, start, closeAt, openAt, obeyAt, lineAt, linesAt, manifestAt}
 
 -- a domain that a module asks for, by its number, and the module name of the import
 pub data Asks : Type 0 where
   asks : ℕ → List ℕ → Asks
 
 -- bytes, and what reading them from their start answers; a file, and what its imports ask for; a module name with a field, and a
--- manifest's path, and the domain; a policy's text, and whether it allows a domain
+-- manifest's path, and the domain; a policy's text, and whether it allows a domain; a manifest, and what is read of it
 pub data Example : Type 0 where
   unsigned : List ℕ → Said (Got ℕ) → Example
   unsigned32 : List ℕ → Said (Got ℕ) → Example
@@ -54,6 +60,7 @@ pub data Example : Type 0 where
   imported : List ℕ → List ℕ → ℕ → Example
   path : List ℕ → ℕ → Example
   allowing : List ℕ → ℕ → Said Bool → Example
+  manifest : List ℕ → Said State → Example
 
 -- room for two rows in each table
 abbrev pub two : Sizes
@@ -78,6 +85,7 @@ Holds (asking b r) = askedBy b ≡ r
 Holds (imported m f d) = importDomain m f ≡ d
 Holds (path s d) = pathDomain s ≡ d
 Holds (allowing s d r) = follow (readPolicy s) (λ p. accepted (effectiveOf p d .allow)) ≡ r
+Holds (manifest s r) = manifestAt s (sized 4 14) ≡ r
 
 abbrev pub AllHold : List Example → Type 0
 AllHold [] = Unit {0}
@@ -116,6 +124,20 @@ random = 114 ∷ 97 ∷ 110 ∷ 100 ∷ 111 ∷ 109 ∷ []
 abbrev pub defaultAllow : List ℕ
 defaultAllow = defaultW ++ allow
 
+-- `world x {}`, and its world, named `x {}` and ended by the end of the text
+abbrev pub oneWorld : List ℕ
+oneWorld = 119 ∷ 111 ∷ 114 ∷ 108 ∷ 100 ∷ 32 ∷ 120 ∷ 32 ∷ 123 ∷ 125 ∷ []
+
+abbrev pub oneWorldRead : State
+oneWorldRead =
+    record {
+      line = 1;
+      pack = record { given = false; from = 0; len = 0 };
+      world = record { given = false; from = 0; len = 0 };
+      worlds = record { from = 6; len = 4 } ∷ [];
+      references = [];
+    }
+
 -- domains 0 fs, 4 random, 6 unknown
 abbrev pub examples : List Example
 examples =
@@ -136,6 +158,7 @@ examples =
     ∷ path random 4
     ∷ imported random fdWrite 6
     ∷ allowing defaultAllow 6 (accepted true)
+    ∷ manifest oneWorld (accepted oneWorldRead)
     ∷ []
 
 pub examples-hold : AllHold examples
@@ -146,5 +169,7 @@ unfolding ulebAt u32At slebAt told narrowed onward uN sN twos grown spent byteAt
     importDomain pathDomain headOf judged passes preview heads seek begins indexOf
     readPolicy readWith wholeText run zeroPolicy obey linesOf linesFrom lineLen lineStep crBefore directive core spoken worded defaulted fault
     trim trimStart trimEnd startLen endLen chars charsFrom more moreBy codeOf codeBy isWhite whites inSome effectiveOf
+    indexOf2 wholeManifest trimPiece shorn unbraced wordedLine coreLine spokenLine directiveLine start closeAt openAt obeyAt lineAt linesAt
+    manifestAt
 examples-hold =
-    (refl, (refl, (refl, (refl, (refl, (refl, (refl, (refl, (refl, (refl, (refl, (refl, (refl, (refl, (refl, (refl, (refl, tt)))))))))))))))))
+    (refl, (refl, (refl, (refl, (refl, (refl, (refl, (refl, (refl, (refl, (refl, (refl, (refl, (refl, (refl, (refl, (refl, (refl, tt))))))))))))))))))

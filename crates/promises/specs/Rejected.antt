@@ -55,6 +55,12 @@ use Rattle.wasm.specs.declared.Module.{Module}
 use Rattle.wasm.specs.declared.ModuleRead.{ModuleRead}
 use Rattle.wasm.proofs.read_module.Kinds as read-module-kinds
 use Rattle.wasm.proofs.read_module.Reads as read-module
+use Rattle.wit.specs.Manifest.{State, manifestAt, manifestOf}
+use Rattle.wit.specs.Manifest.{sizes as manifestSizes}
+use Rattle.wit.specs.declared.Manifest.{Manifest}
+use Rattle.wit.specs.declared.ManifestRead.{ManifestRead}
+use Rattle.wit.proofs.read_manifest.Kinds as read-manifest-kinds
+use Rattle.wit.proofs.read_manifest.Reads as read-manifest
 use Rattle.leb.proofs.Cursor.uleb128.Kinds as uleb128-kinds
 use Rattle.leb.proofs.Cursor.uleb128.Reads as uleb128
 
@@ -157,3 +163,17 @@ module _ (κs : Lfts 2) (a : Dens κs write-policy-kinds.ps) (s : AtExit (endedO
   pub writes-nothing : write-policy.Post κs a (Written.Bytes 0) s → ⊥
   unfolding form formLines unlines nameLine
   writes-nothing p = let e = told-text (now (a .0)) (a .1 .0) (now (a .1 .1 .0)) (now (s .1 .1 .0)) 0 p .1 in omega (arith, e)
+
+-- a manifest reader that refuses a text that is read; and one that gives one manifest for all texts
+module _ (κs : Lfts 3) (a : Dens κs read-manifest-kinds.ps) (s : AtExit (endedOf 3 read-manifest-kinds.ps read-manifest-kinds.r) κs) where
+  pub refuses-manifest : (t : State) (why : Refusal)
+      → manifestAt (now (a .0)) (manifestSizes (now (a .1 .0)) (now (a .1 .1 .0))) ≡ accepted t
+      → read-manifest.Post κs a (ManifestRead.Refused why) s → ⊥
+  unfolding follow
+  refuses-manifest t why e p = never (p .answer-is ∙ ap (λ (x : Said State). follow x (λ n. accepted (manifestOf n))) e)
+
+  pub own-manifest : (t : State) (r : Manifest)
+      → manifestAt (now (a .0)) (manifestSizes (now (a .1 .0)) (now (a .1 .1 .0))) ≡ accepted t
+      → read-manifest.Post κs a (ManifestRead.Manifest r) s → r ≡ manifestOf t
+  unfolding follow
+  own-manifest t r e p = let q = p .answer-is ∙ ap (λ (x : Said State). follow x (λ n. accepted (manifestOf n))) e in cc
