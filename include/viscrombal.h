@@ -37,11 +37,74 @@ struct viscrombal_range {
     size_t next;
 };
 
+/* A domain's rule: stance 0 none, 1 allow, 2 deny, and the range of its list of tokens in the text. */
+struct viscrombal_rule {
+    size_t stance;
+    size_t from;
+    size_t len;
+};
+
+/* A policy: the range of its name, or `default-deny` where it is not named; the default; rules in domain order
+ * (fs, env, clock, network, random, stdio, unknown). */
+struct viscrombal_policy_read {
+    uint32_t number;
+    size_t place;
+    bool named;
+    size_t start;
+    size_t size;
+    bool permit;
+    struct viscrombal_rule rules[7];
+};
+
+/* A token's range in the text, and the offset from which the next is looked for. */
+struct viscrombal_token_read {
+    uint32_t number;
+    size_t place;
+    bool found;
+    size_t from;
+    size_t len;
+    size_t next;
+};
+
+/* How many bytes were written. */
+struct viscrombal_written {
+    uint32_t number;
+    size_t place;
+    size_t bytes;
+};
+
+/* What a policy says of a domain: whether it is required, whether it is allowed, how many requirements there are. */
+struct viscrombal_verdict {
+    bool required;
+    bool allowed;
+    size_t many;
+};
+
+/* Verdicts in domain order; bit d of `set`: domain d is required and not allowed; `count` is how many are. */
+struct viscrombal_evaluation {
+    uint32_t number;
+    size_t place;
+    struct viscrombal_verdict verdicts[7];
+    uint32_t set;
+    size_t count;
+    bool compliant;
+};
+
 /* Reads at offset `at` of the bytes s[0] to s[len - 1]. */
 struct viscrombal_unsigned viscrombal_uleb128(const uint8_t *s, size_t len, size_t at);
 struct viscrombal_unsigned viscrombal_uleb128_u32(const uint8_t *s, size_t len, size_t at);
 struct viscrombal_signed viscrombal_sleb128(const uint8_t *s, size_t len, size_t at);
 struct viscrombal_range viscrombal_name(const uint8_t *s, size_t len, size_t at);
+
+/* A policy's text as ranges of it. */
+struct viscrombal_policy_read viscrombal_policy(const uint8_t *text, size_t len);
+
+/* The first token of a domain's list at or after offset `from`; the domain by its number, 0 to 6. */
+struct viscrombal_token_read viscrombal_token(const uint8_t *text, size_t len, size_t domain, size_t from);
+
+/* A policy's text in the one form that the writer gives it. Refused, `out` is untouched (16: its place is the bytes needed);
+ * accepted, nothing past the text. `out` must not overlap `text`. */
+struct viscrombal_written viscrombal_rewrite(const uint8_t *text, size_t len, uint8_t *out, size_t room);
 
 #ifdef __cplusplus
 }

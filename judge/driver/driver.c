@@ -100,7 +100,7 @@ static void namespaces(void) {
 }
 
 /* A policy that was read as the 25 cells that the other calls take. */
-static void cells_of(struct judged_policy_told r, size_t *cells) {
+static void cells_of(struct viscrombal_policy_read r, size_t *cells) {
     size_t k = 0;
     cells[k++] = r.named, cells[k++] = r.start, cells[k++] = r.size, cells[k++] = r.permit;
     for (int d = 0; d < 7; d++)
@@ -109,7 +109,7 @@ static void cells_of(struct judged_policy_told r, size_t *cells) {
 
 /* The policy, then for each domain how many tokens and where, one call after another. */
 static void policy(void) {
-    struct judged_policy_told r = judged_policy(string[0], length[0]);
+    struct viscrombal_policy_read r = viscrombal_policy(string[0], length[0]);
     size_t cells[25];
     cells_of(r, cells);
     tell(r.number), tell(r.place);
@@ -117,10 +117,10 @@ static void policy(void) {
         tell(cells[k]);
     for (int d = 0; d < 7 && r.number == 0; d++) {
         uint32_t count = tells;
-        struct judged_token_told t = {.found = true};
+        struct viscrombal_token_read t = {.found = true};
         tell(0);
         for (;;) {
-            t = judged_token(string[0], length[0], cells, 25, d, t.next);
+            t = viscrombal_token(string[0], length[0], d, t.next);
             if (!t.found)
                 break;
             tell(t.from), tell(t.len), told[count]++;
@@ -128,23 +128,18 @@ static void policy(void) {
     }
 }
 
-/* numbers: the room. The reader, then the writer; the whole of the lent bytes is told. */
+/* numbers: the room. The whole of the lent bytes is told. */
 static void rewrite(void) {
-    struct judged_policy_told r = judged_policy(string[0], length[0]);
-    struct judged_written_told w = {.number = r.number, .place = r.place};
-    size_t cells[25];
     uint8_t *out = malloc(number[0] + 1);
     memset(out, MARK, number[0]);
-    cells_of(r, cells);
-    if (r.number == 0)
-        w = judged_write(string[0], length[0], cells, 25, out, number[0]);
+    struct viscrombal_written w = viscrombal_rewrite(string[0], length[0], out, number[0]);
     tell(w.number), tell(w.place), tell(w.bytes);
     output = out, output_length = number[0];
 }
 
 /* numbers: domain, offset, then the policy's cells */
 static void token(void) {
-    struct judged_token_told r = judged_token(string[0], length[0], number + 2, given - 2, number[0], number[1]);
+    struct viscrombal_token_read r = judged_token(string[0], length[0], number + 2, given - 2, number[0], number[1]);
     tell(r.number), tell(r.place), tell(r.found), tell(r.from), tell(r.len), tell(r.next);
 }
 
@@ -152,7 +147,7 @@ static void token(void) {
 static void write_policy(void) {
     uint8_t *out = malloc(number[0] + 1);
     memset(out, MARK, number[0]);
-    struct judged_written_told r = judged_write(string[0], length[0], number + 1, given - 1, out, number[0]);
+    struct viscrombal_written r = judged_write(string[0], length[0], number + 1, given - 1, out, number[0]);
     tell(r.number), tell(r.place), tell(r.bytes);
     output = out, output_length = number[0];
 }
@@ -160,7 +155,7 @@ static void write_policy(void) {
 /* numbers: the stated count, how many rows, the rows, then the policy's cells */
 static void evaluate(void) {
     size_t rows = number[1];
-    struct judged_evaluation_told r = judged_evaluate(number + 2, rows, number[0], number + 2 + rows, given - 2 - rows);
+    struct viscrombal_evaluation r = judged_evaluate(number + 2, rows, number[0], number + 2 + rows, given - 2 - rows);
     tell(r.number), tell(r.place);
     for (int d = 0; d < 7; d++)
         tell(r.verdicts[d].required), tell(r.verdicts[d].allowed), tell(r.verdicts[d].many);
@@ -171,10 +166,42 @@ static void import(void) { tell(judged_import(string[0], length[0], string[1], l
 
 static void path(void) { tell(judged_path(string[0], length[0])); }
 
+/* numbers: the cells of tables 5 and 6 */
+static void manifest(void) {
+    size_t *a = lend(number[0]), *b = lend(number[1]);
+    struct judged_manifest_told r = judged_manifest(string[0], length[0], a, number[0], b, number[1]);
+    tell(r.number), tell(r.place), tell(r.packaged), tell(r.start), tell(r.size), tell(r.worlds), tell(r.references);
+    tell_table(a, number[0], r.worlds * 2);
+    tell_table(b, number[1], r.references * 7);
+}
+
+/* numbers: the room of both columns, the stated count, then the cells of table 2 */
+static void requirements(void) {
+    size_t *a = lend(number[0]), *b = lend(number[1]);
+    struct judged_count_told r =
+        judged_requirements(string[0], length[0], number + 3, given - 3, a, number[0], b, number[1], number[2]);
+    counted(r);
+    tell_table(a, number[0], r.count);
+    tell_table(b, number[1], r.count);
+}
+
+/* numbers: the room, the stated counts of tables 5 and 6, how many cells table 5 has, then the cells of both */
+static void paths(bool exports) {
+    size_t *sorted = lend(number[0]), *worlds = number + 4, *references = worlds + number[3], cells = given - 4 - number[3];
+    struct judged_count_told r =
+        (exports ? judged_exports : judged_imports)(string[0], length[0], worlds, number[3], references, cells, sorted, number[0], number[1], number[2]);
+    counted(r);
+    tell_table(sorted, number[0], r.count);
+}
+
+static void all_imports(void) { paths(false); }
+
+static void all_exports(void) { paths(true); }
+
 /* In the order of `Call` in src/case.rs. */
 static void (*const calls[])(void) = {
     NULL, uleb128, uleb128_u32, sleb128, name, module, functions, memories, namespaces, policy, token, write_policy, evaluate, import, path,
-    rewrite,
+    rewrite, manifest, requirements, all_imports, all_exports,
 };
 
 /* ---- cases */

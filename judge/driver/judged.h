@@ -2,9 +2,7 @@
 #ifndef JUDGED_H
 #define JUDGED_H
 
-#include <stdbool.h>
-#include <stddef.h>
-#include <stdint.h>
+#include "viscrombal.h"
 
 struct judged_module_told {
     uint32_t number;
@@ -18,38 +16,11 @@ struct judged_count_told {
     uint32_t number;
     size_t place, count;
 };
-struct judged_rule_told {
-    size_t stance, from, len;
-};
-struct judged_policy_told {
+struct judged_manifest_told {
     uint32_t number;
     size_t place;
-    bool named;
-    size_t start, size;
-    bool permit;
-    struct judged_rule_told rules[7];
-};
-struct judged_token_told {
-    uint32_t number;
-    size_t place;
-    bool found;
-    size_t from, len, next;
-};
-struct judged_written_told {
-    uint32_t number;
-    size_t place, bytes;
-};
-struct judged_verdict_told {
-    bool required, allowed;
-    size_t many;
-};
-struct judged_evaluation_told {
-    uint32_t number;
-    size_t place;
-    struct judged_verdict_told verdicts[7];
-    uint32_t set;
-    size_t count;
-    bool compliant;
+    bool packaged;
+    size_t start, size, worlds, references;
 };
 
 struct judged_module_told judged_module(const uint8_t *file, size_t length, size_t *sections, size_t n1, size_t *imports, size_t n2,
@@ -58,10 +29,16 @@ struct judged_count_told judged_functions(const size_t *imports, size_t cells, s
 struct judged_count_told judged_memories(const size_t *imports, size_t cells, size_t n);
 struct judged_count_told judged_namespaces(const uint8_t *file, size_t length, const size_t *imports, size_t cells, size_t n, size_t *sorted,
                                            size_t room);
-struct judged_policy_told judged_policy(const uint8_t *text, size_t length);
-struct judged_token_told judged_token(const uint8_t *text, size_t length, const size_t *policy, size_t cells, size_t domain, size_t from);
-struct judged_written_told judged_write(const uint8_t *text, size_t length, const size_t *policy, size_t cells, uint8_t *out, size_t room);
-struct judged_evaluation_told judged_evaluate(const size_t *domains, size_t rows, size_t n, const size_t *policy, size_t cells);
+struct viscrombal_token_read judged_token(const uint8_t *text, size_t length, const size_t *policy, size_t cells, size_t domain, size_t from);
+struct viscrombal_written judged_write(const uint8_t *text, size_t length, const size_t *policy, size_t cells, uint8_t *out, size_t room);
+struct viscrombal_evaluation judged_evaluate(const size_t *domains, size_t rows, size_t n, const size_t *policy, size_t cells);
+struct judged_manifest_told judged_manifest(const uint8_t *text, size_t length, size_t *worlds, size_t n5, size_t *references, size_t n6);
+struct judged_count_told judged_requirements(const uint8_t *file, size_t length, const size_t *imports, size_t cells, size_t *domains,
+                                             size_t n1, size_t *rows, size_t n2, size_t n);
+struct judged_count_told judged_imports(const uint8_t *text, size_t length, const size_t *worlds, size_t cells5, const size_t *references,
+                                        size_t cells6, size_t *sorted, size_t room, size_t n5, size_t n6);
+struct judged_count_told judged_exports(const uint8_t *text, size_t length, const size_t *worlds, size_t cells5, const size_t *references,
+                                        size_t cells6, size_t *sorted, size_t room, size_t n5, size_t n6);
 size_t judged_import(const uint8_t *source, size_t n, const uint8_t *field, size_t m);
 size_t judged_path(const uint8_t *path, size_t n);
 

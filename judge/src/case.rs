@@ -19,9 +19,13 @@ pub enum Call {
     Import,
     Path,
     Rewrite,
+    Manifest,
+    Requirements,
+    AllImports,
+    AllExports,
 }
 
-pub const CALLS: [(Call, &str); 15] = [
+pub const CALLS: [(Call, &str); 19] = [
     (Call::Uleb128, "uleb128"),
     (Call::Uleb128U32, "uleb128_u32"),
     (Call::Sleb128, "sleb128"),
@@ -37,6 +41,10 @@ pub const CALLS: [(Call, &str); 15] = [
     (Call::Import, "import"),
     (Call::Path, "path"),
     (Call::Rewrite, "rewrite"),
+    (Call::Manifest, "manifest"),
+    (Call::Requirements, "requirements"),
+    (Call::AllImports, "all_imports"),
+    (Call::AllExports, "all_exports"),
 ];
 
 #[derive(Clone, PartialEq, Eq, Debug)]

@@ -1,11 +1,14 @@
-//! A module read into tables of a given room, by the original alone: 13 is told by asking it about shortened inputs.
+//! A module or a manifest read into tables of a given room, by the original alone: 13 is told by asking it about shortened inputs.
+//!
+//! Of a manifest each line's outcome is that of the text up to it; a world is open there if the original takes a `}` after it.
 //!
 //! An entry that meets a full table is 13 if it is complete and good, so a section of more entries than its table has room for is asked with
 //! one entry more than there is room for: refused, that refusal comes first; accepted, the answer is 13. A shortened count is padded
 //! to as many bytes as it had, so that no offset moves. A count beyond the bytes that follow it is shortened too: an entry takes at
 //! least one byte, so both run out at the same place, and the original, which reserves memory for the count, would end its process.
-use crate::says::{module_says, parse, zeros_to, LONGEST_MODULE};
+use crate::says::{manifest_says, module_says, parse, whole, zeros_to, LONGEST_MODULE};
 use original::leb::Reader;
+use original::wit;
 
 /// Cells to a row and most rows of tables 1 to 4.
 const TABLES: [(u64, u64); 4] = [(5, 256), (5, 1024), (4, 1024), (3, 4096)];
@@ -14,6 +17,51 @@ pub fn module(file: &[u8], cells: [u64; 4]) -> String {
     let room: Vec<u64> = TABLES.iter().zip(cells).map(|((width, limit), n)| (n / width).min(*limit)).collect();
     let said = if file.len() > LONGEST_MODULE { "refused 14 at 0".into() } else { Walk::new(file, &room).says() };
     said + &zeros_to(&cells)
+}
+
+pub fn manifest(text: &[u8], cells: [u64; 2]) -> String {
+    let room = [(cells[0] / 2).min(64), (cells[1] / 7).min(1024)];
+    whole(text).map_or_else(|why| why, |s| manifest_in(s, room)) + &zeros_to(&cells)
+}
+
+fn manifest_in(s: &str, room: [u64; 2]) -> String {
+    let all = wit::parse(s);
+    // a line makes at most one row of each table, so few lines fill none
+    if s.lines().count() as u64 >= room[0].min(room[1]) {
+        if let Some(full) = manifest_full(s, room) {
+            return full;
+        }
+    }
+    manifest_says(&all)
+}
+
+/// 13, where a table is full before the first fault of the text.
+fn manifest_full(s: &str, room: [u64; 2]) -> Option<String> {
+    let full = |t: u64| Some(format!("refused 13 at {t}"));
+    let mut end = 0;
+    let (mut closed, mut open) = (0, false);
+    for line in s.split_inclusive('\n') {
+        end += line.len();
+        let up_to = match wit::parse(&s[..end]) {
+            Ok(m) => m,
+            // a world that another one closes takes its row before the other's name is looked at
+            Err(e) if e.to_string().ends_with("world requires a name") && open && closed + 1 > room[0] => return full(5),
+            Err(_) => return None,
+        };
+        if up_to.worlds.iter().map(|w| w.imports.len() + w.exports.len()).sum::<usize>() as u64 > room[1] {
+            return full(6);
+        }
+        open = wit::parse(&format!("{}\n}}", &s[..end])).is_ok();
+        closed = up_to.worlds.len() as u64 - open as u64;
+        if closed > room[0] {
+            return full(5);
+        }
+    }
+    if closed + open as u64 > room[0] {
+        full(5)
+    } else {
+        None
+    }
 }
 
 /// `n` in as many bytes as stand there.

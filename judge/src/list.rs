@@ -10,7 +10,7 @@ pub struct List {
 }
 
 const EACH: u32 = 2;
-const MOST_BYTES: usize = 120_000;
+const MOST_BYTES: usize = 90_000;
 
 impl List {
     pub fn new() -> List {

@@ -121,7 +121,8 @@ fn heard_apart(court: &mut Court) -> (u64, u64) {
         let case = Case::new(case::Call::Module, &[1280, 5120, 4096, 12288], &[&file]);
         let expected = says::original_says(&case);
         let exe = std::env::current_exe().expect("this program");
-        let mut child = Command::new(exe).arg("apart").stdin(Stdio::piped()).stdout(Stdio::piped()).stderr(Stdio::null()).spawn().expect("a process");
+        let mut child =
+            Command::new(exe).arg("apart").stdin(Stdio::piped()).stdout(Stdio::piped()).stderr(Stdio::null()).spawn().expect("a process");
         child.stdin.take().unwrap().write_all(&file).expect("a pipe");
         let out = child.wait_with_output().expect("an end");
         files += 1;
@@ -202,9 +203,12 @@ impl Court {
         let batch = std::mem::take(&mut self.batch);
         self.bytes = 0;
         let mut rest = &batch[..];
+        // after an end of the port's process its last answers are lost, so the next cases are asked one by one until it ends again
+        let mut step = rest.len();
         while !rest.is_empty() && self.disagreements < 20 && !(self.quick && self.over()) {
-            let answers = self.port.ask(rest);
-            for (case, answer) in rest.iter().zip(&answers) {
+            let (now, later) = rest.split_at(step.min(rest.len()));
+            let answers = self.port.ask(now);
+            for (case, answer) in now.iter().zip(&answers) {
                 self.counts[case.call as usize] += 1;
                 let (original, said) = (says::original_says(case), says::port_says(case, answer));
                 if original != said {
@@ -213,13 +217,15 @@ impl Court {
                     list.add(case, answer);
                 }
             }
-            if answers.len() < rest.len() {
-                self.counts[rest[answers.len()].call as usize] += 1;
-                self.tell(&rest[answers.len()]);
-                rest = &rest[answers.len() + 1..];
-            } else {
-                rest = &[];
-            }
+            (rest, step) = match now.len() - answers.len() {
+                0 => (later, step),
+                1 if now.len() == 1 => {
+                    self.counts[now[0].call as usize] += 1;
+                    self.tell(&now[0]);
+                    (later, later.len())
+                }
+                _ => (&rest[answers.len()..], 1),
+            };
         }
     }
 

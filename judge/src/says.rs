@@ -5,19 +5,13 @@ use original::error::{Error, ErrorKind};
 use original::leb::Reader;
 use original::policy::{self, Domain, DomainRule, Policy, Requirement};
 use original::wasm::{self, ExternalKind, Import, Module};
+use original::wit::{InterfaceRef, Manifest, World};
 
 pub const MARK: u8 = 0xa5;
 pub const LONGEST_MODULE: usize = 16_777_216;
 pub const LONGEST_TEXT: usize = 65_536;
-const DOMAINS: [Domain; 7] = [
-    Domain::Filesystem,
-    Domain::Environment,
-    Domain::Clock,
-    Domain::Network,
-    Domain::Random,
-    Domain::Stdio,
-    Domain::Unknown,
-];
+const DOMAINS: [Domain; 7] =
+    [Domain::Filesystem, Domain::Environment, Domain::Clock, Domain::Network, Domain::Random, Domain::Stdio, Domain::Unknown];
 
 fn refused(number: u64, place: u64) -> String {
     format!("refused {number} at {place}")
@@ -42,6 +36,10 @@ pub fn original_says(case: &Case) -> String {
         Call::Import => classified(s(0), s(1)).to_string(),
         Call::Path => classified_path(s(0)).to_string(),
         Call::Rewrite => rewritten(s(0), n[0]),
+        Call::Manifest => crate::limits::manifest(s(0), [n[0], n[1]]),
+        Call::Requirements => requirements(s(0), n),
+        Call::AllImports => paths(s(0), n, false),
+        Call::AllExports => paths(s(0), n, true),
     }
 }
 
@@ -54,12 +52,14 @@ pub fn port_says(case: &Case, a: &Answer) -> String {
         Call::Name => port_read(t, |t| part(s(0), t[2], t[3])),
         Call::Module => port_module(s(0), t),
         Call::Functions | Call::Memories => answered(t, 3, |t| t[2].to_string()),
-        Call::Namespaces => port_namespaces(s(0), &case.numbers, t),
+        Call::Namespaces | Call::AllImports | Call::AllExports => port_listed(t),
         Call::Policy => port_policy(s(0), t),
         Call::Token => answered(t, 6, |t| format!("{} {} {} {}", t[2], t[3], t[4], t[5])),
         Call::Write | Call::Rewrite => port_written(t, &a.bytes),
         Call::Evaluate => answered(t, 26, |t| format!("{:?} {} {} {}", &t[2..23], t[23], t[24], t[25])),
         Call::Import | Call::Path => t[0].to_string(),
+        Call::Manifest => port_manifest(s(0), t),
+        Call::Requirements => port_requirements(t),
     }
 }
 
@@ -266,7 +266,7 @@ fn namespaces(file: &[u8], numbers: &[u64]) -> String {
     out
 }
 
-fn port_namespaces(_: &[u8], _: &[u64], t: &[u64]) -> String {
+fn port_listed(t: &[u64]) -> String {
     let (rows, zeros) = tables(&t[3..], &[1]);
     let listed: Vec<u64> = rows[0].clone().map(|r| r[0]).collect();
     answered(&t[..3], 3, |t| format!("{}: {listed:?}", t[2])) + &zeros_to(&zeros)
@@ -275,27 +275,31 @@ fn port_namespaces(_: &[u8], _: &[u64], t: &[u64]) -> String {
 // ---- policies
 
 /// 14, then 4 over the whole text.
-fn whole(text: &[u8]) -> Result<&str, String> {
+pub fn whole(text: &[u8]) -> Result<&str, String> {
     if text.len() > LONGEST_TEXT {
         return Err(refused(14, 0));
     }
     std::str::from_utf8(text).map_err(|e| refused(4, e.valid_up_to() as u64))
 }
 
+/// The original's words for each fault of a line, after `line N: `.
+const FAULTS: [(u64, &str); 8] = [
+    (6, "unrecognized policy directive '"),
+    (6, "unrecognized directive '"),
+    (7, "default must be allow|deny, got '"),
+    (8, "unknown capability domain '"),
+    (9, "'package' cannot appear inside a world"),
+    (10, "world requires a name"),
+    (11, "unmatched '}'"),
+    (12, "import/export outside of a world"),
+];
+
 fn line_error(e: &Error) -> String {
     let text = e.to_string();
-    let line = text.split("line ").nth(1).and_then(|t| t.split(':').next()).and_then(|n| n.parse().ok());
-    let number = if text.contains(": unrecognized policy directive '") {
-        6
-    } else if text.contains(": default must be allow|deny, got '") {
-        7
-    } else if text.contains(": unknown capability domain '") {
-        8
-    } else {
-        0
-    };
-    match line {
-        Some(line) if number != 0 => refused(number, line),
+    let told = text.strip_prefix("[bad-manifest] line ").and_then(|t| t.split_once(": "));
+    let fault = told.and_then(|(_, words)| FAULTS.iter().find(|f| words.starts_with(f.1)));
+    match (told.and_then(|t| t.0.parse().ok()), fault) {
+        (Some(line), Some(fault)) => refused(fault.0, line),
         _ => format!("another error: {text}"),
     }
 }
@@ -486,8 +490,7 @@ fn evaluated(n: &[u64]) -> String {
     let required = |d: &u64| Requirement { domain: DOMAINS[*d as usize], source: String::new(), detail: String::new() };
     let list: Vec<Requirement> = rows[..count as usize].iter().map(required).collect();
     let e = policy::evaluate(&list, &Cells(&n[2 + n[1] as usize..]).policy());
-    let told: Vec<u64> =
-        e.verdicts.iter().flat_map(|v| [v.required as u64, v.allowed as u64, v.requirements.len() as u64]).collect();
+    let told: Vec<u64> = e.verdicts.iter().flat_map(|v| [v.required as u64, v.allowed as u64, v.requirements.len() as u64]).collect();
     let set: u64 = e.violations().iter().map(|d| 1u64 << number_of(*d)).sum();
     format!("{told:?} {set} {} {}", e.violations().len(), e.is_compliant() as u64)
 }
@@ -507,4 +510,116 @@ fn classified_path(path: &[u8]) -> usize {
 
 pub fn parse(file: &[u8]) -> original::error::Result<Module> {
     wasm::parse(file)
+}
+
+// ---- manifests
+
+pub fn manifest_says(read: &original::error::Result<Manifest>) -> String {
+    let m = match read {
+        Ok(m) => m,
+        Err(e) => return line_error(e),
+    };
+    let mut out = format!("package {}", m.package.as_ref().map_or("none".into(), |p| format!("={}", hex(p.as_bytes()))));
+    for w in &m.worlds {
+        out += &format!("; world {}", hex(w.name.as_bytes()));
+        for (word, list) in [("import", &w.imports), ("export", &w.exports)] {
+            for r in list {
+                let signature = r.signature.as_ref().map_or("none".into(), |s| format!("={}", hex(s.as_bytes())));
+                out += &format!(", {word} {} {signature}", hex(r.path.as_bytes()));
+            }
+        }
+    }
+    out
+}
+
+fn port_manifest(s: &[u8], t: &[u64]) -> String {
+    let (rows, zeros) = tables(&t[7..], &[2, 7]);
+    let marked = |mark: u64, from: u64, len: u64| match (mark, from, len) {
+        (0, 0, 0) => "none".into(),
+        (1, from, len) => format!("={}", part(s, from, len)),
+        other => format!("{other:?}"),
+    };
+    let said = answered(&t[..7], 7, |t| {
+        let mut out = format!("package {}", marked(t[2], t[3], t[4]));
+        for (i, w) in rows[0].clone().enumerate() {
+            out += &format!("; world {}", part(s, w[0], w[1]));
+            for (word, direction) in [("import", 0), ("export", 1)] {
+                for r in rows[1].clone().filter(|r| r[0] == i as u64 && r[1] == direction) {
+                    out += &format!(", {word} {} {}", part(s, r[2], r[3]), marked(r[4], r[5], r[6]));
+                }
+            }
+        }
+        let stray = rows[1].clone().filter(|r| r[0] >= t[5] || r[1] > 1).count();
+        let sorted = rows[1].clone().zip(rows[1].clone().skip(1)).all(|(a, b)| a[0] <= b[0] && a[2] <= b[2]);
+        match (stray, sorted) {
+            (0, true) => out,
+            _ => out + " with rows of no world or not in the text's order",
+        }
+    });
+    said + &zeros_to(&zeros)
+}
+
+/// Tables 5 and 6 handed in: the room, both counts, how many cells table 5 has, the cells of both.
+fn paths(text: &[u8], n: &[u64], exports: bool) -> String {
+    let (room, n5, n6) = (n[0], n[1], n[2]);
+    let (worlds, references) = n[4..].split_at(n[3] as usize);
+    let tested = |cells: &[u64], width: usize, limit: u64, count: u64, bad: &dyn Fn(&[u64]) -> bool| {
+        let capacity = (cells.len() / width) as u64;
+        if count > capacity.min(limit) {
+            return Err(refused(15, capacity.min(limit)));
+        }
+        match cells.chunks_exact(width).take(count as usize).position(bad) {
+            Some(row) => Err(refused(15, row as u64)),
+            None => Ok(()),
+        }
+    };
+    let said = whole(text)
+        .and_then(|_| tested(worlds, 2, 64, n5, &|r| !inside(text, r[0], r[1])))
+        .and_then(|_| tested(references, 7, 1024, n6, &|r| r[0] >= n5 || !inside(text, r[2], r[3]) || !inside(text, r[5], r[6])));
+    let said = said.map(|()| {
+        let rows: Vec<&[u64]> = references.chunks_exact(7).take(n6 as usize).collect();
+        let refer = |r: &&[u64]| InterfaceRef { path: latin(text, r[2], r[3]), signature: None };
+        let side = |wanted: bool| rows.iter().filter(|r| (r[1] != 0) == wanted).map(refer).collect();
+        let world = World { name: String::new(), imports: side(false), exports: side(true) };
+        let m = Manifest { package: None, worlds: vec![world] };
+        let names = if exports { m.all_exports() } else { m.all_imports() };
+        let lowest = |name: &String| rows.iter().position(|r| (r[1] != 0) == exports && latin(text, r[2], r[3]) == *name).unwrap();
+        if names.len() as u64 > room.min(1024) {
+            refused(13, 15)
+        } else {
+            format!("{}: {:?}", names.len(), names.iter().map(lowest).collect::<Vec<_>>())
+        }
+    });
+    said.unwrap_or_else(|why| why) + &zeros_to(&[room])
+}
+
+// ---- requirements
+
+fn requirements(file: &[u8], numbers: &[u64]) -> String {
+    let (columns, n, cells) = (&numbers[..2], numbers[2], &numbers[3..]);
+    let room = columns[0].min(columns[1]).min(1024);
+    let bad = |r: &[u64]| !inside(file, r[0], r[1]) || !inside(file, r[2], r[3]);
+    let said = if file.len() > LONGEST_MODULE {
+        refused(14, 0)
+    } else if let Some(bad) = imports_tested(cells, n, bad) {
+        bad
+    } else {
+        let rows = cells.chunks_exact(5).take(n as usize);
+        let import = |r: &[u64]| Import { module: latin(file, r[0], r[1]), field: latin(file, r[2], r[3]), kind: kind_of(r[4]) };
+        let m = Module { imports: rows.clone().map(import).collect(), ..Module::default() };
+        let domains: Vec<usize> = policy::requirements_from_module(&m).iter().map(|r| number_of(r.domain)).collect();
+        let listed: Vec<usize> = rows.enumerate().filter(|(_, r)| r[4] == 0).map(|(i, _)| i).collect();
+        if domains.len() as u64 > room {
+            refused(13, 7)
+        } else {
+            format!("{} {domains:?} {listed:?}", domains.len())
+        }
+    };
+    said + &zeros_to(columns)
+}
+
+fn port_requirements(t: &[u64]) -> String {
+    let (rows, zeros) = tables(&t[3..], &[1, 1]);
+    let column = |k: usize| rows[k].clone().map(|r| r[0]).collect::<Vec<u64>>();
+    answered(&t[..3], 3, |t| format!("{} {:?} {:?}", t[2], column(0), column(1))) + &zeros_to(&zeros)
 }

@@ -122,7 +122,8 @@ fn walk(list: &[Node], out: &mut Vec<Vector>) {
     for node in list {
         let Node::List(inner) = node else { continue };
         if let Some(bytes) = binary(inner) {
-            let reason = list.iter().rev().find_map(|n| if let Node::Text(t) = n { Some(String::from_utf8_lossy(t).into_owned()) } else { None });
+            let reason =
+                list.iter().rev().find_map(|n| if let Node::Text(t) = n { Some(String::from_utf8_lossy(t).into_owned()) } else { None });
             out.push(Vector { bytes, malformed: if asserted { reason } else { None } });
         } else {
             walk(inner, out);

@@ -2,7 +2,7 @@
 use Prim.Native.Nat.{ℕ}
 use mathlib.Core.Bool.{false}
 use mathlib.Core.Path.{_≡_}
-use mathlib.Core.List.{List}
+use mathlib.Core.List.{List, map}
 use lib.ListN.{length}
 use Rattle.refusal.specs.Said.{Said, accepted, refused, follow}
 use Rattle.table.specs.Table.{laid}
@@ -55,3 +55,9 @@ pub record ModuleTells (n : ℕ) (z : Sizes) (x : Said Parsed) (l : Lent) (r : M
 pub record ListTells (x : Said (List ℕ)) (before after : List ℕ) (r : CountTold) : Type 0 where
   pub answer-is : r ≡ countTold (follow x (λ l. accepted (length l)))
   pub table-is : after ≡ laid (length before) (rowsIn x)
+
+-- the length of the list of requirements, and what both columns hold at the end: domains by `of`, and rows
+pub record RequireTells (of : ℕ → ℕ) (x : Said (List ℕ)) (domains domains1 rows rows1 : List ℕ) (r : CountTold) : Type 0 where
+  pub answer-is : r ≡ countTold (follow x (λ l. accepted (length l)))
+  pub domains-are : domains1 ≡ laid (length domains) (map of (rowsIn x))
+  pub rows-are : rows1 ≡ laid (length rows) (rowsIn x)

@@ -1,3 +1,4 @@
 // What the comparison with the original drives besides the C interface: calls that take tables of any size and policies of any ranges.
+pub mod manifests;
 pub mod policies;
 pub mod rows;

@@ -6,7 +6,8 @@ ghost use lib.ListN.{length};
 ghost use Rattle.refusal.specs.Said.{saidCount};
 ghost use Rattle.wasm.specs.Module.{sizes, lend, saidModule, moduleAt};
 ghost use Rattle.imports.specs.Queries.{importedOf, namespacesOf};
-ghost use Rattle.judged.specs.Rows.{moduleTold, countTold, ModuleTells, ListTells};
+ghost use Rattle.requirements.specs.Requirements.{roomOf, rowDomain, moduleRows};
+ghost use Rattle.judged.specs.Rows.{moduleTold, countTold, ModuleTells, ListTells, RequireTells};
 
 #[repr(C)]
 pub struct ModuleTold {
@@ -63,7 +64,7 @@ fn module_of(r: ModuleRead) -> ModuleTold
     }
 }
 
-fn count_of(r: Count) -> CountTold
+pub(crate) fn count_of(r: Count) -> CountTold
     ensures { λ x. ⌜ x ≡ countTold (saidCount r) ⌝ }
 {
     match r {
@@ -121,4 +122,20 @@ pub extern "C" fn judged_namespaces(
         (now (sorted .entry)) (now (sorted .exit)) r ⌝ }
 {
     count_of(imports::import_namespaces(file, imports, n, sorted))
+}
+
+// Table 7: of each function that is imported the domain and the row.
+#[no_mangle]
+pub extern "C" fn judged_requirements(
+    file: &[u8],
+    imports: &[usize],
+    domains: &mut [usize],
+    rows: &mut [usize],
+    n: usize,
+) -> CountTold
+    ensures { λ r. ⌜ RequireTells (rowDomain (now (file .entry)) (now (imports .entry)))
+        (moduleRows (now (file .entry)) (now (imports .entry)) n (roomOf (length (now (domains .entry))) (length (now (rows .entry)))))
+        (now (domains .entry)) (now (domains .exit)) (now (rows .entry)) (now (rows .exit)) r ⌝ }
+{
+    count_of(requirements::requirements_from_module(file, imports, n, domains, rows))
 }

@@ -13,8 +13,14 @@ use Rattle.judged.proofs.rows.judged_memories.Kinds as memories-kinds
 use Rattle.judged.proofs.rows.judged_memories.Reads as memories-reads
 use Rattle.judged.proofs.rows.judged_namespaces.Kinds as namespaces-kinds
 use Rattle.judged.proofs.rows.judged_namespaces.Reads as namespaces-reads
-use Rattle.judged.proofs.policies.judged_policy.Kinds as policy-kinds
-use Rattle.judged.proofs.policies.judged_policy.Reads as policy-reads
+use Rattle.judged.proofs.rows.judged_requirements.Kinds as requirements-kinds
+use Rattle.judged.proofs.rows.judged_requirements.Reads as requirements-reads
+use Rattle.judged.proofs.manifests.judged_manifest.Kinds as manifest-kinds
+use Rattle.judged.proofs.manifests.judged_manifest.Reads as manifest-reads
+use Rattle.judged.proofs.manifests.judged_imports.Kinds as all-imports-kinds
+use Rattle.judged.proofs.manifests.judged_imports.Reads as all-imports-reads
+use Rattle.judged.proofs.manifests.judged_exports.Kinds as all-exports-kinds
+use Rattle.judged.proofs.manifests.judged_exports.Reads as all-exports-reads
 use Rattle.judged.proofs.policies.judged_token.Kinds as token-kinds
 use Rattle.judged.proofs.policies.judged_token.Reads as token-reads
 use Rattle.judged.proofs.policies.judged_write.Kinds as write-kinds
@@ -31,9 +37,6 @@ functions-decides κs a x y s t p q = p ∙ sym q
 
 pub memories-decides : Decides memories-kinds.ps memories-kinds.r memories-reads.Post
 memories-decides κs a x y s t p q = p ∙ sym q
-
-pub policy-decides : Decides policy-kinds.ps policy-kinds.r policy-reads.Post
-policy-decides κs a x y s t p q = p ∙ sym q
 
 pub token-decides : Decides token-kinds.ps token-kinds.r token-reads.Post
 token-decides κs a x y s t p q = p ∙ sym q
@@ -52,6 +55,12 @@ module-decides κs a x y s t p q = p .answer-is ∙ sym (q .answer-is)
 
 pub namespaces-decides : Decides namespaces-kinds.ps namespaces-kinds.r namespaces-reads.Post
 namespaces-decides κs a x y s t p q = p .answer-is ∙ sym (q .answer-is)
+
+pub requirements-decides : Decides requirements-kinds.ps requirements-kinds.r requirements-reads.Post
+requirements-decides κs a x y s t p q = p .answer-is ∙ sym (q .answer-is)
+
+pub manifest-decides : Decides manifest-kinds.ps manifest-kinds.r manifest-reads.Post
+manifest-decides κs a x y s t p q = p .answer-is ∙ sym (q .answer-is)
 
 pub write-decides : Decides write-kinds.ps write-kinds.r write-reads.Post
 write-decides κs a x y s t p q = p .answer-is ∙ sym (q .answer-is)
@@ -80,3 +89,37 @@ pub write-leaves : (κs : Lfts 3) (a : Dens κs write-kinds.ps) (x y : resT writ
     (s t : AtExit (endedOf 3 write-kinds.ps write-kinds.r) κs)
     → write-reads.Post κs a x s → write-reads.Post κs a y t → now (s .1 .1 .0) ≡ now (t .1 .1 .0)
 write-leaves κs a x y s t p q = p .output-is ∙ sym (q .output-is)
+
+module _ (κs : Lfts 3) (a : Dens κs manifest-kinds.ps) (x y : resT manifest-kinds.r κs .Denot)
+    (s t : AtExit (endedOf 3 manifest-kinds.ps manifest-kinds.r) κs)
+    (p : manifest-reads.Post κs a x s) (q : manifest-reads.Post κs a y t) where
+  pub worlds-left : now (s .1 .0) ≡ now (t .1 .0)
+  worlds-left = p .tables-are .worlds-are ∙ sym (q .tables-are .worlds-are)
+
+  pub references-left : now (s .1 .1 .0) ≡ now (t .1 .1 .0)
+  references-left = p .tables-are .references-are ∙ sym (q .tables-are .references-are)
+
+module _ (κs : Lfts 4) (a : Dens κs requirements-kinds.ps) (x y : resT requirements-kinds.r κs .Denot)
+    (s t : AtExit (endedOf 4 requirements-kinds.ps requirements-kinds.r) κs)
+    (p : requirements-reads.Post κs a x s) (q : requirements-reads.Post κs a y t) where
+  pub domains-left : now (s .1 .1 .0) ≡ now (t .1 .1 .0)
+  domains-left = p .domains-are ∙ sym (q .domains-are)
+
+  pub rows-left : now (s .1 .1 .1 .0) ≡ now (t .1 .1 .1 .0)
+  rows-left = p .rows-are ∙ sym (q .rows-are)
+
+pub all-imports-decides : Decides all-imports-kinds.ps all-imports-kinds.r all-imports-reads.Post
+all-imports-decides κs a x y s t p q = p .answer-is ∙ sym (q .answer-is)
+
+pub all-imports-leave : (κs : Lfts 4) (a : Dens κs all-imports-kinds.ps) (x y : resT all-imports-kinds.r κs .Denot)
+    (s t : AtExit (endedOf 4 all-imports-kinds.ps all-imports-kinds.r) κs)
+    → all-imports-reads.Post κs a x s → all-imports-reads.Post κs a y t → now (s .1 .1 .1 .0) ≡ now (t .1 .1 .1 .0)
+all-imports-leave κs a x y s t p q = p .table-is ∙ sym (q .table-is)
+
+pub all-exports-decides : Decides all-exports-kinds.ps all-exports-kinds.r all-exports-reads.Post
+all-exports-decides κs a x y s t p q = p .answer-is ∙ sym (q .answer-is)
+
+pub all-exports-leave : (κs : Lfts 4) (a : Dens κs all-exports-kinds.ps) (x y : resT all-exports-kinds.r κs .Denot)
+    (s t : AtExit (endedOf 4 all-exports-kinds.ps all-exports-kinds.r) κs)
+    → all-exports-reads.Post κs a x s → all-exports-reads.Post κs a y t → now (s .1 .1 .1 .0) ≡ now (t .1 .1 .1 .0)
+all-exports-leave κs a x y s t p q = p .table-is ∙ sym (q .table-is)

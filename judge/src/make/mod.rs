@@ -1,4 +1,5 @@
 //! The inputs: exhaustive short ones, good ones made by a grammar, damaged copies. A round of seeded ones is the same for the same seed.
+mod manifests;
 mod modules;
 mod numbers;
 mod policies;
@@ -12,6 +13,7 @@ pub use modules::reserving;
 pub fn fixed(court: &mut Court) {
     numbers::fixed(court);
     policies::fixed(court);
+    manifests::fixed(court);
     modules::fixed(court);
     tables::fixed(court);
 }
@@ -20,6 +22,7 @@ pub fn seeded(court: &mut Court, seed: u64) {
     let r = &mut Random::new(seed);
     numbers::seeded(court, r);
     policies::seeded(court, r);
+    manifests::seeded(court, r);
     modules::seeded(court, r);
     tables::seeded(court, r);
 }

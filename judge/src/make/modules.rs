@@ -34,8 +34,22 @@ fn number(n: u64, r: &mut Random) -> Vec<u8> {
 
 fn name(r: &mut Random) -> Vec<u8> {
     let words: [&[u8]; 16] = [
-        b"", b"m", b"f", b"name", b"wasi_snapshot_preview1", b"wasi_unstable", b"wasi:io/streams", b"fd_write", b"random_get",
-        "\u{85}\u{3000}".as_bytes(), "\u{10ffff}".as_bytes(), b"\xed\xa0\x80", b"\xc0\x80", b"a\xff", b"\xe2\x82", b"env",
+        b"",
+        b"m",
+        b"f",
+        b"name",
+        b"wasi_snapshot_preview1",
+        b"wasi_unstable",
+        b"wasi:io/streams",
+        b"fd_write",
+        b"random_get",
+        "\u{85}\u{3000}".as_bytes(),
+        "\u{10ffff}".as_bytes(),
+        b"\xed\xa0\x80",
+        b"\xc0\x80",
+        b"a\xff",
+        b"\xe2\x82",
+        b"env",
     ];
     // an ill-formed name only now and then, or few modules would be read to the end
     let bytes = if r.one_in(40) { words[r.below(16)] } else { words[r.below(11)] };
@@ -186,7 +200,22 @@ fn many(id: u8, entry: &[u8], n: usize, stated: usize, fault: &[u8]) -> Vec<u8> 
 /// Around the limits, and around small tables: full, one entry more, and that entry with a fault in each of its parts.
 fn around(court: &mut Court, room: usize, cells: [u64; 4]) {
     let faults: [(u8, &[u8], &[&[u8]]); 3] = [
-        (2, b"\x01m\x01f\x00\x00", &[b"", b"\x01", b"\x01\xff", b"\x01m\x01", b"\x01m\x01f", b"\x01m\x01f\x04", b"\x01m\x01f\xff", b"\x01m\x01f\x00", b"\x01m\x01f\x01\x70\x01\x00", b"\x01m\x01f\x03\x7f"]),
+        (
+            2,
+            b"\x01m\x01f\x00\x00",
+            &[
+                b"",
+                b"\x01",
+                b"\x01\xff",
+                b"\x01m\x01",
+                b"\x01m\x01f",
+                b"\x01m\x01f\x04",
+                b"\x01m\x01f\xff",
+                b"\x01m\x01f\x00",
+                b"\x01m\x01f\x01\x70\x01\x00",
+                b"\x01m\x01f\x03\x7f",
+            ],
+        ),
         (7, b"\x01x\x00\x00", &[b"", b"\x01", b"\x01\xff", b"\x01x", b"\x01x\x04", b"\x01x\x00\x80"]),
         (0, b"\x00\x01g", &[b"", b"\x80", b"\x00", b"\x00\x01", b"\x00\x01\xff"]),
     ];
@@ -267,12 +296,27 @@ pub fn fixed(court: &mut Court) {
         }
     }
     limits_themselves(court);
+    for file in real() {
+        hear(court, &file, FULL);
+        hear(court, &file, ROOMY);
+    }
+}
+
+/// The modules of samples/, which a compiler made.
+fn real() -> Vec<Vec<u8>> {
+    let samples = concat!(env!("CARGO_MANIFEST_DIR"), "/../samples");
+    let mut files: Vec<_> = std::fs::read_dir(samples).into_iter().flatten().flatten().map(|e| e.path()).collect();
+    files.retain(|f| f.extension().is_some_and(|e| e == "wasm"));
+    files.sort();
+    files.iter().filter_map(|f| std::fs::read(f).ok()).collect()
 }
 
 /// Declared counts far beyond the entries, with none, one and a bad entry after them.
 pub fn reserving() -> Vec<Vec<u8>> {
     let mut out = Vec::new();
-    for count in [&b"\xff\xff\xff\xff\x0f"[..], b"\xff\xff\xff\xff\x07", b"\x80\x80\x80\x80\x04", b"\xff\xff\xff\x7f", b"\x80\x94\xeb\xdc\x03"] {
+    for count in
+        [&b"\xff\xff\xff\xff\x0f"[..], b"\xff\xff\xff\xff\x07", b"\x80\x80\x80\x80\x04", b"\xff\xff\xff\x7f", b"\x80\x94\xeb\xdc\x03"]
+    {
         for (id, entry) in [(2u8, &b"\x01m\x01f\x00\x00"[..]), (7, b"\x01x\x00\x00")] {
             for rest in [&b""[..], entry, b"\x01\xff"] {
                 let payload = [count, rest].concat();
@@ -311,5 +355,8 @@ pub fn seeded(court: &mut Court, r: &mut Random) {
         let cells = if r.one_in(2) { ROOMY } else { small(r) };
         hear(court, &file, cells);
         hear(court, &damaged(&file, r), cells);
+    }
+    for file in real() {
+        hear(court, &damaged(&file, r), ROOMY);
     }
 }

@@ -17,15 +17,13 @@ fn again(court: &mut Court, s: &[u8], r: &mut Random) {
     }
 }
 
-const WORDS: [&str; 13] =
-    ["policy ", "default ", "allow ", "deny ", "fs", "net", "allow", "deny", ":", ",", "\n", " ", "#"];
-const BLANKS: [&str; 24] = [
-    " ", " ", " ", " ", "\t", "\r", "\u{b}", "\u{c}", "\u{1c}", "\u{84}", "\u{85}", "\u{a0}", "\u{1680}", "\u{180e}", "\u{2000}", "\u{200a}",
-    "\u{200b}", "\u{2028}", "\u{2029}", "\u{202f}", "\u{205f}", "\u{3000}", "\u{3001}", "\u{feff}",
+const WORDS: [&str; 13] = ["policy ", "default ", "allow ", "deny ", "fs", "net", "allow", "deny", ":", ",", "\n", " ", "#"];
+pub const BLANKS: [&str; 24] = [
+    " ", " ", " ", " ", "\t", "\r", "\u{b}", "\u{c}", "\u{1c}", "\u{84}", "\u{85}", "\u{a0}", "\u{1680}", "\u{180e}", "\u{2000}",
+    "\u{200a}", "\u{200b}", "\u{2028}", "\u{2029}", "\u{202f}", "\u{205f}", "\u{3000}", "\u{3001}", "\u{feff}",
 ];
-const SLUGS: [&str; 15] = [
-    "fs", "env", "clock", "network", "net", "random", "rand", "stdio", "unknown", "Fs", "network:", "nets", "", "fs x", "clock ",
-];
+const SLUGS: [&str; 15] =
+    ["fs", "env", "clock", "network", "net", "random", "rand", "stdio", "unknown", "Fs", "network:", "nets", "", "fs x", "clock "];
 const TOKENS: [&str; 10] = ["/tmp", "a.example", "\"", "x y", "", "#", ":", "\u{3000}", "é", "allow"];
 
 fn blanks(r: &mut Random) -> String {
@@ -35,7 +33,14 @@ fn blanks(r: &mut Random) -> String {
 fn line(r: &mut Random) -> String {
     let mut out = blanks(r);
     match r.below(9) {
-        0 => out += &format!("policy {}{}{}", blanks(r), r.pick(&["\"a\"", "\"\"a\"", "\"", "\"\"", "a b", "\"a\" b", "é\"", "", "#x"]), blanks(r)),
+        0 => {
+            out += &format!(
+                "policy {}{}{}",
+                blanks(r),
+                r.pick(&["\"a\"", "\"\"a\"", "\"", "\"\"", "a b", "\"a\" b", "é\"", "", "#x"]),
+                blanks(r)
+            )
+        }
         1 => out += &format!("default {}{}", blanks(r), r.pick(&["allow", "deny", "allow", "deny", "", "Allow", "allow deny", "denyx"])),
         2 => out += r.pick(&["", "# c", "#", "policy", "default", "allow", "deny", "allow\tfs", "default\u{a0}deny", "x"]),
         _ => {
@@ -46,8 +51,7 @@ fn line(r: &mut Random) -> String {
             out += &blanks(r);
             if r.one_in(2) {
                 out += ":";
-                let tokens: Vec<String> =
-                    (0..r.below(5)).map(|_| blanks(r) + TOKENS[r.below(10)] + &blanks(r)).collect();
+                let tokens: Vec<String> = (0..r.below(5)).map(|_| blanks(r) + TOKENS[r.below(10)] + &blanks(r)).collect();
                 out += &tokens.join(",");
             }
         }
@@ -116,13 +120,50 @@ fn evaluated(court: &mut Court, r: &mut Random) {
 }
 
 const SOURCES: [&str; 24] = [
-    "wasi_snapshot_preview1", "wasi_snapshot_preview10", "wasi_snapshot_preview", "wasi_snapshot_preview2", "wasi_unstable",
-    "wasi_unstable2", "wasi_unstabl", "wasi:io", "wasi:io/streams", "wasi:cli@0.2", "wasi:filesystem/types@1", "wasi:clocks", "wasi:sockets/x",
-    "wasi:random", "wasi:wasi:random", "wasi:", "wasi", "random", "cli/env", "", "wasi:@io", "wasi:/io", "wasi:io@/x", "Wasi:io",
+    "wasi_snapshot_preview1",
+    "wasi_snapshot_preview10",
+    "wasi_snapshot_preview",
+    "wasi_snapshot_preview2",
+    "wasi_unstable",
+    "wasi_unstable2",
+    "wasi_unstabl",
+    "wasi:io",
+    "wasi:io/streams",
+    "wasi:cli@0.2",
+    "wasi:filesystem/types@1",
+    "wasi:clocks",
+    "wasi:sockets/x",
+    "wasi:random",
+    "wasi:wasi:random",
+    "wasi:",
+    "wasi",
+    "random",
+    "cli/env",
+    "",
+    "wasi:@io",
+    "wasi:/io",
+    "wasi:io@/x",
+    "Wasi:io",
 ];
 const FIELDS: [&str; 18] = [
-    "fd_write", "fd_", "fd", "path_open", "path_", "path", "environ_get", "environ_", "args_", "args", "clock_time_get", "sock_recv",
-    "random_get", "random_get2", "random_ge", "", "xfd_", "sock",
+    "fd_write",
+    "fd_",
+    "fd",
+    "path_open",
+    "path_",
+    "path",
+    "environ_get",
+    "environ_",
+    "args_",
+    "args",
+    "clock_time_get",
+    "sock_recv",
+    "random_get",
+    "random_get2",
+    "random_ge",
+    "",
+    "xfd_",
+    "sock",
 ];
 
 pub fn fixed(court: &mut Court) {

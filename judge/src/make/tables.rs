@@ -11,6 +11,7 @@ pub fn fixed(court: &mut Court) {
                 court.hear(Case::new(call, &[&[n], &cells[..]].concat(), &[]));
             }
             court.hear(Case::new(Call::Namespaces, &[&[1024, n], &cells[..]].concat(), &[b"a"]));
+            court.hear(Case::new(Call::Requirements, &[&[1030, 1030, n], &cells[..]].concat(), &[b"a"]));
         }
     }
     // as many names as table 15 takes, with room for one less, all, and more
@@ -22,7 +23,7 @@ pub fn fixed(court: &mut Court) {
 }
 
 pub fn seeded(court: &mut Court, r: &mut Random) {
-    let file = b"aabab\x00\xffab\xc3\xa9";
+    let file = b"aabab\x00\xffab\xc3\xa9wasi:io/xfd_";
     for _ in 0..250 {
         let rows = r.below(7);
         let mut cells = Vec::new();
@@ -46,5 +47,6 @@ pub fn seeded(court: &mut Court, r: &mut Random) {
         court.hear(Case::new(Call::Functions, &[&[n], &cells[..]].concat(), &[]));
         court.hear(Case::new(Call::Memories, &[&[n], &cells[..]].concat(), &[]));
         court.hear(Case::new(Call::Namespaces, &[&[r.below(8) as u64, n], &cells[..]].concat(), &[file]));
+        court.hear(Case::new(Call::Requirements, &[&[r.below(8) as u64, r.below(8) as u64, n], &cells[..]].concat(), &[file]));
     }
 }

@@ -1,7 +1,7 @@
 -- `show` meets its contract. Assumes nothing.
 use borrow.Author.Needs.{needs}
-use Rattle.judged.proofs.policies.show.Statement.{statement}
-use Rattle.judged.proofs.policies.show.Tie as tie
+use Rattle.capi.proofs.policies.show.Statement.{statement}
+use Rattle.capi.proofs.policies.show.Tie as tie
 
 returns : tie.Need-returns
 returns c =

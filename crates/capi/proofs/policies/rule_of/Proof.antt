@@ -1,7 +1,7 @@
 -- `rule_of` meets its contract. Assumes nothing.
 use borrow.Author.Needs.{needs}
-use Rattle.judged.proofs.policies.rule_of.Statement.{statement}
-use Rattle.judged.proofs.policies.rule_of.Tie as tie
+use Rattle.capi.proofs.policies.rule_of.Statement.{statement}
+use Rattle.capi.proofs.policies.rule_of.Tie as tie
 
 returns : tie.Need-returns
 returns c = rw (c .mark-of .ensures)

@@ -1,8 +1,8 @@
 -- `token_of` meets its contract. Assumes nothing.
 use mathlib.Core.Path.{_∙_, ap}
 use borrow.Author.Needs.{needs}
-use Rattle.judged.proofs.policies.token_of.Statement.{statement}
-use Rattle.judged.proofs.policies.token_of.Tie as tie
+use Rattle.capi.proofs.policies.token_of.Statement.{statement}
+use Rattle.capi.proofs.policies.token_of.Tie as tie
 
 returns : tie.Need-returns
 returns c = rw (c .before .t .given .1)

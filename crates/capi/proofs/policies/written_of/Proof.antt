@@ -1,7 +1,7 @@
 -- `written_of` meets its contract. Assumes nothing.
 use borrow.Author.Needs.{needs}
-use Rattle.judged.proofs.policies.written_of.Statement.{statement}
-use Rattle.judged.proofs.policies.written_of.Tie as tie
+use Rattle.capi.proofs.policies.written_of.Statement.{statement}
+use Rattle.capi.proofs.policies.written_of.Tie as tie
 
 returns : tie.Need-returns
 returns c = rw (c .before .w .given .1)

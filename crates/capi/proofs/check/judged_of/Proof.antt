@@ -1,7 +1,7 @@
 -- `judged_of` meets its contract. Assumes nothing.
 use borrow.Author.Needs.{needs}
-use Rattle.judged.proofs.policies.judged_of.Statement.{statement}
-use Rattle.judged.proofs.policies.judged_of.Tie as tie
+use Rattle.capi.proofs.check.judged_of.Statement.{statement}
+use Rattle.capi.proofs.check.judged_of.Tie as tie
 
 returns : tie.Need-returns
 returns c =
