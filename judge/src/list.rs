@@ -5,16 +5,17 @@ use std::collections::HashMap;
 /// A few cases of every kind of answer, so that a short list has them all.
 pub struct List {
     seen: HashMap<String, u32>,
+    bytes: HashMap<u32, usize>,
     pub records: Vec<String>,
-    bytes: usize,
 }
 
+/// Cases of a kind, and bytes of records of a call.
 const EACH: u32 = 2;
-const MOST_BYTES: usize = 90_000;
+const MOST_BYTES: usize = 20_000;
 
 impl List {
     pub fn new() -> List {
-        List { seen: HashMap::new(), records: Vec::new(), bytes: 0 }
+        List { seen: HashMap::new(), bytes: HashMap::new(), records: Vec::new() }
     }
 
     pub fn add(&mut self, case: &Case, a: &Answer) {
@@ -22,18 +23,20 @@ impl List {
         let kind = format!("{:?} {}", case.call, kind_of(case.call, &answer));
         let seen = self.seen.entry(kind).or_insert(0);
         let line = format!("J{} | {input} | {answer}", self.records.len() + 1);
-        if *seen < EACH && line.len() < 600 && self.bytes + line.len() < MOST_BYTES {
+        let bytes = self.bytes.entry(case.call as u32).or_insert(0);
+        if *seen < EACH && line.len() < 600 && *bytes + line.len() < MOST_BYTES {
             *seen += 1;
-            self.bytes += line.len() + 1;
+            *bytes += line.len() + 1;
             self.records.push(line);
         }
     }
 }
 
-/// The refusal whole; of what is accepted, how many of everything there are.
+/// The refusal, of a text without its place; of what is accepted, how many of everything there are.
 fn kind_of(call: Call, answer: &str) -> String {
     if answer.starts_with("refused") {
-        return answer.into();
+        let words = if call == Call::Module { 3 } else { 2 };
+        return answer.split(' ').take(words).collect();
     }
     let words: Vec<&str> = answer.split(' ').collect();
     match call {

@@ -102,10 +102,10 @@ fn one(text: &str) -> bool {
 fn fixed_list() -> bool {
     let mut court = Court::new(false);
     court.list = Some(list::List::new());
+    make::fixed(&mut court);
     for round in 0..20 {
         make::seeded(&mut court, round);
     }
-    make::fixed(&mut court);
     court.decide();
     println!("# The original's answers, as 'judge list' obtained them by running it beside the port: docs/JUDGE.md.");
     for record in &court.list.as_ref().unwrap().records {
