@@ -13,7 +13,7 @@ ghost use Rattle.table.specs.Listing.{Lists};
 ghost use Rattle.imports.specs.Queries.{importFits, importsTested, kindsTested, kindIs, importedOf, namespacesOf};
 
 // A range lies in so many bytes.
-fn fits(length: usize, from: usize, len: usize) -> bool
+pub fn fits(length: usize, from: usize, len: usize) -> bool
     ensures { λ r. ⌜ r ≡ leb (from + len) length ⌝ }
 {
     if length < len {

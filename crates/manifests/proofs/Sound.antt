@@ -62,8 +62,10 @@ unfolding rangeFits worldCells
 world-good s n rows ok i h =
     let r = getD rows i noPart in
     let o = each-at rows i noPart h ok in
-    let a : cellOf (laid n (cells worldCells rows)) 2 i 0 ≡ r .from = cell-laid worldCells 2 world-wide n rows i 0 noPart h (omega arith) in
-    let b : cellOf (laid n (cells worldCells rows)) 2 i 1 ≡ r .len = cell-laid worldCells 2 world-wide n rows i 1 noPart h (omega arith) in
+    let at : (j : ℕ) → j < 2 → cellOf (laid n (cells worldCells rows)) 2 i j ≡ getD (worldCells r) j 0 =
+    λ j k. cell-laid worldCells 2 world-wide n rows i j noPart h k in
+    let a : cellOf (laid n (cells worldCells rows)) 2 i 0 ≡ r .from = at 0 (omega arith) in
+    let b : cellOf (laid n (cells worldCells rows)) 2 i 1 ≡ r .len = at 1 (omega arith) in
     rw (a, b) (le-leb (r .from + r .len) (length s) (o .name-clean .in-text))
 
 -- ---- table 6

@@ -18,8 +18,8 @@ use Rattle.refusal.specs.declared.Refusal.{Refusal}
 use Rattle.refusal.proofs.Following.{never}
 use Rattle.text.proofs.Laws.{left-next, left-none}
 use Rattle.table.specs.Table.{capacityOf}
-use Rattle.policy.specs.Evaluate.{howMany, verdictFor, violates, bits, members, firsts, sevenOf, outcome, firstPast, domainsTest}
-use Rattle.policy.specs.Evaluate.{evaluated, noVerdict, EvaluatedAs, compliant, acceptedAs}
+use Rattle.policy.specs.Evaluate.{howMany, verdictFor, violates, bits, members, firsts, sevenOf, outcomeBy, outcome, firstPast}
+use Rattle.policy.specs.Evaluate.{domainsTest, evaluated, noVerdict, EvaluatedAs, compliant, acceptedAs}
 use Rattle.policy.specs.declared.Policy.{Policy}
 use Rattle.policy.specs.declared.eval.Verdict.{Verdict}
 use Rattle.policy.specs.declared.eval.Evaluation.{Evaluation}
@@ -171,15 +171,18 @@ flag-at [] i = refl
 flag-at (v ∷ vs) zero = refl
 flag-at (v ∷ vs) (suc i) = flag-at vs i
 
--- ---- what judged gives
-pub judged-as : (p : Policy) (ns : List ℕ) {many : List ℕ} {vs : List Verdict} {k n : ℕ}
-    → many ≡ counts ns → vs ≡ sevenOf (λ (d : ℕ). verdictFor p d (getD many d 0)) → k ≡ bits 0 (firsts 7 (map violates vs))
-    → ones k ≡ members (firsts 7 (map violates vs)) → n ≡ ones k
-    → EvaluatedAs (accepted (outcome p ns)) (record { answer = Answer.Accepted; verdicts = vs; set = k; count = n })
-unfolding outcome firsts
-judged-as p ns {many} {vs} {k} {n} m v b o c =
-    let z : vs ≡ sevenOf (λ (d : ℕ). verdictFor p d (howMany d ns)) = v ∙ rw m in
-    record { answer = refl; verdicts = z; set = b ∙ rw z; count = c ∙ o ∙ rw z }
+-- ---- what judge gives, and judged
+pub judge-as : (p : Policy) (many : List ℕ) {vs : List Verdict} {k n : ℕ} → vs ≡ sevenOf (λ (d : ℕ). verdictFor p d (getD many d 0))
+    → k ≡ bits 0 (firsts 7 (map violates vs)) → ones k ≡ members (firsts 7 (map violates vs)) → n ≡ ones k
+    → EvaluatedAs (accepted (outcomeBy (sevenOf (λ (d : ℕ). verdictFor p d (getD many d 0)))))
+    (record { answer = Answer.Accepted; verdicts = vs; set = k; count = n })
+unfolding firsts
+judge-as p many v b o c = record { answer = refl; verdicts = v; set = b ∙ rw v; count = c ∙ o ∙ rw v }
+
+pub judged-as : (p : Policy) (ns : List ℕ) {many : List ℕ} {r : Evaluation} → many ≡ counts ns
+    → EvaluatedAs (accepted (outcomeBy (sevenOf (λ (d : ℕ). verdictFor p d (getD many d 0))))) r → EvaluatedAs (accepted (outcome p ns)) r
+unfolding outcome
+judged-as p ns m e = rw m at e
 
 module _ (ns : List ℕ) (n : ℕ) (p : Policy) {a : Answer} {r : Evaluation} (tested : saidAnswer a ≡ domainsTest ns n) where
   pub evaluated-good : a ≡ Answer.Accepted → EvaluatedAs (accepted (outcome p (take n ns))) r → EvaluatedAs (evaluated ns n p) r

@@ -13,7 +13,7 @@ ghost use lib.ListN.{length, take, getD};
 ghost use Rattle.refusal.specs.Said.{accepted, refusedBy, saidAnswer};
 ghost use Rattle.policy.specs.Domain.{numberOf};
 ghost use Rattle.policy.specs.Evaluate.{effectiveOf, verdictFor, violates, compliant, howMany, sevenOf, one, bits, members, firsts};
-ghost use Rattle.policy.specs.Evaluate.{firstPast, domainsTest, outcome, evaluated, EvaluatedAs};
+ghost use Rattle.policy.specs.Evaluate.{firstPast, domainsTest, outcomeBy, outcome, evaluated, EvaluatedAs};
 
 // The rule that holds for a domain: whether it is allowed, and the range of its tokens.
 pub struct Rule {
@@ -192,12 +192,10 @@ fn violations(verdicts: [Verdict; 7]) -> u32
     set
 }
 
-// The outcome for n rows that are all right.
-fn judged(domains: &[usize], n: usize, p: Policy) -> Evaluation
-    requires { ⌜ (n ≤ length (now domains)) × ((i : ℕ) → i < n → getD (now domains) i 0 < 7) ⌝ }
-    ensures { λ r. ⌜ EvaluatedAs (accepted (outcome p (take n (now (domains .entry))))) r ⌝ }
+// The verdicts of a policy on domains of which each is required so many times.
+pub fn judge(p: Policy, many: [usize; 7]) -> Evaluation
+    ensures { λ r. ⌜ EvaluatedAs (accepted (outcomeBy (sevenOf (λ (d : ℕ). verdictFor p d (getD many d 0))))) r ⌝ }
 {
-    let many = tally(domains, n);
     let verdicts = verdicts_of(p, many);
     let set = violations(verdicts);
     Evaluation {
@@ -208,7 +206,16 @@ fn judged(domains: &[usize], n: usize, p: Policy) -> Evaluation
     }
 }
 
-fn unjudged(why: Refusal) -> Evaluation
+// The outcome for n rows that are all right.
+fn judged(domains: &[usize], n: usize, p: Policy) -> Evaluation
+    requires { ⌜ (n ≤ length (now domains)) × ((i : ℕ) → i < n → getD (now domains) i 0 < 7) ⌝ }
+    ensures { λ r. ⌜ EvaluatedAs (accepted (outcome p (take n (now (domains .entry))))) r ⌝ }
+{
+    judge(p, tally(domains, n))
+}
+
+// A refusal, and no verdict.
+pub fn unjudged(why: Refusal) -> Evaluation
     ensures { λ r. ⌜ EvaluatedAs (refusedBy why) r ⌝ }
 {
     let none = Verdict {

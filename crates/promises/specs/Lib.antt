@@ -13,5 +13,10 @@ pub mod OfKinds
 pub mod OfPolicy
 pub mod OfRequirements
 pub mod OfInterfaces
+pub mod OfEvaluation
+pub mod OfChecking
 pub mod Examples
 pub mod Rejected
+pub mod OfCapi
+pub mod OfJudged
+pub mod Unclassified

@@ -35,6 +35,10 @@ use Rattle.policy.proofs.eval.is_violation.Kinds as is-violation-kinds
 use Rattle.policy.proofs.eval.is_violation.Reads as is-violation
 use Rattle.policy.proofs.eval.is_compliant.Kinds as is-compliant-kinds
 use Rattle.policy.proofs.eval.is_compliant.Reads as is-compliant
+use Rattle.policy.proofs.eval.judge.Kinds as judge-kinds
+use Rattle.policy.proofs.eval.judge.Reads as judge
+use Rattle.policy.proofs.eval.unjudged.Kinds as unjudged-kinds
+use Rattle.policy.proofs.eval.unjudged.Reads as unjudged
 use Rattle.policy.proofs.eval.evaluate_domains.Kinds as evaluate-domains-kinds
 use Rattle.policy.proofs.eval.evaluate_domains.Reads as evaluate-domains
 use Rattle.rewriting.proofs.token.next_token.Kinds as next-token-kinds
@@ -83,6 +87,12 @@ is-compliant-decides κs a x y s t p q = p ∙ sym q
 
 pub evaluate-domains-decides : Decides evaluate-domains-kinds.ps evaluate-domains-kinds.r evaluate-domains.Post
 evaluate-domains-decides κs a x y s t p q = evaluation-known x y p q
+
+pub judge-decides : Decides judge-kinds.ps judge-kinds.r judge.Post
+judge-decides κs a x y s t p q = evaluation-known x y p q
+
+pub unjudged-decides : Decides unjudged-kinds.ps unjudged-kinds.r unjudged.Post
+unjudged-decides κs a x y s t p q = evaluation-known x y p q
 
 pub next-token-decides : Decides next-token-kinds.ps next-token-kinds.r next-token.Post
 next-token-decides κs a x y s t p q = token-known x y (p ∙ sym q)

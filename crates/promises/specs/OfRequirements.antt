@@ -26,7 +26,8 @@ pub from-module-decides : Decides from-module-kinds.ps from-module-kinds.r from-
 from-module-decides κs a x y s t p q = count-known x y (p .answer-is ∙ sym (q .answer-is))
 
 module _ (κs : Lfts 4) (a : Dens κs from-module-kinds.ps) (x y : resT from-module-kinds.r κs .Denot)
-    (s t : AtExit (endedOf 4 from-module-kinds.ps from-module-kinds.r) κs) (p : from-module.Post κs a x s) (q : from-module.Post κs a y t) where
+    (s t : AtExit (endedOf 4 from-module-kinds.ps from-module-kinds.r) κs) (p : from-module.Post κs a x s)
+    (q : from-module.Post κs a y t) where
   pub from-module-domains : now (s .1 .1 .1 .0) ≡ now (t .1 .1 .1 .0)
   from-module-domains = p .domains-are ∙ sym (q .domains-are)
 

@@ -134,7 +134,7 @@ module _ {of : ℕ → ℕ} {l domains domains1 rows rows1 : List ℕ} {found : 
       })
 
 -- ---- the domain of a row, by its cells and ranges
-pub row-domain : (file imports : List ℕ) (i : ℕ) {a b d e : ℕ} {source field : List ℕ} → a ≡ cellOf imports 5 i 0 → b ≡ cellOf imports 5 i 1
-    → d ≡ cellOf imports 5 i 2 → e ≡ cellOf imports 5 i 3 → source ≡ rangeOf file a b → field ≡ rangeOf file d e
+pub row-domain : (file imports : List ℕ) (i : ℕ) {a b d e : ℕ} {source field : List ℕ} → a ≡ cellOf imports 5 i 0
+    → b ≡ cellOf imports 5 i 1 → d ≡ cellOf imports 5 i 2 → e ≡ cellOf imports 5 i 3 → source ≡ rangeOf file a b → field ≡ rangeOf file d e
     → importDomain source field ≡ rowDomain file imports i
 row-domain file imports i ea eb ed ee es ef = rw (es, ef, ea, eb, ed, ee)

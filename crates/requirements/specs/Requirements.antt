@@ -26,7 +26,8 @@ rowDomain file imports i = importDomain (nameAt file imports 5 0 1 i) (nameAt fi
 unfoldable pub moduleRows : List ℕ → List ℕ → ℕ → ℕ → Said (List ℕ)
 moduleRows file imports n room = asked file imports n (fitted 7 room (functionRows imports n))
 
--- ---- the promise of a call that fills table 7 with rows x, of which row i asks for domain `of i`: the answer, and every cell of both columns
+-- ---- the promise of a call that fills table 7 with rows x, of which row i asks for domain `of i`:
+-- the answer, and every cell of both columns
 pub record Requires (of : ℕ → ℕ) (x : Said (List ℕ)) (domains domains1 rows rows1 : List ℕ) (a : Said ℕ) : Type 0 where
   pub answer-is : a ≡ follow x (λ l. accepted (length l))
   pub domains-are : domains1 ≡ laid (length domains) (map of (rowsIn x))

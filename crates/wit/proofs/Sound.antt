@@ -126,7 +126,8 @@ module _ (s : List ℕ) (z : Sizes) where
     put false e g = gives-stop (Of Shut) 13 5
 
     by : (b : Bool) → t .world .given ≡ b
-        → Gives (Of Shut) (pick b (pick (ltb (length (t .worlds)) (capacityOf (z .worlds) 2 64)) (accepted (got (closed t) next)) (refused 13 5))
+        → Gives (Of Shut) (pick b
+        (pick (ltb (length (t .worlds)) (capacityOf (z .worlds) 2 64)) (accepted (got (closed t) next)) (refused 13 5))
         (accepted (got t next)))
     by true g = put (ltb (length (t .worlds)) (capacityOf (z .worlds) 2 64)) refl g
     by false g = gives-done (Of Shut) (got t next) (record { kept = h; none = h .open-ok .missing g })
@@ -153,11 +154,11 @@ module _ (s : List ℕ) (z : Sizes) where
   unfolding openAt Of
   open-keeps name next t h c =
       gives-onward (Of Kept) (closeAt z next t) _ (λ u at e. by u at (close-shut next t h u at e) (eqb (name .len) 0) refl) where
-    by : (u : State) (at : ℕ) → Shut u → (b : Bool) → eqb (name .len) 0 ≡ b
-        → Gives (Of Kept) (pick b (refused 10 (u .line)) (accepted (got (withWorld name u) at)))
-    by u at o true e = gives-stop (Of Kept) 10 (u .line)
-    by u at o false e =
-        gives-done (Of Kept) (got (withWorld name u) at) (kept-opened name u o c (positive (name .len) (eqb-false (name .len) 0 e)))
+        by : (u : State) (at : ℕ) → Shut u → (b : Bool) → eqb (name .len) 0 ≡ b
+            → Gives (Of Kept) (pick b (refused 10 (u .line)) (accepted (got (withWorld name u) at)))
+        by u at o true e = gives-stop (Of Kept) 10 (u .line)
+        by u at o false e =
+            gives-done (Of Kept) (got (withWorld name u) at) (kept-opened name u o c (positive (name .len) (eqb-false (name .len) 0 e)))
 
   -- ---- a reference
   kept-referred : (t : State) (export : Bool) (path : Part) (signature : Mark) → Kept t → t .world .given ≡ true → Clean s path

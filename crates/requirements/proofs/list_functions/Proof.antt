@@ -38,7 +38,8 @@ loop-again c =
       omega arith,
       ⊎-elim
           (λ w. fill-hit (l .inv .1) (t .loop-test .taken) (kind-hit _ _ (k .cell .ensures) (w .0 .taken))
-          (w .12 ∙ w .4 .ensures ∙ ap (λ (v : ℕ). putRow (l .domains) (l .found) (v ∷ [])) (w .1 .ensures)) (w .13 ∙ w .9 .ensures) (w .14))
+          (w .12 ∙ w .4 .ensures ∙ ap (λ (v : ℕ). putRow (l .domains) (l .found) (v ∷ [])) (w .1 .ensures))
+          (w .13 ∙ w .9 .ensures) (w .14))
           (λ w. fill-miss (l .inv .1) (t .loop-test .taken) (kind-miss _ _ (k .cell .ensures) (w .0 .left)) (w .1) (w .2) (w .3))
           (c .if1 .came),
     )

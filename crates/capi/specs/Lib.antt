@@ -1,0 +1,2 @@
+-- What each call of the C interface answers.
+pub mod Reading

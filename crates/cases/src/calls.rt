@@ -1,0 +1,121 @@
+// The calls, by the word that a record has for each.
+use crate::manifests;
+use crate::modules;
+use crate::policies;
+use text::order::equal;
+
+// Makes the call on strings `a` and `b` and the cells given. False where the word is none.
+pub(crate) fn make_call(
+    word: &[u8],
+    a: &[u8],
+    b: &[u8],
+    cells: &[usize],
+    got: &mut [usize],
+) -> bool {
+    if on_module(word, a, cells, got) {
+        return true;
+    }
+    if on_domain(word, a, b, cells, got) {
+        return true;
+    }
+    if on_policy(word, a, cells, got) {
+        return true;
+    }
+    on_manifest(word, a, cells, got)
+}
+
+fn on_module(word: &[u8], a: &[u8], cells: &[usize], got: &mut [usize]) -> bool {
+    if equal(word, b"module") {
+        modules::read(a, cells, got);
+        return true;
+    }
+    if equal(word, b"functions") {
+        modules::functions(cells, got);
+        return true;
+    }
+    if equal(word, b"memories") {
+        modules::memories(cells, got);
+        return true;
+    }
+    if equal(word, b"namespaces") {
+        modules::namespaces(a, cells, got);
+        return true;
+    }
+    if equal(word, b"kind") {
+        modules::kind(cells, got);
+        return true;
+    }
+    if equal(word, b"other") {
+        modules::other_kind(cells, got);
+        return true;
+    }
+    if equal(word, b"section") {
+        modules::section(cells, got);
+        return true;
+    }
+    false
+}
+
+fn on_domain(word: &[u8], a: &[u8], b: &[u8], cells: &[usize], got: &mut [usize]) -> bool {
+    if equal(word, b"slug") {
+        policies::from_slug(a, got);
+        return true;
+    }
+    if equal(word, b"domain") {
+        policies::domain(cells, got);
+        return true;
+    }
+    if equal(word, b"import") {
+        policies::import(a, b, got);
+        return true;
+    }
+    if equal(word, b"path") {
+        policies::path(a, got);
+        return true;
+    }
+    false
+}
+
+fn on_policy(word: &[u8], a: &[u8], cells: &[usize], got: &mut [usize]) -> bool {
+    if equal(word, b"policy") {
+        policies::read(a, got);
+        return true;
+    }
+    if equal(word, b"default") {
+        policies::default(got);
+        return true;
+    }
+    if equal(word, b"effective") {
+        policies::effective(cells, got);
+        return true;
+    }
+    if equal(word, b"token") {
+        policies::token(a, cells, got);
+        return true;
+    }
+    if equal(word, b"requirements") {
+        policies::requirements(a, cells, got);
+        return true;
+    }
+    if equal(word, b"check") {
+        policies::check(a, cells, got);
+        return true;
+    }
+    if equal(word, b"evaluate") {
+        policies::evaluate(cells, got);
+        return true;
+    }
+    if equal(word, b"write") {
+        policies::write(a, cells, got);
+        return true;
+    }
+    false
+}
+
+fn on_manifest(word: &[u8], a: &[u8], cells: &[usize], got: &mut [usize]) -> bool {
+    if equal(word, b"manifest") {
+        manifests::read(a, cells, got);
+        return true;
+    }
+    false
+}

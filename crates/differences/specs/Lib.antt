@@ -1,0 +1,6 @@
+-- What the comparison of two modules is.
+pub mod View
+pub mod Differences
+pub mod Rank
+pub mod Compared
+pub mod Numbers

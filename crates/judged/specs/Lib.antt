@@ -1,0 +1,3 @@
+-- What each call that the comparison drives answers: the port's own definitions, in structs of numbers.
+pub mod Rows
+pub mod Policies

@@ -1,0 +1,3 @@
+// What the comparison with the original drives besides the C interface: calls that take tables of any size and policies of any ranges.
+pub mod policies;
+pub mod rows;

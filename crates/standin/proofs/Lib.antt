@@ -1,0 +1,9 @@
+-- The proofs of the statements.
+pub mod Passing
+pub mod Differ
+pub mod Orders
+pub mod Lowest
+pub mod Views
+pub mod Builds
+pub mod Domains
+pub mod Theorems

@@ -1,0 +1,225 @@
+-- The proofs of Claims. Assumes nothing.
+use mathlib.Core.Path.{_≡_, refl, sym, _∙_, ap}
+use mathlib.Core.Logic.{_⊎_, inl, inr, _↔_, ⊎-elim}
+use mathlib.Core.Bool.{Bool, true, false, true≢false}
+use mathlib.Core.List.{List, [], _∷_, List·Memᴰ·head, List·Memᴰ·tail, List·Memᴰ·not-nil, List·Memᴰ·cases-cons, Memᴰ·cast}
+use Prim.Native.Nat.{ℕ, _≤_, _<_}
+use native.Mathlib.Omega.{arith}
+use native.Mathlib.Decide.{ℕ-discrete}
+use lib.Dec.{leb, eqb}
+use lib.ListN.{length, length-map}
+use borrow.Author.Tests.{leb-false}
+use Rattle.refusal.specs.Pick.{pick, both}
+use Rattle.refusal.specs.Said.{Said, accepted, refused, follow, saidAnswer}
+use Rattle.refusal.specs.declared.Answer.{Answer}
+use Rattle.refusal.proofs.Following.{never}
+use Rattle.table.specs.Entries.{finished}
+use Rattle.sorting.specs.Sort.{_∈_}
+use Rattle.policy.specs.declared.Policy.{Policy}
+use Rattle.policy.specs.declared.eval.Evaluation.{Evaluation}
+use Rattle.policy.specs.Evaluate.{EvaluatedAs, acceptedAs, compliant}
+use Rattle.imports.specs.Queries.{kindIs}
+use Rattle.differences.specs.View.{Need, needAt}
+use Rattle.differences.specs.Differences.{cmpExport, cmpNeed, exportOrder, needOrder, exportDiff, needDiff}
+use Rattle.differences.specs.Compared.{Lists, lists, roomed, compared, Verdict, verdictOf}
+use Rattle.standin.specs.Passing.{witness}
+use Rattle.standin.specs.Replacing.{turned}
+use Rattle.standin.specs.Builds.{Build, handed, view, domains, pairs, comparison, StandsIn, Chain, last, exchanged, Read, Meets}
+use Rattle.standin.specs.Claims.{Covers, Replacement, Listing, FailSafe}
+use Rattle.standin.proofs.Passing.{one-value, allBut, witness-reads, but-denied, but-allowed}
+use Rattle.standin.proofs.Differ.{mem-map, map-mem}
+use Rattle.standin.proofs.Lowest.{Rising, rising-rows, lowest-each}
+use Rattle.standin.proofs.Views.{few-changes, says, exports-exchange, needs-exchange, exports-ascend, needs-ascend, exports-each}
+use Rattle.standin.proofs.Views.{exports-removed, exports-added, needs-removed, needs-added}
+use Rattle.standin.proofs.Builds.{view-exports, view-needs, compared-is}
+use Rattle.standin.proofs.Domains.{small, meets-allows, allows-meets}
+
+-- ---- room
+-- the lists, or 13 at 8 or at 9
+data Roomed (room8 room9 : ℕ) (l : Lists) : Type 0 where
+  room : roomed room8 room9 l ≡ accepted l → Roomed room8 room9 l
+  full8 : roomed room8 room9 l ≡ refused 13 8 → room8 < length (l .exports) → Roomed room8 room9 l
+  full9 : roomed room8 room9 l ≡ refused 13 9 → room9 < length (l .needs) → Roomed room8 room9 l
+
+roomed-as : (room8 room9 : ℕ) (l : Lists) → Roomed room8 room9 l
+roomed-as room8 room9 l = by (leb (length (l .exports)) room8) refl (leb (length (l .needs)) room9) refl
+  where
+    by : (t : Bool) → leb (length (l .exports)) room8 ≡ t → (u : Bool) → leb (length (l .needs)) room9 ≡ u → Roomed room8 room9 l
+    by true p true q = room (unfold roomed finished follow in rw (p, q))
+    by true p false q = full9 (unfold roomed finished follow in rw (p, q)) (leb-false (length (l .needs)) room9 q)
+    by false p u q = full8 (unfold roomed finished follow in rw p) (leb-false (length (l .exports)) room8 p)
+
+-- tables at the limits take both lists
+few-exports : (b c : Build) → length (exportDiff (view b) (view c)) ≤ 2048
+unfolding exportDiff
+few-exports b c = omega (arith, few-changes cmpExport exportOrder (view b .exports) (view c .exports), view-exports b, view-exports c)
+
+few-needs : (b c : Build) → length (needDiff (view b) (view c)) ≤ 2048
+unfolding needDiff
+few-needs b c = omega (arith, few-changes cmpNeed needOrder (view b .needs) (view c .needs), view-needs b, view-needs c)
+
+by-lists : (b c : Build) (room8 room9 : ℕ)
+    → comparison b c room8 room9 ≡ follow (roomed room8 room9 (lists (view b) (view c))) (λ l. accepted (verdictOf l))
+by-lists b c room8 room9 = ap (λ (x : Said Lists). follow x (λ l. accepted (verdictOf l))) (compared-is b c room8 room9)
+
+answered : (b c : Build) → comparison b c 2048 2048 ≡ accepted (verdictOf (lists (view b) (view c)))
+answered b c = by-lists b c 2048 2048 ∙ by (roomed-as 2048 2048 (lists (view b) (view c)))
+  where
+    by : Roomed 2048 2048 (lists (view b) (view c))
+        → follow (roomed 2048 2048 (lists (view b) (view c))) (λ l. accepted (verdictOf l)) ≡ accepted (verdictOf (lists (view b) (view c)))
+    by (room e) = unfold follow in rw e
+    by (full8 e h) = absurd (omega (arith, few-exports b c))
+    by (full9 e h) = absurd (omega (arith, few-needs b c))
+
+otherwise : (b c : Build) (room8 room9 : ℕ)
+    → (comparison b c room8 room9 ≡ comparison b c 2048 2048)
+    ⊎ ((comparison b c room8 room9 ≡ refused 13 8) × (room8 < length (exportDiff (view b) (view c))))
+    ⊎ ((comparison b c room8 room9 ≡ refused 13 9) × (room9 < length (needDiff (view b) (view c))))
+unfolding follow
+otherwise b c room8 room9 = by (roomed-as room8 room9 (lists (view b) (view c)))
+  where
+    on : Said Lists → Said Verdict
+    on x = follow x (λ l. accepted (verdictOf l))
+
+    by : Roomed room8 room9 (lists (view b) (view c))
+        → (comparison b c room8 room9 ≡ comparison b c 2048 2048)
+        ⊎ ((comparison b c room8 room9 ≡ refused 13 8) × (room8 < length (exportDiff (view b) (view c))))
+        ⊎ ((comparison b c room8 room9 ≡ refused 13 9) × (room9 < length (needDiff (view b) (view c))))
+    by (room e) = inl (by-lists b c room8 room9 ∙ ap on e ∙ sym (answered b c))
+    by (full8 e h) = inr (inl (by-lists b c room8 room9 ∙ ap on e, h))
+    by (full9 e h) = inr (inr (by-lists b c room8 room9 ∙ ap on e, h))
+
+-- ---- what compatible means
+-- an accepted comparison gives the verdict on the whole lists
+verdict-is : (b c : Build) (room8 room9 : ℕ) (v : Verdict) → comparison b c room8 room9 ≡ accepted v
+    → v ≡ verdictOf (lists (view b) (view c))
+verdict-is b c room8 room9 v e = by (otherwise b c room8 room9)
+  where
+    by : (comparison b c room8 room9 ≡ comparison b c 2048 2048)
+        ⊎ ((comparison b c room8 room9 ≡ refused 13 8) × (room8 < length (exportDiff (view b) (view c))))
+        ⊎ ((comparison b c room8 room9 ≡ refused 13 9) × (room9 < length (needDiff (view b) (view c))))
+        → v ≡ verdictOf (lists (view b) (view c))
+    by (inl h) = one-value (sym e ∙ h ∙ answered b c)
+    by (inr (inl h)) = absurd (never (sym (h .0) ∙ e))
+    by (inr (inr h)) = absurd (never (sym (h .0) ∙ e))
+
+means : (b c : Build) (room8 room9 : ℕ) (v : Verdict) → comparison b c room8 room9 ≡ accepted v
+    → (v .compatible ≡ true) ↔ Covers b c
+means b c room8 room9 v e =
+    let z = ap (λ (w : Verdict). w .compatible) (verdict-is b c room8 room9 v e) in
+    let s = says (view b) (view c) in (
+      (λ h. let t = s .0 (sym z ∙ h) in record { has = t .0; needs = t .1 }),
+      λ k. z ∙ s .1 (k .has, k .needs),
+    )
+
+stands : (b c : Build) → StandsIn b c ↔ Covers b c
+stands b c =
+    let s = means b c 2048 2048 (verdictOf (lists (view b) (view c))) (answered b c) in (
+      (λ h. means b c 2048 2048 (h .verdict) (h .answers) .0 (h .says)),
+      λ k. record { verdict = verdictOf (lists (view b) (view c)); answers = answered b c; says = s .1 k },
+    )
+
+-- ---- chains
+covers : (b : Build) (cs : List Build) → Chain b cs → Covers b (last b cs)
+covers b [] h = record { has = λ e m. m; needs = λ n m. m }
+covers b (c ∷ cs) h =
+    let s = stands b c .0 (h .0) in
+    let t = covers c cs (h .1) in
+    record { has = λ e m. t .has e (s .has e m); needs = λ n m. s .needs n (t .needs n m) }
+
+fewer : (b c : Build) → Covers b c → (p : Policy) → Meets p b → Meets p c
+fewer b c k p ok = allows-meets p c (λ d m.
+    let s = map-mem (λ (n : Need). n .domain) d (pairs c) m in
+    meets-allows p b ok d (Memᴰ·cast (s .2) (mem-map (λ (n : Need). n .domain) (s .0) (pairs b) (k .needs (s .0) (s .1)))))
+
+mem-dec : (d : ℕ) (l : List ℕ) → (d ∈ l) ⊎ (d ∈ l → ⊥)
+mem-dec d [] = inr (λ m. List·Memᴰ·not-nil m)
+mem-dec d (x ∷ l) = go (ℕ-discrete d x) (mem-dec d l)
+  where
+    go : Dec (d ≡ x) → (d ∈ l) ⊎ (d ∈ l → ⊥) → (d ∈ (x ∷ l)) ⊎ (d ∈ (x ∷ l) → ⊥)
+    go (yes p) i = inl (List·Memᴰ·head p)
+    go (no n) (inl m) = inl (List·Memᴰ·tail m)
+    go (no n) (inr k) = inr (λ m. ⊎-elim n k (List·Memᴰ·cases-cons m))
+
+needed : (a b : Build) → ((p : Policy) → Read p → Meets p b → Meets p a) → (d : ℕ) → d ∈ domains a → d ∈ domains b
+needed a b f d m = ⊎-elim (λ t. t) (λ n. absurd (go n)) (mem-dec d (domains b))
+  where
+    go : (d ∈ domains b → ⊥) → ⊥
+    go n =
+        let read : Read (allBut d) = record { text = witness d; reads = witness-reads d (small a d m) } in
+        let ok : Meets (allBut d) b = allows-meets (allBut d) b (λ e i. but-allowed d e (λ p. n (Memᴰ·cast (sym p) i))) in
+        true≢false (sym (meets-allows (allBut d) a (f (allBut d) read ok) d m) ∙ but-denied d (small a d m))
+
+-- ---- exchange
+exchanged-lists : (b c : Build) → lists (view c) (view b) ≡ exchanged (lists (view b) (view c))
+exchanged-lists b c =
+    let p = exports-exchange (view b) (view c) in
+    let q = needs-exchange (view b) (view c) in
+    λ i. record { exports = p i; needs = q i }
+
+roomed-exchanged : (room8 room9 : ℕ) (l : Lists)
+    → roomed room8 room9 (exchanged l) ≡ follow (roomed room8 room9 l) (λ l. accepted (exchanged l))
+unfolding roomed finished follow
+roomed-exchanged room8 room9 l =
+    rw (length-map (l .exports) turned, length-map (l .needs) turned)
+    (by (length (l .exports)) (length (l .needs)) (leb (length (l .exports)) room8) (leb (length (l .needs)) room9))
+  where
+    by : (m n : ℕ) (t u : Bool)
+        → follow (pick t (accepted m) (refused 13 8)) (λ x. follow (pick u (accepted n) (refused 13 9)) (λ y. accepted (exchanged l)))
+        ≡ follow (follow (pick t (accepted m) (refused 13 8)) (λ x. follow (pick u (accepted n) (refused 13 9)) (λ y. accepted l)))
+        (λ l. accepted (exchanged l))
+    by m n true true = refl
+    by m n true false = refl
+    by m n false u = refl
+
+exchange : (b c : Build) (room8 room9 : ℕ)
+    → compared (handed c) (handed b) room8 room9 ≡ follow (compared (handed b) (handed c) room8 room9) (λ l. accepted (exchanged l))
+exchange b c room8 room9 =
+    compared-is c b room8 room9
+    ∙ ap (roomed room8 room9) (exchanged-lists b c)
+    ∙ roomed-exchanged room8 room9 (lists (view b) (view c))
+    ∙ ap (λ (x : Said Lists). follow x (λ l. accepted (exchanged l))) (sym (compared-is b c room8 room9))
+
+pub replacement : Replacement
+replacement =
+    record {
+      means = means;
+      answered = answered;
+      otherwise = otherwise;
+      series = λ b cs h. stands b (last b cs) .1 (covers b cs h);
+      policies = λ b cs h p r. fewer b (last b cs) (covers b cs h) p;
+      needed = needed;
+      exchange = exchange;
+    }
+
+pub listing : Listing
+unfolding needDiff
+listing =
+    record {
+      exportRemoved = λ b c. exports-removed (view b) (view c);
+      exportAdded = λ b c. exports-added (view b) (view c);
+      needRemoved = λ b c. needs-removed (view b) (view c);
+      needAdded = λ b c. needs-added (view b) (view c);
+      exportsEach = λ b c. exports-each (view b) (view c);
+      exportsAscend = λ b c. exports-ascend (view b) (view c);
+      needsEach = λ b c. lowest-each (view b .needs) (view c .needs) (rising b) (rising c);
+      needsAscend = λ b c. needs-ascend (view b) (view c);
+    }
+  where
+    rising : (b : Build) → Rising (view b .needs)
+    rising b = rising-rows (needAt (b .file) (b .tables .imports)) (kindIs (b .tables .imports) 0) 0 (b .answer .imports)
+
+pub failSafe : FailSafe
+unfolding compliant
+failSafe =
+    record {
+      evaluation = evaluation;
+      comparisons = λ b c n place e h. never (sym e ∙ h .answers);
+    }
+  where
+    evaluation : (n place : ℕ) (r : Evaluation) → EvaluatedAs (refused n place) r → compliant r ≡ true → ⊥
+    evaluation n place r h k = by (r .answer) (h .answer) k
+      where
+        by : (a : Answer) → saidAnswer a ≡ refused n place → both (acceptedAs a) (eqb (r .count) 0) ≡ true → ⊥
+        by Answer.Accepted e k = never (sym e)
+        by (Answer.Refused w) e k = true≢false (sym k)

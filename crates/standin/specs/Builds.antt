@@ -1,0 +1,81 @@
+-- Accepted modules as `read_module` leaves them, and what the calls above it answer of them. Assumes nothing.
+use mathlib.Core.Path.{_≡_}
+use mathlib.Core.Bool.{true}
+use mathlib.Core.List.{List, [], _∷_, map}
+use Prim.Native.Nat.{ℕ}
+use lib.ListN.{length}
+use Rattle.refusal.specs.Said.{Said, accepted, follow}
+use Rattle.table.specs.Table.{laid}
+use Rattle.wasm.specs.declared.Module.{Module}
+use Rattle.wasm.specs.Module.{Sizes, moduleAt, Lent, ModuleIs}
+use Rattle.conform.specs.Claims.{Bytes}
+use Rattle.policy.specs.declared.Policy.{Policy}
+use Rattle.policy.specs.Reader.{readPolicy}
+use Rattle.requirements.specs.Requirements.{rowDomain, moduleRows}
+use Rattle.differences.specs.View.{View, Need, Export}
+use Rattle.differences.specs.Compared.{Given, given, viewed, Lists, compared, Verdict, verdictOf}
+use Rattle.standin.specs.Passing.{Passes}
+use Rattle.standin.specs.Replacing.{keys, turned}
+
+-- ---- reading
+-- a file that `read_module` accepted with tables of some sizes: its answer, and the tables as its promise says that it leaves them
+pub record Build : Type 0 where
+  pub file : List ℕ
+  pub bytes : Bytes file
+  pub sizes : Sizes
+  pub tables : Lent
+  pub answer : Module
+  pub promise : ModuleIs (length file) sizes (moduleAt file sizes) tables (accepted answer)
+
+-- what is handed on: the file, tables 2 and 3, and their counts
+abbrev pub handed : Build → Given
+handed b = given (b .file) (b .tables .imports) (b .answer .imports) (b .tables .exports) (b .answer .exports)
+
+abbrev pub view : Build → View
+view b = viewed (handed b)
+
+-- the exports, by name and kind; the pairs of domain and source that its function imports need; the domains of these pairs
+abbrev pub exports : Build → List Export
+exports b = keys (view b .exports)
+
+abbrev pub pairs : Build → List Need
+pairs b = keys (view b .needs)
+
+abbrev pub domains : Build → List ℕ
+domains b = map (λ n. n .domain) (pairs b)
+
+-- ---- comparing
+-- what `compare_modules` promises to answer of a baseline b and a candidate c, with room for so many rows in tables 8 and 9
+abbrev pub comparison : Build → Build → ℕ → ℕ → Said Verdict
+comparison b c room8 room9 = follow (compared (handed b) (handed c) room8 room9) (λ l. accepted (verdictOf l))
+
+-- with tables at the limits it is accepted, and says compatible
+pub record StandsIn (b c : Build) : Type 0 where
+  pub verdict : Verdict
+  pub answers : comparison b c 2048 2048 ≡ accepted verdict
+  pub says : verdict .compatible ≡ true
+
+-- a series of builds, its first and the others in order, each of which can stand in for the one before it; its last
+abbrev pub Chain : Build → List Build → Type 0
+Chain b [] = Unit {0}
+Chain b (c ∷ cs) = StandsIn b c × Chain c cs
+
+abbrev pub last : Build → List Build → Build
+last b [] = b
+last b (c ∷ cs) = last c cs
+
+-- the lists with the two modules exchanged
+abbrev pub exchanged : Lists → Lists
+exchanged l = record { exports = map turned (l .exports); needs = map turned (l .needs) }
+
+-- ---- policies
+-- a policy that `read_policy` accepted some text as
+pub record Read (p : Policy) : Type 0 where
+  pub text : List ℕ
+  pub reads : readPolicy text ≡ accepted p
+
+-- what `requirements_from_module` and then `evaluate_domains` promise, with columns of 1,024 cells: both accept, and no domain violates
+pub record Meets (p : Policy) (b : Build) : Type 0 where
+  pub rows : List ℕ
+  pub required : moduleRows (b .file) (b .tables .imports) (b .answer .imports) 1024 ≡ accepted rows
+  pub passes : Passes p (laid 1024 (map (rowDomain (b .file) (b .tables .imports)) rows)) (length rows)

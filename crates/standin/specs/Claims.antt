@@ -1,0 +1,73 @@
+-- Demand 3, of builds that `read_module` accepted and policies that `read_policy` accepted. Theorems proves each record. Assumes nothing.
+use mathlib.Core.Path.{_≡_}
+use mathlib.Core.Logic.{_⊎_, _↔_}
+use mathlib.Core.Bool.{true}
+use mathlib.Core.List.{List}
+use Prim.Native.Nat.{ℕ, _<_}
+use lib.ListN.{length}
+use Rattle.refusal.specs.Said.{accepted, refused, follow}
+use Rattle.sorting.specs.Sort.{_∈_, Ascending}
+use Rattle.policy.specs.declared.Policy.{Policy}
+use Rattle.policy.specs.declared.eval.Evaluation.{Evaluation}
+use Rattle.policy.specs.Evaluate.{EvaluatedAs, compliant}
+use Rattle.differences.specs.declared.Change.the-variants.{Removed, Added}
+use Rattle.differences.specs.View.{Export, Need}
+use Rattle.differences.specs.Differences.{Entry, exportOrder, needOrder, exportDiff, needDiff}
+use Rattle.differences.specs.Compared.{lists, compared, Verdict, verdictOf}
+use Rattle.standin.specs.Replacing.{Reports, IsChange, IsLowest}
+use Rattle.standin.specs.Builds.{Build, handed, view, exports, pairs, domains, comparison, StandsIn, Chain, last}
+use Rattle.standin.specs.Builds.{exchanged, Read, Meets}
+
+-- c has every export of b, by name and kind, and its function imports need no pair of domain and source that those of b do not
+pub record Covers (b c : Build) : Type 0 where
+  pub has : (e : Export) → e ∈ exports b → e ∈ exports c
+  pub needs : (n : Need) → n ∈ pairs c → n ∈ pairs b
+
+-- The registry's first question: what a replacement is, and what it keeps.
+pub record Replacement : Type 0 where
+  -- An accepted comparison says compatible exactly where the candidate has every export of the baseline and needs no pair that it does not.
+  pub means : (b c : Build) (room8 room9 : ℕ) (v : Verdict) → comparison b c room8 room9 ≡ accepted v
+      → (v .compatible ≡ true) ↔ Covers b c
+  -- With tables at the limits the comparison of two accepted modules is accepted.
+  pub answered : (b c : Build) → comparison b c 2048 2048 ≡ accepted (verdictOf (lists (view b) (view c)))
+  -- With less room it gives the same verdict, or 13 at 8 or at 9 where a list has more rows than its table takes; nothing else.
+  pub otherwise : (b c : Build) (room8 room9 : ℕ)
+      → (comparison b c room8 room9 ≡ comparison b c 2048 2048)
+      ⊎ ((comparison b c room8 room9 ≡ refused 13 8) × (room8 < length (exportDiff (view b) (view c))))
+      ⊎ ((comparison b c room8 room9 ≡ refused 13 9) × (room9 < length (needDiff (view b) (view c))))
+  -- Along any chain of replacements, of any length, the last build stands in for the first.
+  pub series : (b : Build) (cs : List Build) → Chain b cs → StandsIn b (last b cs)
+  -- And meets every policy that the first meets.
+  pub policies : (b : Build) (cs : List Build) → Chain b cs → (p : Policy) → Read p → Meets p b → Meets p (last b cs)
+  -- No weaker rule would do: a build that meets every policy that another meets needs no domain that the other does not.
+  pub needed : (a b : Build) → ((p : Policy) → Read p → Meets p b → Meets p a) → (d : ℕ) → d ∈ domains a → d ∈ domains b
+  -- Exchanging the two modules turns added into removed and removed into added in both lists, and changes nothing else.
+  pub exchange : (b c : Build) (room8 room9 : ℕ)
+      → compared (handed c) (handed b) room8 room9 ≡ follow (compared (handed b) (handed c) room8 room9) (λ l. accepted (exchanged l))
+
+-- What is in the two lists of an accepted comparison, and in which order.
+pub record Listing : Type 0 where
+  -- An export is reported removed exactly where it is in the baseline and in no row of the candidate.
+  pub exportRemoved : (b c : Build) (e : Export)
+      → Reports Removed e (exportDiff (view b) (view c)) ↔ ((e ∈ exports b) × (e ∈ exports c → ⊥))
+  -- And added where it is in the candidate and in no row of the baseline.
+  pub exportAdded : (b c : Build) (e : Export)
+      → Reports Added e (exportDiff (view b) (view c)) ↔ ((e ∈ exports c) × (e ∈ exports b → ⊥))
+  -- The same of pairs.
+  pub needRemoved : (b c : Build) (n : Need) → Reports Removed n (needDiff (view b) (view c)) ↔ ((n ∈ pairs b) × (n ∈ pairs c → ⊥))
+  pub needAdded : (b c : Build) (n : Need) → Reports Added n (needDiff (view b) (view c)) ↔ ((n ∈ pairs c) × (n ∈ pairs b → ⊥))
+  -- Each row of exports that the other lacks is listed, repeats too, by name, kind and row.
+  pub exportsEach : (b c : Build) (e : Entry Export)
+      → e ∈ exportDiff (view b) (view c) ↔ IsChange e (view b .exports) (view c .exports)
+  pub exportsAscend : (b c : Build) → Ascending exportOrder (exportDiff (view b) (view c))
+  -- Each pair that the other lacks is listed once, by its lowest row, by domain and source.
+  pub needsEach : (b c : Build) (e : Entry Need)
+      → e ∈ needDiff (view b) (view c) ↔ (IsChange e (view b .needs) (view c .needs) × IsLowest e (view b .needs) (view c .needs))
+  pub needsAscend : (b c : Build) → Ascending needOrder (needDiff (view b) (view c))
+
+-- A refusal is never a pass.
+pub record FailSafe : Type 0 where
+  -- A refused evaluation is not compliant.
+  pub evaluation : (n place : ℕ) (r : Evaluation) → EvaluatedAs (refused n place) r → compliant r ≡ true → ⊥
+  -- A refused comparison has no verdict, so no build stands in by it.
+  pub comparisons : (b c : Build) (n place : ℕ) → comparison b c 2048 2048 ≡ refused n place → StandsIn b c → ⊥

@@ -1,0 +1,227 @@
+/* The port's side of the comparison: cases on standard input, answers on standard output, many to a process.
+ *
+ * A case:    u32 call, u32 numbers, u32 strings, the numbers (u64 each), then each string as u32 length and bytes.
+ * An answer: u32 numbers, u32 length, the numbers (u64 each), the bytes.
+ * All little-endian, as the machine is. Call 0 answers nothing and flushes.
+ *
+ * Lent memory is filled with a mark before each call, and what the call leaves in it is part of the answer. */
+#include "judged.h"
+#include "viscrombal.h"
+#include <stdio.h>
+#include <stdlib.h>
+#include <string.h>
+
+enum { MARK = 0xa5, MOST_NUMBERS = 8192, MOST_STRINGS = 2, MOST_BYTES = 16777216 + 64 };
+
+static uint64_t number[MOST_NUMBERS];
+static uint8_t *string[MOST_STRINGS];
+static uint32_t length[MOST_STRINGS];
+
+/* ---- the answer */
+static uint64_t told[1 << 18];
+static uint32_t tells;
+static uint8_t *output;
+static uint32_t output_length;
+
+static void tell(uint64_t n) {
+    if (tells == sizeof told / sizeof *told) {
+        fputs("driver: an answer of too many numbers\n", stderr);
+        exit(2);
+    }
+    told[tells++] = n;
+}
+
+/* Lent cells, each a mark before the call. */
+static size_t *lend(size_t cells) {
+    size_t *t = malloc(cells * sizeof *t + 1);
+    memset(t, MARK, cells * sizeof *t);
+    return t;
+}
+
+/* A table: how many of its cells are told, these cells, and the index of the first cell after them that is not zero (the length if none). */
+static void tell_table(size_t *t, size_t cells, size_t used) {
+    size_t n = used < cells ? used : cells, i;
+    tell(n);
+    for (i = 0; i < n; i++)
+        tell(t[i]);
+    while (i < cells && t[i] == 0)
+        i++;
+    tell(i);
+    free(t);
+}
+
+/* ---- the calls */
+static void unsigned_read(struct viscrombal_unsigned r) {
+    tell(r.number), tell(r.place), tell(r.value), tell(r.next);
+}
+
+static void uleb128(void) { unsigned_read(viscrombal_uleb128(string[0], length[0], number[0])); }
+
+static void uleb128_u32(void) { unsigned_read(viscrombal_uleb128_u32(string[0], length[0], number[0])); }
+
+static void sleb128(void) {
+    struct viscrombal_signed r = viscrombal_sleb128(string[0], length[0], number[0]);
+    tell(r.number), tell(r.place), tell((uint64_t)r.value), tell(r.next);
+}
+
+static void name(void) {
+    struct viscrombal_range r = viscrombal_name(string[0], length[0], number[0]);
+    tell(r.number), tell(r.place), tell(r.from), tell(r.len), tell(r.next);
+}
+
+/* numbers: the cells of tables 1 to 4 */
+static void module(void) {
+    size_t *a = lend(number[0]), *b = lend(number[1]), *c = lend(number[2]), *d = lend(number[3]);
+    struct judged_module_told r =
+        judged_module(string[0], length[0], a, number[0], b, number[1], c, number[2], d, number[3]);
+    tell(r.number), tell(r.place), tell(r.version), tell(r.length), tell(r.named), tell(r.start), tell(r.size);
+    tell(r.sections), tell(r.imports), tell(r.exports), tell(r.symbols);
+    tell_table(a, number[0], r.sections * 5);
+    tell_table(b, number[1], r.imports * 5);
+    tell_table(c, number[2], r.exports * 4);
+    tell_table(d, number[3], r.symbols * 3);
+}
+
+/* numbers: the stated count, then the cells of table 2 */
+static uint32_t given;
+
+static void counted(struct judged_count_told r) { tell(r.number), tell(r.place), tell(r.count); }
+
+static void functions(void) { counted(judged_functions(number + 1, given - 1, number[0])); }
+
+static void memories(void) { counted(judged_memories(number + 1, given - 1, number[0])); }
+
+/* numbers: the room, the stated count, then the cells of table 2 */
+static void namespaces(void) {
+    size_t *sorted = lend(number[0]);
+    struct judged_count_told r = judged_namespaces(string[0], length[0], number + 2, given - 2, number[1], sorted, number[0]);
+    counted(r);
+    tell_table(sorted, number[0], r.count);
+}
+
+/* A policy that was read as the 25 cells that the other calls take. */
+static void cells_of(struct judged_policy_told r, size_t *cells) {
+    size_t k = 0;
+    cells[k++] = r.named, cells[k++] = r.start, cells[k++] = r.size, cells[k++] = r.permit;
+    for (int d = 0; d < 7; d++)
+        cells[k++] = r.rules[d].stance, cells[k++] = r.rules[d].from, cells[k++] = r.rules[d].len;
+}
+
+/* The policy, then for each domain how many tokens and where, one call after another. */
+static void policy(void) {
+    struct judged_policy_told r = judged_policy(string[0], length[0]);
+    size_t cells[25];
+    cells_of(r, cells);
+    tell(r.number), tell(r.place);
+    for (int k = 0; k < 25; k++)
+        tell(cells[k]);
+    for (int d = 0; d < 7 && r.number == 0; d++) {
+        uint32_t count = tells;
+        struct judged_token_told t = {.found = true};
+        tell(0);
+        for (;;) {
+            t = judged_token(string[0], length[0], cells, 25, d, t.next);
+            if (!t.found)
+                break;
+            tell(t.from), tell(t.len), told[count]++;
+        }
+    }
+}
+
+/* numbers: the room. The reader, then the writer; the whole of the lent bytes is told. */
+static void rewrite(void) {
+    struct judged_policy_told r = judged_policy(string[0], length[0]);
+    struct judged_written_told w = {.number = r.number, .place = r.place};
+    size_t cells[25];
+    uint8_t *out = malloc(number[0] + 1);
+    memset(out, MARK, number[0]);
+    cells_of(r, cells);
+    if (r.number == 0)
+        w = judged_write(string[0], length[0], cells, 25, out, number[0]);
+    tell(w.number), tell(w.place), tell(w.bytes);
+    output = out, output_length = number[0];
+}
+
+/* numbers: domain, offset, then the policy's cells */
+static void token(void) {
+    struct judged_token_told r = judged_token(string[0], length[0], number + 2, given - 2, number[0], number[1]);
+    tell(r.number), tell(r.place), tell(r.found), tell(r.from), tell(r.len), tell(r.next);
+}
+
+/* numbers: the room, then the policy's cells; the whole of the lent bytes is told */
+static void write_policy(void) {
+    uint8_t *out = malloc(number[0] + 1);
+    memset(out, MARK, number[0]);
+    struct judged_written_told r = judged_write(string[0], length[0], number + 1, given - 1, out, number[0]);
+    tell(r.number), tell(r.place), tell(r.bytes);
+    output = out, output_length = number[0];
+}
+
+/* numbers: the stated count, how many rows, the rows, then the policy's cells */
+static void evaluate(void) {
+    size_t rows = number[1];
+    struct judged_evaluation_told r = judged_evaluate(number + 2, rows, number[0], number + 2 + rows, given - 2 - rows);
+    tell(r.number), tell(r.place);
+    for (int d = 0; d < 7; d++)
+        tell(r.verdicts[d].required), tell(r.verdicts[d].allowed), tell(r.verdicts[d].many);
+    tell(r.set), tell(r.count), tell(r.compliant);
+}
+
+static void import(void) { tell(judged_import(string[0], length[0], string[1], length[1])); }
+
+static void path(void) { tell(judged_path(string[0], length[0])); }
+
+/* In the order of `Call` in src/case.rs. */
+static void (*const calls[])(void) = {
+    NULL, uleb128, uleb128_u32, sleb128, name, module, functions, memories, namespaces, policy, token, write_policy, evaluate, import, path,
+    rewrite,
+};
+
+/* ---- cases */
+static void take(void *to, size_t n) {
+    if (fread(to, 1, n, stdin) != n) {
+        fputs("driver: a case that ends early\n", stderr);
+        exit(2);
+    }
+}
+
+static void give(const void *from, size_t n) {
+    if (fwrite(from, 1, n, stdout) != n)
+        exit(2);
+}
+
+int main(void) {
+    static char in[1 << 16], out[1 << 16];
+    uint32_t head[3];
+    setvbuf(stdin, in, _IOFBF, sizeof in);
+    setvbuf(stdout, out, _IOFBF, sizeof out);
+    for (int i = 0; i < MOST_STRINGS; i++)
+        string[i] = malloc(MOST_BYTES);
+    while (fread(head, 1, sizeof head, stdin) == sizeof head) {
+        if (head[0] >= sizeof calls / sizeof *calls || head[1] > MOST_NUMBERS || head[2] > MOST_STRINGS) {
+            fputs("driver: no such case\n", stderr);
+            return 2;
+        }
+        given = head[1];
+        take(number, given * sizeof *number);
+        for (uint32_t i = 0; i < head[2]; i++) {
+            take(&length[i], sizeof length[i]);
+            if (length[i] > MOST_BYTES) {
+                fputs("driver: a string that is too long\n", stderr);
+                return 2;
+            }
+            take(string[i], length[i]);
+        }
+        if (head[0] == 0) {
+            fflush(stdout);
+            continue;
+        }
+        tells = 0, output = NULL, output_length = 0;
+        calls[head[0]]();
+        give(&tells, sizeof tells), give(&output_length, sizeof output_length);
+        give(told, tells * sizeof *told);
+        if (output)
+            give(output, output_length), free(output);
+    }
+    return 0;
+}

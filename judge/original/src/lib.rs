@@ -1,0 +1,2 @@
+//! wasmquay-core's modules, unchanged, under a root of our own (build.rs).
+include!(concat!(env!("OUT_DIR"), "/root.rs"));

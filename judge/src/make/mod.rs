@@ -1,0 +1,66 @@
+//! The inputs: exhaustive short ones, good ones made by a grammar, damaged copies. A round of seeded ones is the same for the same seed.
+mod modules;
+mod numbers;
+mod policies;
+mod tables;
+
+use crate::random::Random;
+use crate::Court;
+
+pub use modules::reserving;
+
+pub fn fixed(court: &mut Court) {
+    numbers::fixed(court);
+    policies::fixed(court);
+    modules::fixed(court);
+    tables::fixed(court);
+}
+
+pub fn seeded(court: &mut Court, seed: u64) {
+    let r = &mut Random::new(seed);
+    numbers::seeded(court, r);
+    policies::seeded(court, r);
+    modules::seeded(court, r);
+    tables::seeded(court, r);
+}
+
+/// Every string over the alphabet of exactly this length.
+pub fn every(alphabet: &[u8], length: usize, mut f: impl FnMut(&[u8])) {
+    let mut digits = vec![0; length];
+    let mut s = vec![alphabet[0]; length];
+    loop {
+        f(&s);
+        let Some(i) = digits.iter().rposition(|d| *d + 1 < alphabet.len()) else { return };
+        digits[i] += 1;
+        s[i] = alphabet[digits[i]];
+        for j in i + 1..length {
+            digits[j] = 0;
+            s[j] = alphabet[0];
+        }
+    }
+}
+
+/// A copy with a byte changed, taken out or put in, a run taken out or doubled, or the end cut off.
+pub fn damaged(s: &[u8], r: &mut Random) -> Vec<u8> {
+    let mut out = s.to_vec();
+    for _ in 0..1 + r.below(3) {
+        if out.is_empty() {
+            return out;
+        }
+        let at = r.below(out.len());
+        let edges = [0x00, 0x01, 0x02, 0x04, 0x0f, 0x7f, 0x80, 0x81, 0xbf, 0xc2, 0xff, b'\r', b'\n', b' ', b':', b'#', b'"', b','];
+        match r.below(8) {
+            0 | 1 => out[at] = edges[r.below(edges.len())],
+            2 => out[at] = r.byte(),
+            3 => drop(out.remove(at)),
+            4 => out.insert(at, edges[r.below(edges.len())]),
+            5 => out.truncate(at),
+            6 => drop(out.drain(at..(at + 1 + r.below(8)).min(out.len()))),
+            _ => {
+                let run = out[at..(at + 1 + r.below(8)).min(out.len())].to_vec();
+                out.splice(at..at, run);
+            }
+        }
+    }
+    out
+}

@@ -1,0 +1,199 @@
+//! policy.rs: policies as texts and as cells, domains, verdicts; and the writer.
+use super::damaged;
+use crate::case::{Call, Case};
+use crate::random::Random;
+use crate::Court;
+
+fn text(court: &mut Court, s: &[u8]) {
+    court.hear(Case::new(Call::Policy, &[], &[s]));
+}
+
+/// A text read and written again, with exactly the room that it needs, a byte less, and more.
+fn again(court: &mut Court, s: &[u8], r: &mut Random) {
+    let needed = crate::says::original_says(&Case::new(Call::Rewrite, &[1 << 20], &[s]));
+    let needed = needed.split(':').next().and_then(|n| n.parse::<u64>().ok()).unwrap_or(10);
+    for room in [needed, needed.saturating_sub(1), needed + 1 + r.below(9) as u64, r.below(8) as u64] {
+        court.hear(Case::new(Call::Rewrite, &[room], &[s]));
+    }
+}
+
+const WORDS: [&str; 13] =
+    ["policy ", "default ", "allow ", "deny ", "fs", "net", "allow", "deny", ":", ",", "\n", " ", "#"];
+const BLANKS: [&str; 24] = [
+    " ", " ", " ", " ", "\t", "\r", "\u{b}", "\u{c}", "\u{1c}", "\u{84}", "\u{85}", "\u{a0}", "\u{1680}", "\u{180e}", "\u{2000}", "\u{200a}",
+    "\u{200b}", "\u{2028}", "\u{2029}", "\u{202f}", "\u{205f}", "\u{3000}", "\u{3001}", "\u{feff}",
+];
+const SLUGS: [&str; 15] = [
+    "fs", "env", "clock", "network", "net", "random", "rand", "stdio", "unknown", "Fs", "network:", "nets", "", "fs x", "clock ",
+];
+const TOKENS: [&str; 10] = ["/tmp", "a.example", "\"", "x y", "", "#", ":", "\u{3000}", "é", "allow"];
+
+fn blanks(r: &mut Random) -> String {
+    (0..r.below(3)).map(|_| r.pick(&BLANKS)).collect()
+}
+
+fn line(r: &mut Random) -> String {
+    let mut out = blanks(r);
+    match r.below(9) {
+        0 => out += &format!("policy {}{}{}", blanks(r), r.pick(&["\"a\"", "\"\"a\"", "\"", "\"\"", "a b", "\"a\" b", "é\"", "", "#x"]), blanks(r)),
+        1 => out += &format!("default {}{}", blanks(r), r.pick(&["allow", "deny", "allow", "deny", "", "Allow", "allow deny", "denyx"])),
+        2 => out += r.pick(&["", "# c", "#", "policy", "default", "allow", "deny", "allow\tfs", "default\u{a0}deny", "x"]),
+        _ => {
+            out += r.pick(&["allow ", "deny "]);
+            out += &blanks(r);
+            // an unknown domain only now and then
+            out += if r.one_in(8) { SLUGS[r.below(15)] } else { SLUGS[r.below(9)] };
+            out += &blanks(r);
+            if r.one_in(2) {
+                out += ":";
+                let tokens: Vec<String> =
+                    (0..r.below(5)).map(|_| blanks(r) + TOKENS[r.below(10)] + &blanks(r)).collect();
+                out += &tokens.join(",");
+            }
+        }
+    }
+    out += &blanks(r);
+    if r.one_in(10) {
+        out += "# policy x";
+    }
+    out
+}
+
+fn lines(r: &mut Random) -> String {
+    let n = if r.one_in(3) { r.below(12) } else { r.below(4) };
+    let mut out = String::new();
+    for _ in 0..n {
+        out += &line(r);
+        out += r.pick(&["\n", "\n", "\n", "\r\n", "\r\n", "\n\n", "\r\r\n", "\r"]);
+    }
+    if r.one_in(3) {
+        out += &line(r);
+    }
+    out
+}
+
+/// Ranges of the text that cut no character, and now and then one that leaves it.
+fn cells(s: &str, r: &mut Random) -> Vec<u64> {
+    let range = |r: &mut Random| {
+        let bounds: Vec<usize> = (0..=s.len()).filter(|i| s.is_char_boundary(*i)).collect();
+        let (a, b) = (bounds[r.below(bounds.len())], bounds[r.below(bounds.len())]);
+        let (from, len) = (a.min(b) as u64, a.max(b) as u64 - a.min(b) as u64);
+        match r.below(60) {
+            0 => (from, s.len() as u64 - from + 1),
+            1 => (s.len() as u64 + 1, 0),
+            2 => (u64::MAX, 1),
+            3 => (1, u64::MAX),
+            4 => (s.len() as u64, 0),
+            _ => (from, len),
+        }
+    };
+    let name = range(r);
+    let mut out = vec![r.below(2) as u64, name.0, name.1, r.below(2) as u64];
+    for _ in 0..7 {
+        let list = range(r);
+        out.extend([r.below(3) as u64, list.0, list.1]);
+    }
+    out
+}
+
+fn handed(court: &mut Court, s: &str, r: &mut Random) {
+    let cells = cells(s, r);
+    let bounds: Vec<usize> = (0..=s.len()).filter(|i| s.is_char_boundary(*i)).collect();
+    let from = bounds[r.below(bounds.len())] as u64;
+    let from = if r.one_in(10) { u64::MAX } else { from };
+    let numbers = |first: &[u64]| [first, &cells[..]].concat();
+    court.hear(Case::new(Call::Token, &numbers(&[r.below(7) as u64, from]), &[s.as_bytes()]));
+    court.hear(Case::new(Call::Write, &numbers(&[r.below(600) as u64]), &[s.as_bytes()]));
+}
+
+fn evaluated(court: &mut Court, r: &mut Random) {
+    let rows: Vec<u64> = (0..r.below(8)).map(|_| if r.one_in(30) { 7 + r.below(3) as u64 } else { r.below(7) as u64 }).collect();
+    let n = if r.one_in(10) { r.below(12) } else { r.below(rows.len() + 1) };
+    let mut numbers = vec![n as u64, rows.len() as u64];
+    numbers.extend(rows);
+    numbers.extend(cells("abcdef", r));
+    court.hear(Case::new(Call::Evaluate, &numbers, &[]));
+}
+
+const SOURCES: [&str; 24] = [
+    "wasi_snapshot_preview1", "wasi_snapshot_preview10", "wasi_snapshot_preview", "wasi_snapshot_preview2", "wasi_unstable",
+    "wasi_unstable2", "wasi_unstabl", "wasi:io", "wasi:io/streams", "wasi:cli@0.2", "wasi:filesystem/types@1", "wasi:clocks", "wasi:sockets/x",
+    "wasi:random", "wasi:wasi:random", "wasi:", "wasi", "random", "cli/env", "", "wasi:@io", "wasi:/io", "wasi:io@/x", "Wasi:io",
+];
+const FIELDS: [&str; 18] = [
+    "fd_write", "fd_", "fd", "path_open", "path_", "path", "environ_get", "environ_", "args_", "args", "clock_time_get", "sock_recv",
+    "random_get", "random_get2", "random_ge", "", "xfd_", "sock",
+];
+
+pub fn fixed(court: &mut Court) {
+    // policies of few words
+    let n = WORDS.len();
+    for length in 0..=4 {
+        for k in 0..n.pow(length) {
+            let s: String = (0..length).map(|i| WORDS[k / n.pow(i) % n]).collect();
+            text(court, s.as_bytes());
+        }
+    }
+    // a directive with every blank, and every byte, in every place
+    for line in ["policy \"a\"", "default allow", "allow fs", "deny net: a, b", "allow fs:"] {
+        for at in 0..=line.len() {
+            for blank in BLANKS {
+                text(court, format!("{}{blank}{}", &line[..at], &line[at..]).as_bytes());
+            }
+            for byte in 0..=255 {
+                text(court, &[&line.as_bytes()[..at], &[byte], &line.as_bytes()[at..]].concat());
+            }
+        }
+    }
+    for source in SOURCES {
+        for field in FIELDS {
+            court.hear(Case::new(Call::Import, &[], &[source.as_bytes(), field.as_bytes()]));
+        }
+        court.hear(Case::new(Call::Path, &[], &[source.as_bytes()]));
+        court.hear(Case::new(Call::Path, &[], &[source.strip_prefix("wasi:").unwrap_or(source).as_bytes()]));
+    }
+    // the longest text, and one byte more; a name and a list that fill it
+    for length in 65_535..=65_537 {
+        let r = &mut Random::new(length as u64);
+        for start in ["policy ", "allow fs:", "#", "allow fs: a\nx", "policy \"a\"\n"] {
+            let s = start.to_string() + &"b".repeat(length - start.len());
+            text(court, s.as_bytes());
+            again(court, s.as_bytes(), r);
+        }
+        let s = ("allow fs:".to_string() + &("a".repeat(999) + ",").repeat(66))[..length].to_string();
+        text(court, s.as_bytes());
+        again(court, s.as_bytes(), r);
+    }
+    many_rows(court);
+}
+
+/// Table 7 around its limit.
+fn many_rows(court: &mut Court) {
+    for rows in [1023, 1024, 1025, 1030] {
+        for n in [1023, 1024, 1025, rows] {
+            let mut numbers = vec![n, rows];
+            numbers.extend((0..rows).map(|i| i % 7));
+            numbers.extend([0; 25]);
+            court.hear(Case::new(Call::Evaluate, &numbers, &[]));
+        }
+    }
+}
+
+pub fn seeded(court: &mut Court, r: &mut Random) {
+    for _ in 0..700 {
+        let s = lines(r);
+        text(court, s.as_bytes());
+        text(court, &damaged(s.as_bytes(), r));
+        if r.one_in(3) {
+            again(court, s.as_bytes(), r);
+        }
+        handed(court, &s, r);
+        evaluated(court, r);
+    }
+    for _ in 0..100 {
+        let source = SOURCES[r.below(24)].to_string() + r.pick(&["", "/", "@", "x"]) + r.pick(&["", "é", "/a@b"]);
+        let field = FIELDS[r.below(18)].to_string() + r.pick(&["", "_", "x"]);
+        court.hear(Case::new(Call::Import, &[], &[source.as_bytes(), field.as_bytes()]));
+        court.hear(Case::new(Call::Path, &[], &[source.as_bytes()]));
+    }
+}
