@@ -8,5 +8,7 @@ pub mod OfImports
 pub mod OfWasm
 pub mod OfKinds
 pub mod OfPolicy
+pub mod OfDifferences
+pub mod OfCompat
 pub mod Examples
 pub mod Rejected
