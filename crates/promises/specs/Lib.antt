@@ -10,5 +10,6 @@ pub mod OfKinds
 pub mod OfPolicy
 pub mod OfDifferences
 pub mod OfCompat
+pub mod OfParts
 pub mod Examples
 pub mod Rejected
