@@ -15,6 +15,9 @@ pub mod OfRequirements
 pub mod OfEvaluation
 pub mod OfChecking
 pub mod OfInterfaces
+pub mod OfDifferences
+pub mod OfCompat
+pub mod OfParts
 pub mod Examples
 pub mod Rejected
 pub mod OfCapi

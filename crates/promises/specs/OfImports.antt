@@ -8,12 +8,17 @@ use Rattle.refusal.proofs.Known.{answer-known, count-known}
 use Rattle.promises.specs.Decides.{Decides}
 use Rattle.imports.proofs.check_imports.Kinds as check-imports-kinds
 use Rattle.imports.proofs.check_imports.Reads as check-imports
+use Rattle.imports.proofs.fits.Kinds as fits-kinds
+use Rattle.imports.proofs.fits.Reads as fits
 use Rattle.imports.proofs.imported_functions.Kinds as imported-functions-kinds
 use Rattle.imports.proofs.imported_functions.Reads as imported-functions
 use Rattle.imports.proofs.imported_memories.Kinds as imported-memories-kinds
 use Rattle.imports.proofs.imported_memories.Reads as imported-memories
 use Rattle.imports.proofs.import_namespaces.Kinds as import-namespaces-kinds
 use Rattle.imports.proofs.import_namespaces.Reads as import-namespaces
+
+pub fits-decides : Decides fits-kinds.ps fits-kinds.r fits.Post
+fits-decides κs a x y s t p q = p ∙ sym q
 
 pub check-imports-decides : Decides check-imports-kinds.ps check-imports-kinds.r check-imports.Post
 check-imports-decides κs a x y s t p q = answer-known x y (p ∙ sym q)

@@ -1,0 +1,2 @@
+-- Laws of parts.
+pub mod Places

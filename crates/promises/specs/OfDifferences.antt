@@ -1,0 +1,24 @@
+-- No two answers satisfy the promise of any function of differences. Assumes nothing.
+use mathlib.Core.Path.{sym, _∙_}
+use Rattle.refusal.proofs.Known.{answer-known}
+use Rattle.promises.specs.Decides.{Decides}
+use Rattle.differences.proofs.change_number.Kinds as change-number-kinds
+use Rattle.differences.proofs.change_number.Reads as change-number
+use Rattle.differences.proofs.change_slug.Kinds as change-slug-kinds
+use Rattle.differences.proofs.change_slug.Reads as change-slug
+use Rattle.differences.proofs.kind_rank.Kinds as kind-rank-kinds
+use Rattle.differences.proofs.kind_rank.Reads as kind-rank
+use Rattle.differences.proofs.check_exports.Kinds as check-exports-kinds
+use Rattle.differences.proofs.check_exports.Reads as check-exports
+
+pub change-number-decides : Decides change-number-kinds.ps change-number-kinds.r change-number.Post
+change-number-decides κs a x y s t p q = p ∙ sym q
+
+pub change-slug-decides : Decides change-slug-kinds.ps change-slug-kinds.r change-slug.Post
+change-slug-decides κs a x y s t p q = p ∙ sym q
+
+pub kind-rank-decides : Decides kind-rank-kinds.ps kind-rank-kinds.r kind-rank.Post
+kind-rank-decides κs a x y s t p q = p ∙ sym q
+
+pub check-exports-decides : Decides check-exports-kinds.ps check-exports-kinds.r check-exports.Post
+check-exports-decides κs a x y s t p q = answer-known x y (p ∙ sym q)
