@@ -106,6 +106,9 @@ struct viscrombal_token_read viscrombal_token(const uint8_t *text, size_t len, s
  * accepted, nothing past the text. `out` must not overlap `text`. */
 struct viscrombal_written viscrombal_rewrite(const uint8_t *text, size_t len, uint8_t *out, size_t room);
 
+/* The whole check: a module's file held against a policy's text. `compliant` is false after a refusal. */
+struct viscrombal_evaluation viscrombal_check(const uint8_t *file, size_t len, const uint8_t *text, size_t text_len);
+
 #ifdef __cplusplus
 }
 #endif

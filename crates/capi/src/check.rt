@@ -1,13 +1,15 @@
 // Verdicts over the C interface.
 use crate::policies::number_of;
 use crate::policies::place_of;
+use checking::check_module;
 use policy::eval::Evaluation;
 use policy::eval::Verdict;
 ghost use mathlib.Core.Path.{_≡_};
 ghost use Rattle.refusal.specs.Said.{saidAnswer};
 ghost use Rattle.policy.specs.Evaluate.{compliant};
 ghost use Rattle.capi.specs.Policies.{numberIn, placeIn};
-ghost use Rattle.capi.specs.Check.{verdictTold, judgedAs};
+ghost use Rattle.checking.specs.Checking.{checkedOf};
+ghost use Rattle.capi.specs.Check.{verdictTold, judgedAs, evaluationTold};
 
 #[repr(C)]
 pub struct VerdictTold {
@@ -60,4 +62,12 @@ pub fn judged_of(e: Evaluation) -> EvaluationTold
         count: e.count,
         compliant,
     }
+}
+
+// The whole check of a module's file against a policy's text.
+#[no_mangle]
+pub extern "C" fn viscrombal_check(file: &[u8], text: &[u8]) -> EvaluationTold
+    ensures { λ r. ⌜ r ≡ evaluationTold (checkedOf (now (file .entry)) (now (text .entry))) ⌝ }
+{
+    judged_of(check_module(file, text))
 }

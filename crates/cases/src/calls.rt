@@ -1,4 +1,5 @@
 // The calls, by the word that a record has for each.
+use crate::manifests;
 use crate::modules;
 use crate::policies;
 use text::order::equal;
@@ -17,7 +18,10 @@ pub(crate) fn make_call(
     if on_domain(word, a, b, cells, got) {
         return true;
     }
-    on_policy(word, a, cells, got)
+    if on_policy(word, a, cells, got) {
+        return true;
+    }
+    on_manifest(word, a, cells, got)
 }
 
 fn on_module(word: &[u8], a: &[u8], cells: &[usize], got: &mut [usize]) -> bool {
@@ -89,12 +93,28 @@ fn on_policy(word: &[u8], a: &[u8], cells: &[usize], got: &mut [usize]) -> bool 
         policies::token(a, cells, got);
         return true;
     }
+    if equal(word, b"requirements") {
+        policies::requirements(a, cells, got);
+        return true;
+    }
+    if equal(word, b"check") {
+        policies::check(a, cells, got);
+        return true;
+    }
     if equal(word, b"evaluate") {
         policies::evaluate(cells, got);
         return true;
     }
     if equal(word, b"write") {
         policies::write(a, cells, got);
+        return true;
+    }
+    false
+}
+
+fn on_manifest(word: &[u8], a: &[u8], cells: &[usize], got: &mut [usize]) -> bool {
+    if equal(word, b"manifest") {
+        manifests::read(a, cells, got);
         return true;
     }
     false

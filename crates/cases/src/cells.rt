@@ -9,14 +9,14 @@ pub(crate) const SPAN: usize = 62000;
 // From LENT + n: how many cells table n is lent with, or for 0 how many bytes of output. From COUNT + n: how many rows it has.
 pub(crate) const LENT: usize = 32;
 
-pub(crate) const COUNT: usize = 48;
+pub(crate) const COUNT: usize = 56;
 
 // A policy: whether it has a name, the name's range, whether it allows by default; then its rules, three cells for each domain.
-pub(crate) const POLICY: usize = 64;
+pub(crate) const POLICY: usize = 80;
 
-pub(crate) const RULES: usize = 68;
+pub(crate) const RULES: usize = 84;
 
-// Where table n is laid: 12 and 13 are a second module's 2 and 3, and 0 is byte output, a cell to a byte.
+// Where table n is laid: 12 and 13 are a second module's 2 and 3, 17 the rows beside the domains of 7, 0 byte output, a cell to a byte.
 pub(crate) fn place(n: usize) -> usize {
     match n {
         1 => 128,
@@ -31,6 +31,7 @@ pub(crate) fn place(n: usize) -> usize {
         12 => 43400,
         13 => 48600,
         15 => 52800,
+        17 => 31800,
         _ => 54000,
     }
 }

@@ -9,6 +9,7 @@ use crate::cells::lent;
 use crate::cells::place;
 use crate::cells::put;
 use crate::cells::rule_place;
+use crate::modules::put_count;
 use crate::modules::put_refusal;
 use crate::modules::put_slug;
 use crate::modules::put_written;
@@ -19,7 +20,10 @@ use policy::domain::DomainFound;
 use policy::domain::domain_number;
 use policy::eval::Evaluation;
 use policy::eval::Verdict;
+use policy::eval::evaluate_domains;
 use refusal::Answer;
+use refusal::Count;
+use requirements::requirements_from_module;
 use rewriting::token::Token;
 
 // 7 where there is no domain.
@@ -104,13 +108,54 @@ pub(crate) fn token(text: &[u8], cells: &[usize], got: &mut [usize]) {
     }
 }
 
-// The set, its count, whether it is compliant; then the seven verdicts.
-pub(crate) fn evaluate(cells: &[usize], got: &mut [usize]) {
-    let e = policy::eval::evaluate_domains(given(cells, 7), count(cells, 7), given_policy(cells));
-    put_evaluation(got, e);
+// Table 7 of a module: the domains, and the rows beside them.
+pub(crate) fn requirements(file: &[u8], cells: &[usize], got: &mut [usize]) {
+    let mut domains = [7usize; 1100];
+    let mut rows = [7usize; 1100];
+    let n = lent(cells, 7, 1100);
+    let m = lent(cells, 17, 1100);
+    requirements_into(file, cells, &mut domains[..n], &mut rows[..m], got);
 }
 
-pub(crate) fn put_evaluation(got: &mut [usize], e: Evaluation) {
+fn requirements_into(
+    file: &[u8],
+    cells: &[usize],
+    domains: &mut [usize],
+    rows: &mut [usize],
+    got: &mut [usize],
+) {
+    let answer = requirements_from_module(file, given(cells, 2), count(cells, 2), domains, rows);
+    put_count(got, answer);
+    lay(got, place(7), domains);
+    lay(got, place(17), rows);
+}
+
+// A module's requirements, held against the policy.
+pub(crate) fn check(file: &[u8], cells: &[usize], got: &mut [usize]) {
+    let mut domains = [7usize; 1024];
+    let mut rows = [7usize; 1024];
+    let required = requirements_from_module(
+        file,
+        given(cells, 2),
+        count(cells, 2),
+        &mut domains,
+        &mut rows,
+    );
+    let Count::Rows(n) = required else {
+        return put_count(got, required);
+    };
+    put_evaluation(got, evaluate_domains(&domains, n, given_policy(cells)));
+}
+
+// The set, its count, whether it is compliant; then the seven verdicts.
+pub(crate) fn evaluate(cells: &[usize], got: &mut [usize]) {
+    put_evaluation(
+        got,
+        evaluate_domains(given(cells, 7), count(cells, 7), given_policy(cells)),
+    );
+}
+
+fn put_evaluation(got: &mut [usize], e: Evaluation) {
     let answer = e.answer;
     put_answer(got, answer);
     let compliant = policy::eval::is_compliant(e);

@@ -28,8 +28,7 @@ pub(crate) struct Record {
     pub bad: bool,
     // 0 the id, 1 the call, 2 the input, 3 the answer
     pub part: usize,
-    // where the id ends, and where the call's word begins and ends
-    pub id: usize,
+    // where the call's word begins and ends
     pub call: usize,
     pub called: usize,
     // inside a word, inside quotes, after a backslash there; where the word began
@@ -55,7 +54,6 @@ fn blank() -> Record {
     Record {
         bad: false,
         part: 0,
-        id: 0,
         call: 0,
         called: 0,
         word: false,
@@ -142,15 +140,17 @@ fn limits(cells: &mut [usize]) {
         5120,
         4096,
         12288,
+        128,
+        7168,
+        1024,
+        4096,
+        6144,
         0,
+        0,
+        5120,
+        4096,
         0,
         1024,
-        0,
-        0,
-        0,
-        0,
-        0,
-        0,
         0,
         1024,
     ];
@@ -216,7 +216,6 @@ fn word_ended(r: Record, line: &[u8], end: usize, bytes: &mut [u8], cells: &mut 
         return v.cells_from(0);
     }
     if v.part == 0 {
-        v.id = end;
         return v;
     }
     if v.part == 1 {

@@ -1,4 +1,4 @@
-// How many cases ran, and how many of them held.
+// How many cases ran, and how many of them came out as they must.
 use libc::STDOUT_FILENO;
 use std::num::wrapping_add_u32;
 
@@ -8,7 +8,7 @@ pub(crate) struct Tally {
 }
 
 impl Tally {
-    // A case that held.
+    // A case that came out as it must.
     pub(crate) fn hit(self) -> Tally {
         Tally {
             hits: wrapping_add_u32(self.hits, 1),
@@ -16,10 +16,11 @@ impl Tally {
         }
     }
 
-    // A case that did not, and what is said of it.
-    pub(crate) fn miss(self, id: &[u8], what: &[u8]) -> Tally {
+    // One that did not.
+    pub(crate) fn miss(self, id: &[u8]) -> Tally {
+        io::write_all(STDOUT_FILENO, b"failed: ");
         io::write_all(STDOUT_FILENO, id);
-        io::write_all(STDOUT_FILENO, what);
+        io::write_all(STDOUT_FILENO, b"\n");
         Tally {
             hits: self.hits,
             cases: wrapping_add_u32(self.cases, 1),

@@ -218,7 +218,9 @@ module _ {K : Type 0} (cmp : K → K → Order) (keyB keyC : ℕ → K) (wantB w
             andThen o (cmpNat i j) ≡ andThen o (cmpNat (numbered i .row .at) (numbered j .row .at))
         by true e true d = rw (first i e, first j d)
         by false e false d = rw (second i e, second j d, shifted i j (ltb-false i nb e) (ltb-false j nb d))
-        by true e false d = settled (cmp (numbered i .row .key) (numbered j .row .key)) _ _ (λ q. apart i j e d hj li lj (rw (first i e, second j d) at q))
+        by true e false d =
+            settled (cmp (numbered i .row .key) (numbered j .row .key)) _ _
+            (λ q. apart i j e d hj li lj (rw (first i e, second j d) at q))
         by false e true d =
             settled (cmp (numbered i .row .key) (numbered j .row .key)) _ _
             (λ q. apart j i d e hi lj li (laws .turn (keyC (i - nb)) (keyB j) ∙ ap flip (rw (second i e, first j d) at q)))

@@ -5,7 +5,7 @@ use mathlib.Core.List.{List, [], _∷_, _++_}
 use Prim.Native.Nat.{ℕ, zero, suc, _+_, _*_, _%_, _^_, _≤_, _<_}
 use native.Mathlib.Omega.{arith}
 use native.Mathlib.Numerals.{add-one}
-use native.Mathlib.Nat.{add-comm, add-zero, pow-suc}
+use native.Mathlib.Nat.{add-comm, add-zero, mul-assoc, pow-suc}
 use lib.Bits.{bitOr}
 use lib.Count.{ones, onesIn, ones-cat}
 use lib.ListN.{length, getD, length-append}
@@ -79,6 +79,21 @@ set-next flags d s t b e f q =
       low = rw q (room s d b (f .low));
       many = c ∙ (let x = one-ones b in let y = f .many in let w = ap members k ∙ members-snoc (firsts d flags) b in omega arith);
     }
+
+-- the ones of a set are its members
+bits-up : (k : ℕ) (bs : List Bool) → bits (suc k) bs ≡ bits k bs * 2
+unfolding bits
+bits-up k [] = refl
+bits-up k (b ∷ bs) =
+    let z : one b * (2 ^ k * 2) ≡ one b * 2 ^ k * 2 = sym (mul-assoc (one b) (2 ^ k) 2) in
+    rw (bits-up (suc k) bs, pow-suc 2 k) (omega arith)
+
+pub ones-bits : (bs : List Bool) → ones (bits 0 bs) ≡ members bs
+unfolding bits members
+ones-bits [] = unfold ones onesIn in refl
+ones-bits (b ∷ bs) =
+    let e : one b * 2 ^ 0 + bits 1 bs ≡ bits 0 bs * 2 ^ 1 + one b = omega (arith, bits-up 0 bs) in
+    ap ones e ∙ ones-cat 1 (bits 0 bs) (one b) (omega (arith, one-le b)) ∙ omega (arith, one-ones b, ones-bits bs)
 
 pub firsts-most : (n : ℕ) (fs : List Bool) → members (firsts n fs) ≤ n
 unfolding members firsts

@@ -2,41 +2,90 @@
 -- Assumes nothing.
 use Prim.Native.Nat.{ℕ, zero, suc}
 use mathlib.Core.Path.{_≡_, refl}
-use mathlib.Core.Bool.{false}
-use mathlib.Core.List.{List, [], _∷_, _++_}
+use mathlib.Core.Bool.{Bool, true, false}
+use mathlib.Core.List.{List, [], _∷_, _++_, map}
+use lib.ListN.{length}
 use lib.IntN.{ℤ, pos, negsuc}
-use Rattle.refusal.specs.Said.{Said, accepted, refused, Got, got, onward}
+use Rattle.refusal.specs.Said.{Said, accepted, refused, follow, Got, got, onward}
 use Rattle.leb.specs.Groups.{uN, sN, twos, grown, spent}
 use Rattle.leb.specs.Reads.{told, narrowed, ulebAt, u32At, slebAt, part, byteAt, fixedAt, takeAt, countedAt, checked, nameAt}
-use Rattle.text.specs.Find.{same}
+use Rattle.text.specs.Find.{seek, begins, same, indexOf, indexOf2}
+use Rattle.text.specs.Ranges.{inSome}
+use Rattle.text.specs.White.{whites, isWhite}
+use Rattle.text.specs.Chars.{codeBy, codeOf, moreBy, more, charsFrom, chars}
+use Rattle.text.specs.Trim.{startLen, endLen, trimStart, trimEnd}
+use Rattle.text.specs.Lines.{crBefore, lineLen, lineStep}
 use Rattle.text.specs.Scan.{scan}
 use Rattle.text.specs.Utf8.{upTo, seqLen, after, followIn, covers, table}
 use Rattle.text.specs.Utf8.{follow as follow8}
 use Rattle.text.specs.Walk.{walk}
-use Rattle.table.specs.Table.{capacityOf}
+use Rattle.table.specs.Table.{capacityOf, cellOf, rangeOf, cells, laid}
+use Rattle.table.specs.Testing.{tested, firstFrom}
+use Rattle.table.specs.Listing.{fitted}
 use Rattle.table.specs.Entries.{entriesFrom}
 use Rattle.table.specs.Walking.{turned, walkFrom}
 use Rattle.wasm.specs.Entry.{funcAt, descAt, importAt}
-use Rattle.wasm.specs.Rows.{importsOf}
+use Rattle.wasm.specs.Rows.{importCells, importsOf}
 use Rattle.wasm.specs.Module.{Sizes, Parsed, noTables, magic, headerAt, contentsAt, addSection, sectionAt, moduleAt}
 use Rattle.wasm.specs.Shapes.{func}
+use Rattle.sorting.specs.Keys.{nameAt as nameIn}
+use Rattle.imports.specs.Queries.{asked, importsTested, importBad, importFits, kindIs}
+use Rattle.policy.specs.Domain.{words, wordIn, domainOf}
+use Rattle.policy.specs.Classify.{passes, judged, preview, heads, preview1, unstable, headOf, pathDomain, importDomain}
+use Rattle.policy.specs.Whole.{wholeText}
+use Rattle.policy.specs.Piece.{trim, linesFrom, linesOf}
+use Rattle.policy.specs.Directive.{defaultW, allow, defaulted, worded, spoken, core, directive, fault}
+use Rattle.policy.specs.Reader.{run, readWith, zeroPolicy, obey, readPolicy}
+use Rattle.policy.specs.Evaluate.{effectiveOf}
+use Rattle.requirements.specs.Requirements.{rowDomain, moduleRows}
+use Rattle.pieces.specs.Whole.{wholeText as wholeManifest}
+use Rattle.pieces.specs.Piece.{shorn}
+use Rattle.pieces.specs.Piece.{trim as trimPiece}
+use Rattle.wit.specs.Line.{unbraced}
+use Rattle.wit.specs.Line.{worded as wordedLine, core as coreLine, spoken as spokenLine, directive as directiveLine}
+use Rattle.wit.specs.Manifest.{State, sized, start, closeAt, openAt, obeyAt, lineAt, linesAt, manifestAt}
 
--- bytes, and what reading them from their start answers
+-- a domain that a module asks for, by its number, and the module name of the import
+pub data Asks : Type 0 where
+  asks : ℕ → List ℕ → Asks
+
+-- bytes, and what reading them from their start answers; a file, and what its imports ask for; a module name with a field, and a
+-- manifest's path, and the domain; a policy's text, and whether it allows a domain; a manifest, and what is read of it
 pub data Example : Type 0 where
   unsigned : List ℕ → Said (Got ℕ) → Example
   unsigned32 : List ℕ → Said (Got ℕ) → Example
   signed : List ℕ → Said (Got ℤ) → Example
   file : List ℕ → Said Parsed → Example
+  asking : List ℕ → Said (List Asks) → Example
+  imported : List ℕ → List ℕ → ℕ → Example
+  path : List ℕ → ℕ → Example
+  allowing : List ℕ → ℕ → Said Bool → Example
+  manifest : List ℕ → Said State → Example
 
 -- room for two rows in each table
 abbrev pub two : Sizes
 two = record { sections = 10; imports = 10; exports = 8; names = 6 }
+
+-- the file's import rows as its read leaves them in table 2, and what those ask for
+abbrev pub importTable : Parsed → List ℕ
+importTable m = laid (two .imports) (cells importCells (m .tables .imports))
+
+abbrev pub askedBy : List ℕ → Said (List Asks)
+askedBy b =
+    follow (moduleAt b two) (λ m.
+    follow (moduleRows b (importTable m) (length (m .tables .imports)) 2) (λ rows.
+    accepted (map (λ i. asks (rowDomain b (importTable m) i) (nameIn b (importTable m) 5 0 1 i)) rows)))
 
 abbrev pub Holds : Example → Type 0
 Holds (unsigned s r) = ulebAt s 0 ≡ r
 Holds (unsigned32 s r) = u32At s 0 ≡ r
 Holds (signed s r) = slebAt s 0 ≡ r
 Holds (file b r) = moduleAt b two ≡ r
+Holds (asking b r) = askedBy b ≡ r
+Holds (imported m f d) = importDomain m f ≡ d
+Holds (path s d) = pathDomain s ≡ d
+Holds (allowing s d r) = follow (readPolicy s) (λ p. accepted (effectiveOf p d .allow)) ≡ r
+Holds (manifest s r) = manifestAt s (sized 4 14) ≡ r
 
 abbrev pub AllHold : List Example → Type 0
 AllHold [] = Unit {0}
@@ -65,6 +114,31 @@ oneImportRead =
       };
     }
 
+-- `fd_write`, `random`, and `default allow`
+abbrev pub fdWrite : List ℕ
+fdWrite = 102 ∷ 100 ∷ 95 ∷ 119 ∷ 114 ∷ 105 ∷ 116 ∷ 101 ∷ []
+
+abbrev pub random : List ℕ
+random = 114 ∷ 97 ∷ 110 ∷ 100 ∷ 111 ∷ 109 ∷ []
+
+abbrev pub defaultAllow : List ℕ
+defaultAllow = defaultW ++ allow
+
+-- `world x {}`, and its world, named `x {}` and ended by the end of the text
+abbrev pub oneWorld : List ℕ
+oneWorld = 119 ∷ 111 ∷ 114 ∷ 108 ∷ 100 ∷ 32 ∷ 120 ∷ 32 ∷ 123 ∷ 125 ∷ []
+
+abbrev pub oneWorldRead : State
+oneWorldRead =
+    record {
+      line = 1;
+      pack = record { given = false; from = 0; len = 0 };
+      world = record { given = false; from = 0; len = 0 };
+      worlds = record { from = 6; len = 4 } ∷ [];
+      references = [];
+    }
+
+-- domains 0 fs, 4 random, 6 unknown
 abbrev pub examples : List Example
 examples =
     unsigned (0xe5 ∷ 0x8e ∷ 0x26 ∷ []) (accepted (got 624485 3))
@@ -78,10 +152,24 @@ examples =
     ∷ file header (accepted (record { version = 1; tables = noTables }))
     ∷ file (0x00 ∷ 0x61 ∷ 0x73 ∷ 0x6d ∷ 0x00 ∷ 0x00 ∷ 0x00 ∷ 0x00 ∷ []) (refused 2 4)
     ∷ file oneImport (accepted oneImportRead)
+    ∷ asking oneImport (accepted (asks 6 (0x6d ∷ []) ∷ []))
+    ∷ imported (preview1 ++ 48 ∷ []) fdWrite 0
+    ∷ imported (unstable ++ 50 ∷ []) fdWrite 6
+    ∷ path random 4
+    ∷ imported random fdWrite 6
+    ∷ allowing defaultAllow 6 (accepted true)
+    ∷ manifest oneWorld (accepted oneWorldRead)
     ∷ []
 
 pub examples-hold : AllHold examples
-unfolding ulebAt u32At slebAt told narrowed onward uN sN twos grown spent byteAt fixedAt takeAt countedAt checked nameAt moduleAt headerAt magic same
-    walkFrom walk turned sectionAt contentsAt addSection capacityOf noTables importsOf entriesFrom importAt descAt funcAt upTo scan seqLen after follow8
-    followIn covers table
-examples-hold = (refl, (refl, (refl, (refl, (refl, (refl, (refl, (refl, (refl, (refl, (refl, tt)))))))))))
+unfolding ulebAt u32At slebAt told narrowed onward uN sN twos grown spent byteAt fixedAt takeAt countedAt checked nameAt moduleAt headerAt
+    magic same walkFrom walk turned sectionAt contentsAt addSection capacityOf noTables importsOf entriesFrom importAt descAt funcAt upTo
+    scan seqLen after follow8 followIn covers table
+    follow laid cells importCells moduleRows asked importsTested tested firstFrom importBad importFits kindIs cellOf rangeOf fitted
+    importDomain pathDomain headOf judged passes preview heads seek begins indexOf
+    readPolicy readWith wholeText run zeroPolicy obey linesOf linesFrom lineLen lineStep crBefore directive core spoken worded defaulted fault
+    trim trimStart trimEnd startLen endLen chars charsFrom more moreBy codeOf codeBy isWhite whites inSome effectiveOf
+    indexOf2 wholeManifest trimPiece shorn unbraced wordedLine coreLine spokenLine directiveLine start closeAt openAt obeyAt lineAt linesAt
+    manifestAt
+examples-hold =
+    (refl, (refl, (refl, (refl, (refl, (refl, (refl, (refl, (refl, (refl, (refl, (refl, (refl, (refl, (refl, (refl, (refl, (refl, tt))))))))))))))))))

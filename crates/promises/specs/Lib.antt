@@ -6,11 +6,17 @@ pub mod OfSorting
 pub mod OfLeb
 pub mod OfImports
 pub mod OfWasm
+pub mod OfPieces
+pub mod OfWit
+pub mod OfReferences
 pub mod OfKinds
 pub mod OfPolicy
 pub mod OfRequirements
 pub mod OfEvaluation
+pub mod OfChecking
+pub mod OfInterfaces
 pub mod Examples
 pub mod Rejected
 pub mod OfCapi
 pub mod OfJudged
+pub mod Unclassified

@@ -29,6 +29,8 @@ use Rattle.capi.proofs.policies.viscrombal_token.Kinds as token-kinds
 use Rattle.capi.proofs.policies.viscrombal_token.Reads as token
 use Rattle.capi.proofs.check.judged_of.Kinds as judged-of-kinds
 use Rattle.capi.proofs.check.judged_of.Reads as judged-of
+use Rattle.capi.proofs.check.viscrombal_check.Kinds as check-kinds
+use Rattle.capi.proofs.check.viscrombal_check.Reads as check
 use Rattle.capi.proofs.policies.written_of.Kinds as written-of-kinds
 use Rattle.capi.proofs.policies.written_of.Reads as written-of
 use Rattle.capi.proofs.policies.viscrombal_rewrite.Kinds as rewrite-kinds
@@ -80,3 +82,6 @@ pub rewrite-leaves : (κs : Lfts 2) (a : Dens κs rewrite-kinds.ps) (x y : resT 
     (s t : AtExit (endedOf 2 rewrite-kinds.ps rewrite-kinds.r) κs)
     → rewrite.Post κs a x s → rewrite.Post κs a y t → now (s .1 .0) ≡ now (t .1 .0)
 rewrite-leaves κs a x y s t p q = p .output-is ∙ sym (q .output-is)
+
+pub check-decides : Decides check-kinds.ps check-kinds.r check.Post
+check-decides κs a x y s t p q = p ∙ sym q

@@ -62,7 +62,7 @@ module _ {R : Type 0} (f : R → List ℕ) (w limit n : ℕ) (wide : (r : R) →
   rows-good bad good = tested-good (capacityOf (length (laid n (cells f rows))) w limit) (length rows) bad (rw holds-long few) good
 
 -- ---- the rows that a read leaves
-noImport : Import
+pub noImport : Import
 noImport = record { «module» = part 0 0; field = part 0 0; kind = 0; desc = func 0 }
 
 noExport : Export
@@ -79,12 +79,13 @@ export-wide r = refl
 fits : (a b : ℕ) {m : ℕ} {t : Bool} → a + b ≤ m → t ≡ true → both (leb (a + b) m) t ≡ true
 fits a b {m} h e = rw (le-leb (a + b) m h, e)
 
+pub import-cell : (n : ℕ) (rows : List Import) (i j : ℕ) → i < length rows → j < 5
+    → cellOf (laid n (cells importCells rows)) 5 i j ≡ getD (importCells (getD rows i noImport)) j 0
+import-cell n rows i j h k = cell-laid importCells 5 import-wide n rows i j noImport h k
+
 module _ (m n : ℕ) (rows : List Import) (ok : Each (ImportOk m) rows) where
   abbrev imported : List ℕ
   imported = laid n (cells importCells rows)
-
-  import-cell : (i j : ℕ) → i < length rows → j < 5 → cellOf imported 5 i j ≡ getD (importCells (getD rows i noImport)) j 0
-  import-cell i j h k = cell-laid importCells 5 import-wide n rows i j noImport h k
 
   import-good : (i : ℕ) → i < length rows → importBad m imported i ≡ false
   unfolding importBad importFits importCells
@@ -92,10 +93,10 @@ module _ (m n : ℕ) (rows : List Import) (ok : Each (ImportOk m) rows) where
       let r = each-at noImport rows ok i h in
       ap (λ (t : Bool). pick t false true)
       (fits (cellOf imported 5 i 0) (cellOf imported 5 i 1)
-      (omega (arith, r .module-in, import-cell i 0 h (omega arith), import-cell i 1 h (omega arith)))
+      (omega (arith, r .module-in, import-cell n rows i 0 h (omega arith), import-cell n rows i 1 h (omega arith)))
       (fits (cellOf imported 5 i 2) (cellOf imported 5 i 3)
-      (omega (arith, r .field-in, import-cell i 2 h (omega arith), import-cell i 3 h (omega arith)))
-      (le-leb (cellOf imported 5 i 4) 255 (omega (arith, r .kind-small, import-cell i 4 h (omega arith))))))
+      (omega (arith, r .field-in, import-cell n rows i 2 h (omega arith), import-cell n rows i 3 h (omega arith)))
+      (le-leb (cellOf imported 5 i 4) 255 (omega (arith, r .kind-small, import-cell n rows i 4 h (omega arith))))))
 
   imports-good : length rows ≤ capacityOf n 5 1024 → importsTested m imported (length rows) ≡ accepted tt
   unfolding importsTested
@@ -124,13 +125,13 @@ module _ (m n : ℕ) (rows : List Export) (ok : Each (ExportOk m) rows) where
 -- ---- a build
 module _ (b : Build) where
   -- what was read of its file
-  read : Followed (moduleAt (b .file) (b .sizes)) (λ m. accepted (moduleOf (length (b .file)) m)) (b .answer)
+  pub read : Followed (moduleAt (b .file) (b .sizes)) (λ m. accepted (moduleOf (length (b .file)) m)) (b .answer)
   read = followed (moduleAt (b .file) (b .sizes)) (λ m. accepted (moduleOf (length (b .file)) m)) (sym (b .promise .answer-is))
 
-  parsed : Tables
+  unfoldable pub parsed : Tables
   parsed = read .what .tables
 
-  holds : Holds (b .tables) (b .sizes) parsed
+  pub holds : Holds (b .tables) (b .sizes) parsed
   unfolding tablesOf parsed
   holds = subst (λ (x : Said Parsed). Holds (b .tables) (b .sizes) (tablesOf x)) (read .first) (b .promise .tables-are)
 
@@ -140,7 +141,7 @@ module _ (b : Build) where
   pub short : length (b .file) ≤ 16777216
   short = only-these (b .file) (b .sizes) (read .what) (b .bytes) (read .first) .short
 
-  import-count : b .answer .imports ≡ length (parsed .imports)
+  pub import-count : b .answer .imports ≡ length (parsed .imports)
   unfolding parsed moduleOf countsOf
   import-count = ap (λ (m : Module). m .imports) (sym (one-value (read .then)))
 

@@ -98,7 +98,7 @@ test-passes ds few h =
 
 -- ---- what a build is asked for
 -- its function imports, and their domains
-functions : Build → List ℕ
+unfoldable pub functions : Build → List ℕ
 functions b = functionRows (b .tables .imports) (b .answer .imports)
 
 few-functions : (b : Build) → length (functions b) ≤ 1024
@@ -123,7 +123,7 @@ module _ (b : Build) where
   domain-of [] = refl
   domain-of (i ∷ l) = ap (_∷_ (rowDomain (b .file) (b .tables .imports) i)) (domain-of l)
 
-  domains-are : domains b ≡ map (rowDomain (b .file) (b .tables .imports)) (functions b)
+  pub domains-are : domains b ≡ map (rowDomain (b .file) (b .tables .imports)) (functions b)
   unfolding functions
   domains-are = domain-of (functions b)
 

@@ -6,4 +6,5 @@ pub mod Lowest
 pub mod Views
 pub mod Builds
 pub mod Domains
+pub mod Limits
 pub mod Theorems

@@ -32,6 +32,7 @@ use Rattle.standin.proofs.Lowest.{Rising, rising-rows, lowest-each}
 use Rattle.standin.proofs.Views.{few-changes, says, exports-exchange, needs-exchange, exports-ascend, needs-ascend, exports-each}
 use Rattle.standin.proofs.Views.{exports-removed, exports-added, needs-removed, needs-added}
 use Rattle.standin.proofs.Builds.{view-exports, view-needs, compared-is}
+use Rattle.standin.proofs.Limits.{clear-reads, meets-clear, clear-meets}
 use Rattle.standin.proofs.Domains.{small, meets-allows, allows-meets}
 
 -- ---- room
@@ -188,6 +189,11 @@ replacement =
       otherwise = otherwise;
       series = λ b cs h. stands b (last b cs) .1 (covers b cs h);
       policies = λ b cs h p r. fewer b (last b cs) (covers b cs h) p;
+      checks =
+          λ b cs h text q.
+          let p = clear-reads b text q in
+          meets-clear (last b cs) text (p .policy) (p .reads)
+          (fewer b (last b cs) (covers b cs h) (p .policy) (clear-meets b text (p .policy) (p .reads) q));
       needed = needed;
       exchange = exchange;
     }

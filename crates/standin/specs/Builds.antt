@@ -11,7 +11,9 @@ use Rattle.wasm.specs.Module.{Sizes, moduleAt, Lent, ModuleIs}
 use Rattle.conform.specs.Claims.{Bytes}
 use Rattle.policy.specs.declared.Policy.{Policy}
 use Rattle.policy.specs.Reader.{readPolicy}
+use Rattle.policy.specs.Evaluate.{Outcome}
 use Rattle.requirements.specs.Requirements.{rowDomain, moduleRows}
+use Rattle.checking.specs.Checking.{checkedOf}
 use Rattle.differences.specs.View.{View, Need, Export}
 use Rattle.differences.specs.Compared.{Given, given, viewed, Lists, compared, Verdict, verdictOf}
 use Rattle.standin.specs.Passing.{Passes}
@@ -79,3 +81,9 @@ pub record Meets (p : Policy) (b : Build) : Type 0 where
   pub rows : List ℕ
   pub required : moduleRows (b .file) (b .tables .imports) (b .answer .imports) 1024 ≡ accepted rows
   pub passes : Passes p (laid 1024 (map (rowDomain (b .file) (b .tables .imports)) rows)) (length rows)
+
+-- the whole check of a file against a policy's text, in one call, is accepted, and no domain violates
+pub record Clear (file text : List ℕ) : Type 0 where
+  pub outcome : Outcome
+  pub answers : checkedOf file text ≡ accepted outcome
+  pub none : outcome .count ≡ 0

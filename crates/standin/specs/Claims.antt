@@ -16,7 +16,7 @@ use Rattle.differences.specs.Differences.{Entry, exportOrder, needOrder, export
 use Rattle.differences.specs.Compared.{lists, compared, Verdict, verdictOf}
 use Rattle.standin.specs.Replacing.{Reports, IsChange, IsLowest}
 use Rattle.standin.specs.Builds.{Build, handed, view, exports, pairs, domains, comparison, StandsIn, Chain, last}
-use Rattle.standin.specs.Builds.{exchanged, Read, Meets}
+use Rattle.standin.specs.Builds.{exchanged, Read, Meets, Clear}
 
 -- c has every export of b, by name and kind, and its function imports need no pair of domain and source that those of b do not
 pub record Covers (b c : Build) : Type 0 where
@@ -39,6 +39,8 @@ pub record Replacement : Type 0 where
   pub series : (b : Build) (cs : List Build) → Chain b cs → StandsIn b (last b cs)
   -- And meets every policy that the first meets.
   pub policies : (b : Build) (cs : List Build) → Chain b cs → (p : Policy) → Read p → Meets p b → Meets p (last b cs)
+  -- In one call: where the whole check of the first build's file passes under a policy's text, so does that of the last build's.
+  pub checks : (b : Build) (cs : List Build) → Chain b cs → (text : List ℕ) → Clear (b .file) text → Clear (last b cs .file) text
   -- No weaker rule would do: a build that meets every policy that another meets needs no domain that the other does not.
   pub needed : (a b : Build) → ((p : Policy) → Read p → Meets p b → Meets p a) → (d : ℕ) → d ∈ domains a → d ∈ domains b
   -- Exchanging the two modules turns added into removed and removed into added in both lists, and changes nothing else.

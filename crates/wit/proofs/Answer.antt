@@ -32,8 +32,9 @@ unfolding lineAt knownOf
 line-told s at e next d k m {z} {before} {after} {a} ke kn kd km steps t c h =
     let x : d ≡ directive (piece s at (at + lineLen (drop at s))) = kd ∙ ap (λ (i : ℕ). directive (piece s at i)) ke in
     let o = steps (onNext t) (km ∙ ap nextLine c) (record { worlds-are = h .worlds-are; references-are = h .references-are }) in
-    let r : Told knownOf (Holds after z) (obeyAt z (directive (piece s at (at + lineLen (drop at s)))) (at + lineStep (drop at s)) (onNext t)) a
-    = subst (λ (y : Directive). Told knownOf (Holds after z) (obeyAt z y (at + lineStep (drop at s)) (onNext t)) a) x
+    let i = at + lineStep (drop at s) in
+    let r : Told knownOf (Holds after z) (obeyAt z (directive (piece s at (at + lineLen (drop at s)))) i (onNext t)) a =
+    subst (λ (y : Directive). Told knownOf (Holds after z) (obeyAt z y (at + lineStep (drop at s)) (onNext t)) a) x
     (subst (λ (i : ℕ). Told knownOf (Holds after z) (obeyAt z d i (onNext t)) a) kn o) in
     record { answer-is = r .answer-is; holds = r .holds }
 

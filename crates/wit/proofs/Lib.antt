@@ -2,3 +2,6 @@
 pub mod LineLaws
 pub mod Stepping
 pub mod Answer
+pub mod Larger
+pub mod Parts
+pub mod Sound

@@ -63,7 +63,8 @@ module _ (s : List ℕ) (a e : ℕ) where
       q ∙ ap partOf (sym (t .same))
 
   -- ---- without the braces
-  pub unbraced-is : (n : ℕ) → e ≤ length s → n ≡ shorn 123 (bytesOf s a e) → (n ≤ e - a) × (unbraced (piece s a e) ≡ trim (piece s a (a + n)))
+  pub unbraced-is : (n : ℕ) → e ≤ length s → n ≡ shorn 123 (bytesOf s a e)
+      → (n ≤ e - a) × (unbraced (piece s a e) ≡ trim (piece s a (a + n)))
   unfolding unbraced
   unbraced-is n l q =
       let b : n ≤ e - a = omega (arith, q, shorn-le 123 (bytesOf s a e), piece-long s a e l) in
@@ -75,10 +76,10 @@ module _ (s : List ℕ) (a e : ℕ) where
 
   -- ---- a reference
   module _ (i : ℕ) (l : e ≤ length s) (q : i ≡ boundary (bytesOf s a e)) (out : Bool) where
-    pub split-far : a + i < e → (p r : Part) → p ≡ partOf (trim (piece s a (a + i))) → r ≡ partOf (trim (piece s (a + i + 1) e))
-        → Refer out p (marked r) ≡ referenceOf out (piece s a e)
+    pub split-far : a + i < e → (p r : Part) (m : Mark) → p ≡ partOf (trim (piece s a (a + i))) → r ≡ partOf (trim (piece s (a + i + 1) e))
+        → m ≡ marked r → Refer out p m ≡ referenceOf out (piece s a e)
     unfolding referenceOf
-    split-far h p r u v =
+    split-far h p r m u v o =
         let n = piece-long s a e l in
         let c : ltb (boundary (bytesOf s a e)) (length (bytesOf s a e)) ≡ true =
         lt-ltb (boundary (bytesOf s a e)) (length (bytesOf s a e)) (omega arith) in
@@ -90,15 +91,15 @@ module _ (s : List ℕ) (a e : ℕ) where
         v ∙ ap (λ (m : ℕ). partOf (trim (piece s m e))) (sym z)
         ∙ ap (λ (k : Piece). partOf (trim k)) (sym (beyond-piece s a e (i + 1)))
         ∙ ap (λ (m : ℕ). partOf (trim (beyond (m + 1) (piece s a e)))) q in
-        rw (c, x, y)
+        rw (c, x, o, y)
 
-    pub split-none : e ≤ a + i → Refer out (record { from = a; len = e - a }) absent ≡ referenceOf out (piece s a e)
+    pub split-none : e ≤ a + i → (m : Mark) → m ≡ absent → Refer out (record { from = a; len = e - a }) m ≡ referenceOf out (piece s a e)
     unfolding referenceOf
-    split-none h =
+    split-none h m o =
         let n = piece-long s a e l in
         let c : ltb (boundary (bytesOf s a e)) (length (bytesOf s a e)) ≡ false =
         le-ltb (boundary (bytesOf s a e)) (length (bytesOf s a e)) (omega arith) in
-        rw (c, n)
+        rw (c, n, o)
 
   -- ---- the words
   pub word-fits : (w : List ℕ) → e ≤ length s → begins w (bytesOf s a e) ≡ true → length w ≤ e - a

@@ -116,7 +116,8 @@ module _ {z : Sizes} {t : State} {k : Known} (c : k ≡ knownOf t) {w l : List �
   pub refer-put : (out : Bool) (path : Part) (sign : Mark) (l1 : List ℕ) → k .references < capacityOf (z .references) 7 1024
       → l1 ≡ putRow l (k .references) (referenceCells (record { world = k .worlds; export = out; path = path; signature = sign }))
       → Told knownOf (Holds (lend w l1) z) (referAt z out path sign next t)
-      (accepted (got (record { line = k .line; pack = k .pack; world = k .world; worlds = k .worlds; references = k .references + 1 }) next))
+      (accepted (got
+      (record { line = k .line; pack = k .pack; world = k .world; worlds = k .worlds; references = k .references + 1 }) next))
   unfolding referAt knownOf
   refer-put out path sign l1 r p =
       let f : length (t .references) < capacityOf (z .references) 7 1024 = omega (arith, references-is) in

@@ -1,3 +1,5 @@
--- What the promises of wit are written in: what a line says, and what the lines come to.
+-- What the promises of wit are written in: what a line says, what the lines come to; and what holds of all that is read.
 pub mod Line
 pub mod Manifest
+pub mod Sound
+pub mod Shapes

@@ -4,7 +4,7 @@ ghost use mathlib.Core.Path.{_≡_};
 ghost use Prim.Native.Nat.{_≤_, _<_};
 ghost use lib.ListN.{length, drop};
 ghost use Rattle.pieces.specs.Piece.{piece, trim, TrimTo};
-ghost use Rattle.wit.specs.Line.{isSpace, splits, boundary, unbraced, partOf, marked, referenceOf, worded, directive};
+ghost use Rattle.wit.specs.Line.{isSpace, splits, boundary, unbraced, partOf, marked, absent, referenceOf, worded, directive};
 
 // A range of the text; zeros where `given` is false.
 pub(crate) struct Mark {
@@ -29,6 +29,26 @@ pub(crate) enum Directive {
 struct Span {
     from: usize,
     past: usize,
+}
+
+pub(crate) fn mark_of(p: Part) -> Mark
+    ensures { λ r. ⌜ r ≡ marked p ⌝ }
+{
+    Mark {
+        given: true,
+        from: p.from,
+        len: p.len,
+    }
+}
+
+pub(crate) fn no_mark() -> Mark
+    ensures { λ r. ⌜ r ≡ absent ⌝ }
+{
+    Mark {
+        given: false,
+        from: 0,
+        len: 0,
+    }
 }
 
 fn is_space(b: u8) -> bool
@@ -125,23 +145,13 @@ fn reference_at(s: &[u8], a: usize, e: usize, export: bool) -> Directive
     if i < c {
         let path = part_at(s, b, i);
         let signature = part_at(s, i + 1, c);
-        let mark = Mark {
-            given: true,
-            from: signature.from,
-            len: signature.len,
-        };
-        return Directive::Refer(export, path, mark);
+        return Directive::Refer(export, path, mark_of(signature));
     }
-    let none = Mark {
-        given: false,
-        from: 0,
-        len: 0,
-    };
     let path = Part {
         from: b,
         len: c - b,
     };
-    Directive::Refer(export, path, none)
+    Directive::Refer(export, path, no_mark())
 }
 
 // A line that is not empty, trimmed.

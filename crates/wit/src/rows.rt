@@ -1,6 +1,8 @@
 // What the lines of a manifest come to, and the rows of the lent tables 5 and 6.
 use crate::line::Directive;
 use crate::line::Mark;
+use crate::line::mark_of;
+use crate::line::no_mark;
 use refusal::Part;
 use refusal::Refusal;
 ghost use mathlib.Core.Path.{_≡_};
@@ -9,7 +11,6 @@ ghost use Prim.Native.Nat.{ℕ, _+_, _<_};
 ghost use lib.ListN.{length};
 ghost use Rattle.table.specs.Table.{putRow};
 ghost use Rattle.table.specs.Told.{Ends};
-ghost use Rattle.wit.specs.Line.{absent};
 ghost use Rattle.wit.specs.Manifest.{sizes, sized, lend, start, knownOf, nextLine, saidKnown, Steps, Numbered, one};
 ghost use Rattle.wit.specs.Manifest.{worldCells, worldRow, referenceCells, closeAt, openAt, referAt, obeyAt, packaged, opened};
 
@@ -34,16 +35,6 @@ pub(crate) struct Known {
 pub(crate) enum KnownRead {
     Read(Known, usize),
     Refused(Refusal),
-}
-
-fn no_mark() -> Mark
-    ensures { λ r. ⌜ r ≡ absent ⌝ }
-{
-    Mark {
-        given: false,
-        from: 0,
-        len: 0,
-    }
 }
 
 pub(crate) fn first_known() -> Known
@@ -111,8 +102,8 @@ fn put_reference(table: &mut [usize], count: usize, row: Reference)
 // A world's row is taken when it closes.
 pub(crate) fn close_world(k: Known, next: usize, worlds: &mut [usize]) -> KnownRead
     ensures { λ r. ⌜ Ends next (saidKnown r) × Numbered (k .line) (saidKnown r)
-        × ((l : List ℕ) (n : ℕ) → Steps (sized (length (now (worlds .entry))) n) (lend (now (worlds .entry)) l) (lend (now (worlds .exit)) l)
-        k (closeAt (sized (length (now (worlds .entry))) n) next) (saidKnown r)) ⌝ }
+        × ((l : List ℕ) (n : ℕ) → Steps (sized (length (now (worlds .entry))) n) (lend (now (worlds .entry)) l)
+        (lend (now (worlds .exit)) l) k (closeAt (sized (length (now (worlds .entry))) n) next) (saidKnown r)) ⌝ }
 {
     if !k.world.given {
         return KnownRead::Read(k, next);
@@ -183,11 +174,7 @@ fn add_reference(
 fn with_package(k: Known, p: Part) -> Known
     ensures { λ r. ⌜ r ≡ packaged p k ⌝ }
 {
-    let pack = Mark {
-        given: true,
-        from: p.from,
-        len: p.len,
-    };
+    let pack = mark_of(p);
     let world = k.world;
     Known {
         line: k.line,
@@ -201,11 +188,7 @@ fn with_package(k: Known, p: Part) -> Known
 fn with_world(k: Known, p: Part) -> Known
     ensures { λ r. ⌜ r ≡ opened p k ⌝ }
 {
-    let world = Mark {
-        given: true,
-        from: p.from,
-        len: p.len,
-    };
+    let world = mark_of(p);
     let pack = k.pack;
     Known {
         line: k.line,
@@ -219,8 +202,8 @@ fn with_world(k: Known, p: Part) -> Known
 // The world before it closes, and one with a name opens.
 fn open_world(k: Known, name: Part, next: usize, worlds: &mut [usize]) -> KnownRead
     ensures { λ r. ⌜ Ends next (saidKnown r) × Numbered (k .line) (saidKnown r)
-        × ((l : List ℕ) (n : ℕ) → Steps (sized (length (now (worlds .entry))) n) (lend (now (worlds .entry)) l) (lend (now (worlds .exit)) l)
-        k (openAt (sized (length (now (worlds .entry))) n) name next) (saidKnown r)) ⌝ }
+        × ((l : List ℕ) (n : ℕ) → Steps (sized (length (now (worlds .entry))) n) (lend (now (worlds .entry)) l)
+        (lend (now (worlds .exit)) l) k (openAt (sized (length (now (worlds .entry))) n) name next) (saidKnown r)) ⌝ }
 {
     let one = close_world(k, next, worlds);
     let KnownRead::Read(n, at) = one else {

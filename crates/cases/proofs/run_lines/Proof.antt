@@ -8,10 +8,10 @@ use Rattle.cases.proofs.run_lines.Statement.{statement}
 use Rattle.cases.proofs.run_lines.Tie as tie
 
 abbrev Inv-loop : tie.InvT-loop
-Inv-loop s v₀ at₀ v at = at ≤ length s
+Inv-loop s good v₀ at₀ v at = at ≤ length s
 
 abbrev μ-loop : tie.MeasureT-loop
-μ-loop s v₀ at₀ v at = length s - at
+μ-loop s good v₀ at₀ v at = length s - at
 
 loop-less : tie.Need-loop-less Inv-loop μ-loop
 loop-less c =

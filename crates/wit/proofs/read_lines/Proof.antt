@@ -60,7 +60,8 @@ returns c =
 loop-less : tie.Need-loop-less Inv-loop μ-loop
 loop-less c =
     let k = c .before .before .before .before .before .before .before in
-    omega (arith, k .before .before .before .loop-test .taken, passed _ _ (k .read-line .ensures .0) (ap saidKnown (c .before .n .given .1)))
+    let p = passed _ _ (k .read-line .ensures .0) (ap saidKnown (c .before .n .given .1)) in
+    omega (arith, k .before .before .before .loop-test .taken, p)
 
 loop-again : tie.Need-loop-again Inv-loop μ-loop
 loop-again c =

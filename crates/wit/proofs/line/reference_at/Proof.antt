@@ -1,6 +1,8 @@
 -- `reference_at` meets its contract. Assumes nothing.
 use mathlib.Core.Path.{_≡_, sym, ap, _∙_}
+use Prim.Native.Nat.{_≤_}
 use native.Mathlib.Omega.{arith}
+use lib.ListN.{length}
 use borrow.Author.Needs.{needs}
 use Rattle.pieces.specs.Piece.{piece, trim, bytesOf}
 use Rattle.pieces.proofs.Pieces.{piece-long}
@@ -18,6 +20,9 @@ bare c =
     let a = u .before .before .before .args in
     bare-is (a .s .now) (a .a) (a .e) _ _ _ _ _ (u .before .trimmed-at .ensures) (u .unbraced-at .ensures .2) (c .trimmed-at2 .ensures)
 
+within : (c : tie.After-trimmed-at2) → c .trimmed-at2 .result .past ≤ length (c .before .before .before .before .args .s .now)
+within c = omega arith
+
 add-i : tie.Need-add-i
 add-i c =
     let t = c .before .before in
@@ -28,19 +33,21 @@ add-i c =
 
 returns : tie.Need-returns
 returns c =
-    let i = c .before .before in
+    let p = c .before in
+    let i = p .before .before in
     let o = i .before in
     let t = o .before .before in
     let a = t .before .before .before .before .args in
-    split-far (a .s .now) _ _ _ (omega arith) (o .boundary-of .ensures) (a .export) (i .if1 .taken) _ _ (c .before .part-at .ensures)
-    (c .part-at2 .ensures) ∙ ap (referenceOf (a .export)) (sym (bare t))
+    split-far (a .s .now) _ _ _ (within t) (o .boundary-of .ensures) (a .export) (i .if1 .taken) _ _ _ (p .before .part-at .ensures)
+    (p .part-at2 .ensures) (c .mark-of .ensures) ∙ ap (referenceOf (a .export)) (sym (bare t))
 
 returns-2 : tie.Need-returns-2
 returns-2 c =
-    let o = c .before in
+    let i = c .before in
+    let o = i .before in
     let t = o .before .before in
     let a = t .before .before .before .before .args in
-    split-none (a .s .now) _ _ _ (omega arith) (o .boundary-of .ensures) (a .export) (c .if1 .left)
+    split-none (a .s .now) _ _ _ (within t) (o .boundary-of .ensures) (a .export) (i .if1 .left) _ (c .no-mark .ensures)
     ∙ ap (referenceOf (a .export)) (sym (bare t))
 
 pub reference-at-spec : {M : Type 1} → statement M
@@ -49,4 +56,4 @@ reference-at-spec =
     (tie.spec
     (λ c κs. search needs) (λ c κs. search needs) (λ c κs. search needs) (λ c. search needs) (λ c. search needs)
     (λ c. search needs) (λ c κs. search needs) add-i (λ c κs. search needs) (λ c. search needs) (λ c κs. search needs)
-    returns (λ c. search needs) returns-2)
+    (λ c κs. search needs) returns (λ c. search needs) (λ c κs. search needs) returns-2)

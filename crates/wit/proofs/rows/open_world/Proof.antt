@@ -12,8 +12,11 @@ use Rattle.wit.proofs.rows.open_world.Tie as tie
 returns : tie.Need-returns
 returns c =
     let k = c .before .before .before .before in
-    let q = ap saidKnown (c .enum-told .given .1) in
-    (k .close-world .ensures .0, k .close-world .ensures .1, λ l n t e h. rw q (open-stop _ t _ (k .close-world .ensures .2 l n t e h) _ q))
+    let q = ap saidKnown (c .enum-told .given .1) in (
+      k .close-world .ensures .0,
+      k .close-world .ensures .1,
+      λ l n t e h. rw q (open-stop _ t _ (k .close-world .ensures .2 l n t e h) _ q),
+    )
 
 returns-2 : tie.Need-returns-2
 unfolding Ends Numbered

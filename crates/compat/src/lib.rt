@@ -1,0 +1,152 @@
+// compat.rs: the comparison of two builds.
+mod keys;
+mod lists;
+mod marks;
+
+use crate::lists::breaks_nothing;
+use crate::lists::lay_exports;
+use crate::lists::lay_needs;
+use crate::lists::list_exports;
+use crate::lists::list_needs;
+use differences::check_exports;
+use imports::check_imports;
+use refusal::Answer;
+use refusal::Refusal;
+ghost use mathlib.Core.Path.{_≡_};
+ghost use mathlib.Core.List.{[]};
+ghost use lib.ListN.{length};
+ghost use Rattle.refusal.specs.Said.{saidAnswer};
+ghost use Rattle.table.specs.Table.{laid, capacityOf};
+ghost use Rattle.differences.specs.Compared.{given, viewed, lists, roomed, tablesTested, compared, Compares};
+ghost use Rattle.compat.specs.Answer.{saidCompared, bothTested, Good};
+
+// How long the two lists are, and whether no export was removed and no capability added.
+pub enum Compared {
+    Lists {
+        exports: usize,
+        capabilities: usize,
+        compatible: bool,
+    },
+    Refused(Refusal),
+}
+
+// 15 for tables 2 and 3 of a module.
+fn check_tables(file: &[u8], imports: &[usize], m: usize, exports: &[usize], n: usize) -> Answer
+    ensures { λ r. ⌜ saidAnswer r ≡ tablesTested (given (now (file .entry)) (now (imports .entry)) m (now (exports .entry)) n) ⌝ }
+{
+    match check_imports(file.len(), imports, m) {
+        Answer::Refused(r) => Answer::Refused(r),
+        Answer::Accepted => check_exports(file.len(), exports, n),
+    }
+}
+
+// 14 for either file, then 15 for the baseline's tables and for the candidate's.
+fn check_both(
+    baseline: &[u8],
+    bi: &[usize],
+    nbi: usize,
+    be: &[usize],
+    nbe: usize,
+    candidate: &[u8],
+    ci: &[usize],
+    nci: usize,
+    ce: &[usize],
+    nce: usize,
+) -> Answer
+    ensures { λ r. ⌜ saidAnswer r ≡ bothTested (given (now (baseline .entry)) (now (bi .entry)) nbi (now (be .entry)) nbe)
+        (given (now (candidate .entry)) (now (ci .entry)) nci (now (ce .entry)) nce) ⌝ }
+{
+    if baseline.len() > 16777216 {
+        return Answer::Refused(Refusal::TooLong);
+    }
+    if candidate.len() > 16777216 {
+        return Answer::Refused(Refusal::TooLong);
+    }
+    match check_tables(baseline, bi, nbi, be, nbe) {
+        Answer::Refused(r) => Answer::Refused(r),
+        Answer::Accepted => check_tables(candidate, ci, nci, ce, nce),
+    }
+}
+
+// The lists of tables that passed, into tables 8 and 9, which are zero.
+fn compare_tables<'a, 'b, 'c, 'd, 'e, 'f, 'g>(
+    baseline: &'a [u8],
+    bi: &'b [usize],
+    nbi: usize,
+    be: &'c [usize],
+    nbe: usize,
+    candidate: &'a [u8],
+    ci: &'d [usize],
+    nci: usize,
+    ce: &'e [usize],
+    nce: usize,
+    xd: &'f mut [usize],
+    cd: &'g mut [usize],
+) -> Compared
+    requires { ⌜ (Good (given (now baseline) (now bi) nbi (now be) nbe)) × (Good (given (now candidate) (now ci) nci (now ce) nce)) ⌝ }
+    requires { ⌜ (now xd ≡ laid (length (now xd)) []) × (now cd ≡ laid (length (now cd)) []) ⌝ }
+    ensures { λ r. ⌜ Compares (roomed (capacityOf (length (now (xd .entry))) 2 2048) (capacityOf (length (now (cd .entry))) 3 2048)
+        (lists (viewed (given (now (baseline .entry)) (now (bi .entry)) nbi (now (be .entry)) nbe))
+        (viewed (given (now (candidate .entry)) (now (ci .entry)) nci (now (ce .entry)) nce))))
+        (now (xd .entry)) (now (xd .exit)) (now (cd .entry)) (now (cd .exit)) (saidCompared r) ⌝ }
+{
+    let mut exports = [0usize; 2048];
+    let m = list_exports(baseline, be, nbe, candidate, ce, nce, &mut exports);
+    if table::capacity(xd.len(), 2, 2048) < m {
+        return Compared::Refused(Refusal::Full(8));
+    }
+    let mut needs = [0usize; 2048];
+    let n = list_needs(baseline, bi, nbi, candidate, ci, nci, &mut needs);
+    if table::capacity(cd.len(), 3, 2048) < n {
+        return Compared::Refused(Refusal::Full(9));
+    }
+    lay_exports(&exports[..m], nbe, xd);
+    lay_needs(baseline, bi, nbi, candidate, ci, &needs[..n], cd);
+    let compatible = breaks_nothing(&exports[..m], nbe, &needs[..n], nbi);
+    Compared::Lists {
+        exports: m,
+        capabilities: n,
+        compatible,
+    }
+}
+
+// Tables 8 and 9: what was removed from the baseline and added in the candidate.
+pub fn compare_modules<'a, 'b, 'c, 'd, 'e, 'f, 'g>(
+    baseline: &'a [u8],
+    bi: &'b [usize],
+    nbi: usize,
+    be: &'c [usize],
+    nbe: usize,
+    candidate: &'a [u8],
+    ci: &'d [usize],
+    nci: usize,
+    ce: &'e [usize],
+    nce: usize,
+    xd: &'f mut [usize],
+    cd: &'g mut [usize],
+) -> Compared
+    ensures { λ r. ⌜ Compares (compared (given (now (baseline .entry)) (now (bi .entry)) nbi (now (be .entry)) nbe)
+        (given (now (candidate .entry)) (now (ci .entry)) nci (now (ce .entry)) nce)
+        (capacityOf (length (now (xd .entry))) 2 2048) (capacityOf (length (now (cd .entry))) 3 2048))
+        (now (xd .entry)) (now (xd .exit)) (now (cd .entry)) (now (cd .exit)) (saidCompared r) ⌝ }
+{
+    table::clear(xd);
+    table::clear(cd);
+    match check_both(baseline, bi, nbi, be, nbe, candidate, ci, nci, ce, nce) {
+        Answer::Refused(r) => Compared::Refused(r),
+        Answer::Accepted => compare_tables(
+            baseline,
+            bi,
+            nbi,
+            be,
+            nbe,
+            candidate,
+            ci,
+            nci,
+            ce,
+            nce,
+            xd,
+            cd,
+        ),
+    }
+}

@@ -1,0 +1,133 @@
+// The two lists: the numbers of the rows that the other module lacks, in order, and the rows of tables 8 and 9.
+use crate::keys::fill_exports;
+use crate::keys::fill_needs;
+use crate::keys::need_at;
+use crate::marks::sort_missing;
+ghost use mathlib.Core.Path.{_≡_};
+ghost use mathlib.Core.Bool.{not, _&&_};
+ghost use mathlib.Core.List.{[]};
+ghost use Prim.Native.Nat.{_+_, _*_, _≤_};
+ghost use lib.ListN.{length};
+ghost use Rattle.refusal.specs.Said.{accepted};
+ghost use Rattle.table.specs.Table.{laid, cells};
+ghost use Rattle.differences.specs.Compared.{exportsTested};
+ghost use Rattle.compat.specs.Listing.{Numbers, exportNumbered, needNumbered, exportsBetween, needsBetween};
+ghost use Rattle.compat.specs.Listing.{placeOf, placeCells, needCellsAt, hasSide};
+
+pub(crate) fn list_exports<'a, 'b, 'c, 'd>(
+    b: &'a [u8],
+    be: &'b [usize],
+    nb: usize,
+    c: &'a [u8],
+    ce: &'c [usize],
+    nc: usize,
+    numbers: &'d mut [usize],
+) -> usize
+    requires { ⌜ (nb ≤ 1024) × (nc ≤ 1024) × (nb + nc ≤ length (now numbers)) ⌝ }
+    requires { ⌜ (exportsTested (length (now b)) (now be) nb ≡ accepted tt) × (exportsTested (length (now c)) (now ce) nc ≡ accepted tt) ⌝ }
+    ensures { λ r. ⌜ Numbers (exportNumbered (now (b .entry)) (now (be .entry)) nb (now (c .entry)) (now (ce .entry)))
+        (exportsBetween (now (b .entry)) (now (be .entry)) nb (now (c .entry)) (now (ce .entry)) nc) (now (numbers .exit)) r ⌝ }
+{
+    let mut keys = [0usize; 14336];
+    let n = nb + nc;
+    fill_exports(b, be, nb, c, ce, n, &mut keys);
+    sort_missing(b, c, &keys, nb, n, true, numbers)
+}
+
+pub(crate) fn list_needs<'a, 'b, 'c, 'd>(
+    b: &'a [u8],
+    bi: &'b [usize],
+    nb: usize,
+    c: &'a [u8],
+    ci: &'c [usize],
+    nc: usize,
+    numbers: &'d mut [usize],
+) -> usize
+    requires { ⌜ (nb ≤ 1024) × (nc ≤ 1024) × (nb + nc ≤ length (now numbers)) ⌝ }
+    ensures { λ r. ⌜ Numbers (needNumbered (now (b .entry)) (now (bi .entry)) nb (now (c .entry)) (now (ci .entry)))
+        (needsBetween (now (b .entry)) (now (bi .entry)) nb (now (c .entry)) (now (ci .entry)) nc) (now (numbers .exit)) r ⌝ }
+{
+    let mut keys = [0usize; 14336];
+    let n = nb + nc;
+    fill_needs(b, bi, nb, c, ci, n, &mut keys);
+    sort_missing(b, c, &keys, nb, n, false, numbers)
+}
+
+// Where a number points: 0 and a row of the baseline, or 1 and a row of the candidate.
+struct Place {
+    side: usize,
+    row: usize,
+}
+
+fn place_of(nb: usize, i: usize) -> Place
+    ensures { λ r. ⌜ r ≡ placeOf nb i ⌝ }
+{
+    if i < nb {
+        return Place { side: 0, row: i };
+    }
+    Place {
+        side: 1,
+        row: i - nb,
+    }
+}
+
+// Table 8.
+pub(crate) fn lay_exports(numbers: &[usize], nb: usize, table: &mut [usize])
+    requires { ⌜ (now table ≡ laid (length (now table)) []) × (length (now numbers) * 2 ≤ length (now table)) ⌝ }
+    ensures { λ _. ⌜ now (table .exit) ≡ laid (length (now (table .entry))) (cells (placeCells nb) (now (numbers .entry))) ⌝ }
+{
+    let mut j = 0;
+    while j < numbers.len() {
+        let place = place_of(nb, numbers[j]);
+        table::put_row(table, j, &[place.side, place.row]);
+        j += 1;
+    }
+}
+
+// Table 9: the domain is told anew.
+pub(crate) fn lay_needs(
+    b: &[u8],
+    bi: &[usize],
+    nb: usize,
+    c: &[u8],
+    ci: &[usize],
+    numbers: &[usize],
+    table: &mut [usize],
+)
+    requires { ⌜ (now table ≡ laid (length (now table)) []) × (length (now numbers) * 3 ≤ length (now table)) ⌝ }
+    ensures { λ _. ⌜ now (table .exit) ≡ laid (length (now (table .entry)))
+        (cells (needCellsAt (now (b .entry)) (now (bi .entry)) nb (now (c .entry)) (now (ci .entry))) (now (numbers .entry))) ⌝ }
+{
+    let mut j = 0;
+    while j < numbers.len() {
+        let i = numbers[j];
+        let place = place_of(nb, i);
+        let key = need_at(b, bi, nb, c, ci, i);
+        table::put_row(table, j, &[place.side, key.major, place.row]);
+        j += 1;
+    }
+}
+
+// One of the numbers is of this module.
+fn has_side(numbers: &[usize], nb: usize, side: usize) -> bool
+    ensures { λ r. ⌜ r ≡ hasSide nb side (now (numbers .entry)) ⌝ }
+{
+    let mut j = 0;
+    while j < numbers.len() {
+        if place_of(nb, numbers[j]).side == side {
+            return true;
+        }
+        j += 1;
+    }
+    false
+}
+
+// No export was removed, and no capability added.
+pub(crate) fn breaks_nothing(exports: &[usize], nbe: usize, needs: &[usize], nbi: usize) -> bool
+    ensures { λ r. ⌜ r ≡ not (hasSide nbe 0 (now (exports .entry))) && not (hasSide nbi 1 (now (needs .entry))) ⌝ }
+{
+    if has_side(exports, nbe, 0) {
+        return false;
+    }
+    !has_side(needs, nbi, 1)
+}
