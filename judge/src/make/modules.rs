@@ -345,8 +345,14 @@ pub fn reserving() -> Vec<Vec<u8>> {
     out
 }
 
-/// The largest tables, and tables larger than the limits.
+/// The largest tables, and tables larger than the limits; the longest file, and one byte more.
 fn limits_themselves(court: &mut Court) {
+    for (low, length) in [(0xf3, 16_777_216), (0xf4, 16_777_217)] {
+        let mut file = [HEADER, &[1, low, 0xff, 0xff, 0x07]].concat();
+        file.resize(length, 0);
+        hear(court, &file, ROOMY);
+        court.hear(Case::new(Call::Check, &[], &[&file, b"default allow"]));
+    }
     let more = FULL.map(|n| n + 10);
     for cells in [FULL, more] {
         for n in 255..=257 {
