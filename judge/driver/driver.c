@@ -152,15 +152,21 @@ static void write_policy(void) {
     output = out, output_length = number[0];
 }
 
-/* numbers: the stated count, how many rows, the rows, then the policy's cells */
-static void evaluate(void) {
-    size_t rows = number[1];
-    struct viscrombal_evaluation r = judged_evaluate(number + 2, rows, number[0], number + 2 + rows, given - 2 - rows);
+static void evaluation(struct viscrombal_evaluation r) {
     tell(r.number), tell(r.place);
     for (int d = 0; d < 7; d++)
         tell(r.verdicts[d].required), tell(r.verdicts[d].allowed), tell(r.verdicts[d].many);
     tell(r.set), tell(r.count), tell(r.compliant);
 }
+
+/* numbers: the stated count, how many rows, the rows, then the policy's cells */
+static void evaluate(void) {
+    size_t rows = number[1];
+    evaluation(judged_evaluate(number + 2, rows, number[0], number + 2 + rows, given - 2 - rows));
+}
+
+/* strings: the module, the policy */
+static void check(void) { evaluation(viscrombal_check(string[0], length[0], string[1], length[1])); }
 
 static void import(void) { tell(judged_import(string[0], length[0], string[1], length[1])); }
 
@@ -201,7 +207,7 @@ static void all_exports(void) { paths(true); }
 /* In the order of `Call` in src/case.rs. */
 static void (*const calls[])(void) = {
     NULL, uleb128, uleb128_u32, sleb128, name, module, functions, memories, namespaces, policy, token, write_policy, evaluate, import, path,
-    rewrite, manifest, requirements, all_imports, all_exports,
+    rewrite, manifest, requirements, all_imports, all_exports, check,
 };
 
 /* ---- cases */

@@ -23,9 +23,10 @@ pub enum Call {
     Requirements,
     AllImports,
     AllExports,
+    Check,
 }
 
-pub const CALLS: [(Call, &str); 19] = [
+pub const CALLS: [(Call, &str); 20] = [
     (Call::Uleb128, "uleb128"),
     (Call::Uleb128U32, "uleb128_u32"),
     (Call::Sleb128, "sleb128"),
@@ -45,6 +46,7 @@ pub const CALLS: [(Call, &str); 19] = [
     (Call::Requirements, "requirements"),
     (Call::AllImports, "all_imports"),
     (Call::AllExports, "all_exports"),
+    (Call::Check, "check"),
 ];
 
 #[derive(Clone, PartialEq, Eq, Debug)]

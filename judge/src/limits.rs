@@ -64,6 +64,11 @@ fn manifest_full(s: &str, room: [u64; 2]) -> Option<String> {
     }
 }
 
+/// A module read into tables at their limits, without what is left in them.
+pub fn module_alone(file: &[u8]) -> String {
+    Walk::new(file, &TABLES.map(|t| t.1)).says()
+}
+
 /// `n` in as many bytes as stand there.
 fn padded(n: u64, bytes: &mut [u8]) {
     let last = bytes.len() - 1;

@@ -40,6 +40,7 @@ pub fn original_says(case: &Case) -> String {
         Call::Requirements => requirements(s(0), n),
         Call::AllImports => paths(s(0), n, false),
         Call::AllExports => paths(s(0), n, true),
+        Call::Check => checked(s(0), s(1)),
     }
 }
 
@@ -56,7 +57,7 @@ pub fn port_says(case: &Case, a: &Answer) -> String {
         Call::Policy => port_policy(s(0), t),
         Call::Token => answered(t, 6, |t| format!("{} {} {} {}", t[2], t[3], t[4], t[5])),
         Call::Write | Call::Rewrite => port_written(t, &a.bytes),
-        Call::Evaluate => answered(t, 26, |t| format!("{:?} {} {} {}", &t[2..23], t[23], t[24], t[25])),
+        Call::Evaluate | Call::Check => answered(t, 26, |t| format!("{:?} {} {} {}", &t[2..23], t[23], t[24], t[25])),
         Call::Import | Call::Path => t[0].to_string(),
         Call::Manifest => port_manifest(s(0), t),
         Call::Requirements => port_requirements(t),
@@ -489,10 +490,30 @@ fn evaluated(n: &[u64]) -> String {
     }
     let required = |d: &u64| Requirement { domain: DOMAINS[*d as usize], source: String::new(), detail: String::new() };
     let list: Vec<Requirement> = rows[..count as usize].iter().map(required).collect();
-    let e = policy::evaluate(&list, &Cells(&n[2 + n[1] as usize..]).policy());
+    evaluation_says(&policy::evaluate(&list, &Cells(&n[2 + n[1] as usize..]).policy()))
+}
+
+fn evaluation_says(e: &policy::Evaluation) -> String {
     let told: Vec<u64> = e.verdicts.iter().flat_map(|v| [v.required as u64, v.allowed as u64, v.requirements.len() as u64]).collect();
     let set: u64 = e.violations().iter().map(|d| 1u64 << number_of(*d)).sum();
     format!("{told:?} {set} {} {}", e.violations().len(), e.is_compliant() as u64)
+}
+
+/// 14 of either and 4 of the policy first, then what refuses the module, then what refuses the policy.
+fn checked(file: &[u8], text: &[u8]) -> String {
+    if file.len() > LONGEST_MODULE {
+        return refused(14, 0);
+    }
+    let s = match whole(text) {
+        Ok(s) => s,
+        Err(why) => return why,
+    };
+    let read = crate::limits::module_alone(file);
+    if read.starts_with("refused") {
+        return read;
+    }
+    let m = parse(file).expect("a module that is read");
+    Policy::parse(s).map_or_else(|e| line_error(&e), |p| evaluation_says(&policy::evaluate(&policy::requirements_from_module(&m), &p)))
 }
 
 fn classified(source: &[u8], field: &[u8]) -> usize {

@@ -5,6 +5,7 @@ mod numbers;
 mod policies;
 mod tables;
 
+use crate::case::{Call, Case};
 use crate::random::Random;
 use crate::Court;
 
@@ -25,6 +26,16 @@ pub fn seeded(court: &mut Court, seed: u64) {
     manifests::seeded(court, r);
     modules::seeded(court, r);
     tables::seeded(court, r);
+    for _ in 0..600 {
+        let (mut file, mut text) = (modules::module(r), policies::lines(r).into_bytes());
+        if r.one_in(6) {
+            file = damaged(&file, r);
+        }
+        if r.one_in(6) {
+            text = damaged(&text, r);
+        }
+        court.hear(Case::new(Call::Check, &[], &[&file, &text]));
+    }
 }
 
 /// Every string over the alphabet of exactly this length.

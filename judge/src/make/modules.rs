@@ -151,7 +151,7 @@ fn section(r: &mut Random) -> Vec<u8> {
     sized(id, &payload, r)
 }
 
-fn module(r: &mut Random) -> Vec<u8> {
+pub fn module(r: &mut Random) -> Vec<u8> {
     let mut out = HEADER.to_vec();
     if r.one_in(20) {
         out[4] = r.byte();
@@ -299,6 +299,24 @@ pub fn fixed(court: &mut Court) {
     for file in real() {
         hear(court, &file, FULL);
         hear(court, &file, ROOMY);
+        for policy in ["", "default allow", "default allow\ndeny unknown", "allow fs\nallow env", "bogus", "default allow\n#"] {
+            court.hear(Case::new(Call::Check, &[], &[&file, policy.as_bytes()]));
+        }
+    }
+    // a module and a policy that are both refused, each for every reason
+    let files = [
+        &b""[..],
+        b"\0asn\x01\0\0\0",
+        b"\0asm\0\0\0\0",
+        b"\0asm\x01\0\0\0\x02\x01\x80",
+        b"\0asm\x01\0\0\0",
+        b"\0asm\x01\0\0\0\x02\x07\x01\x01m\x01f\0\0",
+    ];
+    let long = "#".repeat(65_537);
+    for file in files.map(|f| f.to_vec()).into_iter().chain([sections(257, b"")]) {
+        for policy in [&b""[..], b"\xff", b"bogus", b"default x", b"allow x", b"default allow", long.as_bytes()] {
+            court.hear(Case::new(Call::Check, &[], &[&file, policy]));
+        }
     }
 }
 
@@ -327,8 +345,14 @@ pub fn reserving() -> Vec<Vec<u8>> {
     out
 }
 
-/// The largest tables, and tables larger than the limits.
+/// The largest tables, and tables larger than the limits; the longest file, and one byte more.
 fn limits_themselves(court: &mut Court) {
+    for (low, length) in [(0xf3, 16_777_216), (0xf4, 16_777_217)] {
+        let mut file = [HEADER, &[1, low, 0xff, 0xff, 0x07]].concat();
+        file.resize(length, 0);
+        hear(court, &file, ROOMY);
+        court.hear(Case::new(Call::Check, &[], &[&file, b"default allow"]));
+    }
     let more = FULL.map(|n| n + 10);
     for cells in [FULL, more] {
         for n in 255..=257 {

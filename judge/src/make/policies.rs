@@ -63,7 +63,7 @@ fn line(r: &mut Random) -> String {
     out
 }
 
-fn lines(r: &mut Random) -> String {
+pub fn lines(r: &mut Random) -> String {
     let n = if r.one_in(3) { r.below(12) } else { r.below(4) };
     let mut out = String::new();
     for _ in 0..n {
