@@ -12,6 +12,14 @@ use Rattle.policy.specs.declared.domain.Domain.{Domain}
 use Rattle.policy.specs.declared.domain.Domain.the-variants.{Filesystem, Environment, Clock, Network, Random, Stdio, Unknown}
 use Rattle.policy.specs.Domain.{numbered, numberOf, Word, word, words, Perhaps, nothing, just, wordIn, domainOf}
 
+-- ---- a test that a name passed, and one that it failed
+module _ {A : Type 0} {t u : Bool} (a b : A) (e : u ≡ t) where
+  pub picked : u ≡ true → a ≡ pick t a b
+  picked h = rw (← e, h)
+
+  pub passed : u ≡ false → pick t a b ≡ b
+  passed h = rw (← e, h)
+
 -- ---- a domain's number is below 7
 pub data Small : Perhaps → Type 0 where
   no : Small nothing

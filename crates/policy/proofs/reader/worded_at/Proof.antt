@@ -1,130 +1,107 @@
 -- `worded_at` meets its contract. Assumes nothing.
-use mathlib.Core.Path.{sym, _∙_}
+use mathlib.Core.Path.{_≡_, sym, _∙_}
+use mathlib.Core.Bool.{Bool, true, false}
+use mathlib.Core.List.{List}
+use Prim.Native.Nat.{ℕ}
 use native.Mathlib.Omega.{arith}
 use borrow.Author.Needs.{needs}
+use Rattle.text.specs.Find.{begins}
+use Rattle.policy.specs.Heard.{bytesOf}
 use Rattle.policy.specs.Directive.{policyW, defaultW, allowW, denyW}
 use Rattle.policy.proofs.HeardLaws.{word-fits, worded-name, worded-default, worded-allow, worded-deny, worded-wrong}
 use Rattle.policy.proofs.reader.worded_at.Statement.{statement}
 use Rattle.policy.proofs.reader.worded_at.Tie as tie
 
+-- the line begins with a word, or does not
+abbrev Begins : List ℕ → tie.Start → Bool → Type 0
+Begins w c t = begins w (bytesOf (c .args .s .now) (c .args .a) (c .args .e)) ≡ t
+
+-- where a test failed: the entry, and that it failed
+abbrev start1 : tie.Else1 → tie.Start
+start1 c = c .before .before .before .before .before
+
+missed1 : (c : tie.Else1) → Begins policyW (start1 c) false
+missed1 c = sym (c .before .starts .ensures) ∙ c .if1 .left
+
+abbrev start2 : tie.Else2 → tie.Start
+start2 c = start1 (c .before .before .before .before)
+
+missed2 : (c : tie.Else2) → Begins defaultW (start2 c) false
+missed2 c = sym (c .before .starts2 .ensures) ∙ c .if2 .left
+
+abbrev start3 : tie.Else3 → tie.Start
+start3 c = start2 (c .before .before .before .before)
+
+missed3 : (c : tie.Else3) → Begins allowW (start3 c) false
+missed3 c = sym (c .before .starts3 .ensures) ∙ c .if3 .left
+
+abbrev start4 : tie.Else4 → tie.Start
+start4 c = start3 (c .before .before .before .before)
+
+missed4 : (c : tie.Else4) → Begins denyW (start4 c) false
+missed4 c = sym (c .before .starts4 .ensures) ∙ c .if4 .left
+
 called-at-requires : tie.Need-called-at-requires
 called-at-requires c κs =
     let a = c .before .before .before .before .before .args in
-    let e1 = sym (c .before .starts .ensures) ∙ c .if1 .taken in
-    omega (arith, word-fits (a .s .now) (a .a) (a .e) policyW (omega arith) e1)
+    omega (arith, word-fits (a .s .now) (a .a) (a .e) policyW (omega arith) (sym (c .before .starts .ensures) ∙ c .if1 .taken))
 
 returns : tie.Need-returns
 returns c =
-    let c1 = c .before in
-    let c2 = c1 .before in
-    let c3 = c2 .before .before .before .before in
-    let a = c3 .args in
-    let e1 = sym (c2 .starts .ensures) ∙ c1 .if1 .taken in
-    c .called-at .ensures ∙ sym (worded-name (a .s .now) (a .a) (a .e) e1)
+    let t = c .before in
+    let a = t .before .before .before .before .before .args in
+    c .called-at .ensures
+    ∙ sym (worded-name (a .s .now) (a .a) (a .e) (sym (t .before .starts .ensures) ∙ t .if1 .taken))
 
 preset-at-requires : tie.Need-preset-at-requires
 preset-at-requires c κs =
-    let c1 = c .before in
-    let c2 = c1 .before .before .before in
-    let c3 = c2 .before in
-    let c4 = c3 .before .before .before .before in
-    let a = c4 .args in
-    let e1 = sym (c3 .starts .ensures) ∙ c2 .if1 .left in
-    let e2 = sym (c1 .starts2 .ensures) ∙ c .if2 .taken in
-    omega (arith, word-fits (a .s .now) (a .a) (a .e) defaultW (omega arith) e2)
+    let a = (start1 (c .before .before .before .before)) .args in
+    omega (arith, word-fits (a .s .now) (a .a) (a .e) defaultW (omega arith) (sym (c .before .starts2 .ensures) ∙ c .if2 .taken))
 
 returns-2 : tie.Need-returns-2
 returns-2 c =
-    let c1 = c .before in
-    let c2 = c1 .before in
-    let c3 = c2 .before .before .before in
-    let c4 = c3 .before in
-    let c5 = c4 .before .before .before .before in
-    let a = c5 .args in
-    let e1 = sym (c4 .starts .ensures) ∙ c3 .if1 .left in
-    let e2 = sym (c2 .starts2 .ensures) ∙ c1 .if2 .taken in
-    c .preset-at .ensures ∙ sym (worded-default (a .s .now) (a .a) (a .e) e1 e2)
+    let t = c .before in
+    let e1 = t .before .before .before .before in
+    let a = start1 e1 .args in
+    c .preset-at .ensures
+    ∙ sym (worded-default (a .s .now) (a .a) (a .e) (missed1 e1) (sym (t .before .starts2 .ensures) ∙ t .if2 .taken))
 
 ruled-at-requires : tie.Need-ruled-at-requires
 ruled-at-requires c κs =
-    let c1 = c .before in
-    let c2 = c1 .before .before .before in
-    let c3 = c2 .before in
-    let c4 = c3 .before .before .before in
-    let c5 = c4 .before in
-    let c6 = c5 .before .before .before .before in
-    let a = c6 .args in
-    let e1 = sym (c5 .starts .ensures) ∙ c4 .if1 .left in
-    let e2 = sym (c3 .starts2 .ensures) ∙ c2 .if2 .left in
-    let e3 = sym (c1 .starts3 .ensures) ∙ c .if3 .taken in
-    omega (arith, word-fits (a .s .now) (a .a) (a .e) allowW (omega arith) e3)
+    let a = (start2 (c .before .before .before .before)) .args in
+    omega (arith, word-fits (a .s .now) (a .a) (a .e) allowW (omega arith) (sym (c .before .starts3 .ensures) ∙ c .if3 .taken))
 
 returns-3 : tie.Need-returns-3
 returns-3 c =
-    let c1 = c .before in
-    let c2 = c1 .before in
-    let c3 = c2 .before .before .before in
-    let c4 = c3 .before in
-    let c5 = c4 .before .before .before in
-    let c6 = c5 .before in
-    let c7 = c6 .before .before .before .before in
-    let a = c7 .args in
-    let e1 = sym (c6 .starts .ensures) ∙ c5 .if1 .left in
-    let e2 = sym (c4 .starts2 .ensures) ∙ c3 .if2 .left in
-    let e3 = sym (c2 .starts3 .ensures) ∙ c1 .if3 .taken in
-    c .ruled-at .ensures ∙ sym (worded-allow (a .s .now) (a .a) (a .e) e1 e2 e3)
+    let t = c .before in
+    let e2 = t .before .before .before .before in
+    let e1 = e2 .before .before .before .before in
+    let a = start2 e2 .args in
+    c .ruled-at .ensures
+    ∙ sym (worded-allow (a .s .now) (a .a) (a .e) (missed1 e1) (missed2 e2) (sym (t .before .starts3 .ensures) ∙ t .if3 .taken))
 
 ruled-at-requires-2 : tie.Need-ruled-at-requires-2
 ruled-at-requires-2 c κs =
-    let c1 = c .before in
-    let c2 = c1 .before .before .before in
-    let c3 = c2 .before in
-    let c4 = c3 .before .before .before in
-    let c5 = c4 .before in
-    let c6 = c5 .before .before .before in
-    let c7 = c6 .before in
-    let c8 = c7 .before .before .before .before in
-    let a = c8 .args in
-    let e1 = sym (c7 .starts .ensures) ∙ c6 .if1 .left in
-    let e2 = sym (c5 .starts2 .ensures) ∙ c4 .if2 .left in
-    let e3 = sym (c3 .starts3 .ensures) ∙ c2 .if3 .left in
-    let e4 = sym (c1 .starts4 .ensures) ∙ c .if4 .taken in
-    omega (arith, word-fits (a .s .now) (a .a) (a .e) denyW (omega arith) e4)
+    let a = (start3 (c .before .before .before .before)) .args in
+    omega (arith, word-fits (a .s .now) (a .a) (a .e) denyW (omega arith) (sym (c .before .starts4 .ensures) ∙ c .if4 .taken))
 
 returns-4 : tie.Need-returns-4
 returns-4 c =
-    let c1 = c .before in
-    let c2 = c1 .before in
-    let c3 = c2 .before .before .before in
-    let c4 = c3 .before in
-    let c5 = c4 .before .before .before in
-    let c6 = c5 .before in
-    let c7 = c6 .before .before .before in
-    let c8 = c7 .before in
-    let c9 = c8 .before .before .before .before in
-    let a = c9 .args in
-    let e1 = sym (c8 .starts .ensures) ∙ c7 .if1 .left in
-    let e2 = sym (c6 .starts2 .ensures) ∙ c5 .if2 .left in
-    let e3 = sym (c4 .starts3 .ensures) ∙ c3 .if3 .left in
-    let e4 = sym (c2 .starts4 .ensures) ∙ c1 .if4 .taken in
-    c .ruled-at2 .ensures ∙ sym (worded-deny (a .s .now) (a .a) (a .e) e1 e2 e3 e4)
+    let t = c .before in
+    let e3 = t .before .before .before .before in
+    let e2 = e3 .before .before .before .before in
+    let e1 = e2 .before .before .before .before in
+    let a = start3 e3 .args in
+    c .ruled-at2 .ensures
+    ∙ sym (worded-deny (a .s .now) (a .a) (a .e) (missed1 e1) (missed2 e2) (missed3 e3) (sym (t .before .starts4 .ensures) ∙ t .if4 .taken))
 
 returns-5 : tie.Need-returns-5
 returns-5 c =
-    let c1 = c .before in
-    let c2 = c1 .before .before .before in
-    let c3 = c2 .before in
-    let c4 = c3 .before .before .before in
-    let c5 = c4 .before in
-    let c6 = c5 .before .before .before in
-    let c7 = c6 .before in
-    let c8 = c7 .before .before .before .before in
-    let a = c8 .args in
-    let e1 = sym (c7 .starts .ensures) ∙ c6 .if1 .left in
-    let e2 = sym (c5 .starts2 .ensures) ∙ c4 .if2 .left in
-    let e3 = sym (c3 .starts3 .ensures) ∙ c2 .if3 .left in
-    let e4 = sym (c1 .starts4 .ensures) ∙ c .if4 .left in
-    sym (worded-wrong (a .s .now) (a .a) (a .e) e1 e2 e3 e4)
+    let e3 = c .before .before .before .before in
+    let e2 = e3 .before .before .before .before in
+    let e1 = e2 .before .before .before .before in
+    let a = start4 c .args in
+    sym (worded-wrong (a .s .now) (a .a) (a .e) (missed1 e1) (missed2 e2) (missed3 e3) (missed4 c))
 
 pub worded-at-spec : {M : Type 1} → statement M
 worded-at-spec =
