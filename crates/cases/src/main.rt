@@ -32,6 +32,7 @@ fn main() {
     t = run(t, b"manifests.txt", true);
     t = run(t, b"samples.txt", true);
     t = run(t, b"layers.txt", true);
+    t = run(t, b"original.txt", true);
     t = run(t, b"wrong.txt", false);
     t.print();
 }
