@@ -258,7 +258,8 @@ core-sub s at h = sub-trim (uncommented s at h)
 pub directive-clean : (s : List ℕ) (at : ℕ) → AllClean s (directive (lineOf s at))
 unfolding directive spoken
 directive-clean s at = by (ltb at (length s)) refl where
-  by : (t : Bool) → ltb at (length s) ≡ t → AllClean s (pick (eqb (length (core (lineOf s at) .bytes)) 0) Blank (worded (core (lineOf s at))))
+  by : (t : Bool) → ltb at (length s) ≡ t
+      → AllClean s (pick (eqb (length (core (lineOf s at) .bytes)) 0) Blank (worded (core (lineOf s at))))
   by true e = choose s (eqb (length (core (lineOf s at) .bytes)) 0) _ _ (λ q. tt)
       (worded-clean s _ (core-sub s at (ltb-true at (length s) e)))
   by false e =

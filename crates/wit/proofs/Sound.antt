@@ -126,7 +126,8 @@ module _ (s : List ℕ) (z : Sizes) where
     put false e g = gives-stop (Of Shut) 13 5
 
     by : (b : Bool) → t .world .given ≡ b
-        → Gives (Of Shut) (pick b (pick (ltb (length (t .worlds)) (capacityOf (z .worlds) 2 64)) (accepted (got (closed t) next)) (refused 13 5))
+        → Gives (Of Shut) (pick b
+        (pick (ltb (length (t .worlds)) (capacityOf (z .worlds) 2 64)) (accepted (got (closed t) next)) (refused 13 5))
         (accepted (got t next)))
     by true g = put (ltb (length (t .worlds)) (capacityOf (z .worlds) 2 64)) refl g
     by false g = gives-done (Of Shut) (got t next) (record { kept = h; none = h .open-ok .missing g })

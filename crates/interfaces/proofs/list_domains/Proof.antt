@@ -31,9 +31,10 @@ loop-again c =
     let p = c .before .before in
     let d = p .before .before .before in
     let k = d .before in
-    let l = k .before .before in (
+    let l = k .before .before in
+    let v = d .domain-at .ensures ∙ ap (referenceDomain _ _) (k .cell .ensures) in (
       omega (arith, k .before .loop-test .taken),
-      column-turn _ _ (l .loop .i) (l .loop .inv .1) (d .domain-at .ensures ∙ ap (referenceDomain _ _) (k .cell .ensures)) (p .put-row .ensures),
+      column-turn _ _ (l .loop .i) (l .loop .inv .1) v (p .put-row .ensures),
     )
 
 same-length : tie.Need-same-length Inv-loop μ-loop

@@ -42,7 +42,8 @@ returns c =
     let w = k .before .before .before in
     let o = w .before .before .before .before in
     let e = k .refuse2 .ensures in
-    requires-stop (full-rows _ _ _ _ _ (good o) (o .before .before .by-name .ensures) (o .sort .ensures) (lent o) (w .enum-told2 .given .1))
+    requires-stop
+    (full-rows _ _ _ _ _ (good o) (o .before .before .by-name .ensures) (o .sort .ensures) (lent o) (w .enum-told2 .given .1))
     (e .0) (e .1) (e .2 ∙ ap (λ (m : ℕ). laid m []) (kept o))
 
 returns-2 : tie.Need-returns-2
@@ -52,8 +53,8 @@ returns-2 c =
     let o = t .before .before .before .before .before .before in
     let e = k .refuse3 .ensures in
     requires-stop
-    (over-rows _ _ _ _ _ (good o) (o .before .before .by-name .ensures) (o .sort .ensures) (t .before .before .listed .given .1) (lent o) (room o)
-    (t .if1 .taken))
+    (over-rows _ _ _ _ _ (good o) (o .before .before .by-name .ensures) (o .sort .ensures) (t .before .before .listed .given .1)
+    (lent o) (room o) (t .if1 .taken))
     (e .0) (e .1) (e .2 ∙ ap (λ (m : ℕ). laid m []) (kept o))
 
 returns-3 : tie.Need-returns-3

@@ -28,7 +28,8 @@ returns-3 c =
       refl,
       refl,
       λ l n t e h.
-          close-put e h _ _ _ (not-false _ (k .before .if1 .left)) (omega (arith, e2 .if2 .left, k .capacity .ensures)) (p .put-world .ensures)
+          close-put e h _ _ _ (not-false _ (k .before .if1 .left)) (omega (arith, e2 .if2 .left, k .capacity .ensures))
+          (p .put-world .ensures)
           (c .no-mark .ensures),
     )
 
