@@ -12,13 +12,13 @@ use Rattle.refusal.proofs.Following.{never}
 use Rattle.refusal.specs.declared.Answer.{Answer}
 use Rattle.refusal.specs.declared.Refusal.{Refusal}
 use Rattle.refusal.specs.declared.Written.{Written}
-use Rattle.policy.specs.Domain.{nothing, just, numbered}
-use Rattle.policy.specs.Whole.{verdictOf}
+use Rattle.domains.specs.Domain.{nothing, just, numbered}
+use Rattle.pieces.specs.Whole.{verdictOf}
 use Rattle.policy.specs.Reader.{policyOf, ReadAs}
-use Rattle.policy.specs.Evaluate.{Outcome, compliant, acceptedAs, noOutcome, EvaluatedAs}
+use Rattle.verdicts.specs.Evaluate.{Outcome, compliant, acceptedAs, noOutcome, EvaluatedAs}
 use Rattle.policy.specs.declared.Policy.{Policy}
 use Rattle.policy.specs.declared.PolicyRead.{PolicyRead}
-use Rattle.policy.specs.declared.eval.Evaluation.{Evaluation}
+use Rattle.verdicts.specs.declared.Evaluation.{Evaluation}
 use Rattle.rewriting.specs.Token as tokens
 use Rattle.rewriting.specs.Token.{Found, nextToken}
 use Rattle.rewriting.specs.Writer.{Writes, Told, counted, left, written}

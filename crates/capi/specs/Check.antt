@@ -5,8 +5,8 @@ use mathlib.Core.List.{List, [], _∷_}
 use lib.Dec.{eqb}
 use lib.ListN.{getD}
 use Rattle.refusal.specs.Said.{Said, accepted, refused}
-use Rattle.policy.specs.Evaluate.{Outcome, noVerdict, noOutcome}
-use Rattle.policy.specs.declared.eval.Verdict.{Verdict}
+use Rattle.verdicts.specs.Evaluate.{Outcome, noVerdict, noOutcome}
+use Rattle.verdicts.specs.declared.Verdict.{Verdict}
 use Rattle.capi.specs.declared.check.VerdictTold.{VerdictTold}
 use Rattle.capi.specs.declared.check.EvaluationTold.{EvaluationTold}
 

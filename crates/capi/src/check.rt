@@ -2,11 +2,11 @@
 use crate::policies::number_of;
 use crate::policies::place_of;
 use checking::check_module;
-use policy::eval::Evaluation;
-use policy::eval::Verdict;
+use verdicts::Evaluation;
+use verdicts::Verdict;
 ghost use mathlib.Core.Path.{_≡_};
 ghost use Rattle.refusal.specs.Said.{saidAnswer};
-ghost use Rattle.policy.specs.Evaluate.{compliant};
+ghost use Rattle.verdicts.specs.Evaluate.{compliant};
 ghost use Rattle.capi.specs.Policies.{numberIn, placeIn};
 ghost use Rattle.checking.specs.Checking.{checkedOf};
 ghost use Rattle.capi.specs.Check.{verdictTold, judgedAs, evaluationTold};
@@ -46,7 +46,7 @@ pub fn judged_of(e: Evaluation) -> EvaluationTold
     let answer = e.answer;
     let number = number_of(answer);
     let place = place_of(answer);
-    let compliant = policy::eval::is_compliant(e);
+    let compliant = verdicts::is_compliant(e);
     let a = verdict_of(e.verdicts[0]);
     let b = verdict_of(e.verdicts[1]);
     let c = verdict_of(e.verdicts[2]);

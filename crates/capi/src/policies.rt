@@ -1,9 +1,9 @@
 // policy.rs over the C interface: a policy as ranges of its text, its tokens one call after another, and its text written again.
+use domains::DomainFound;
+use domains::domain_of;
 use policy::Policy;
 use policy::Slot;
 use policy::Stance;
-use policy::domain::DomainFound;
-use policy::domain::domain_of;
 use refusal::Answer;
 use refusal::Written;
 use rewriting::token::Token;

@@ -15,16 +15,16 @@ use crate::modules::put_slug;
 use crate::modules::put_written;
 use crate::prepare::given_policy;
 use crate::prepare::put_policy;
-use policy::domain::Domain;
-use policy::domain::DomainFound;
-use policy::domain::domain_number;
-use policy::eval::Evaluation;
-use policy::eval::Verdict;
-use policy::eval::evaluate_domains;
+use domains::Domain;
+use domains::DomainFound;
+use domains::domain_number;
 use refusal::Answer;
 use refusal::Count;
 use requirements::requirements_from_module;
 use rewriting::token::Token;
+use verdicts::Evaluation;
+use verdicts::Verdict;
+use verdicts::evaluate_domains;
 
 // 7 where there is no domain.
 fn put_found(got: &mut [usize], found: DomainFound) {
@@ -35,29 +35,29 @@ fn put_found(got: &mut [usize], found: DomainFound) {
 }
 
 pub(crate) fn from_slug(word: &[u8], got: &mut [usize]) {
-    put_found(got, policy::domain::from_slug(word));
+    put_found(got, domains::from_slug(word));
 }
 
 // A domain's number, and its word.
 pub(crate) fn domain(cells: &[usize], got: &mut [usize]) {
-    let found = policy::domain::domain_of(cell(cells, 0));
+    let found = domains::domain_of(cell(cells, 0));
     put_found(got, found);
     let DomainFound::Domain(d) = found else {
         return;
     };
-    put_slug(got, policy::domain::domain_slug(d));
+    put_slug(got, domains::domain_slug(d));
 }
 
 pub(crate) fn import(source: &[u8], field: &[u8], got: &mut [usize]) {
     put(
         got,
         2,
-        domain_number(policy::classify::classify_import(source, field)),
+        domain_number(domains::classify::classify_import(source, field)),
     );
 }
 
 pub(crate) fn path(s: &[u8], got: &mut [usize]) {
-    put(got, 2, domain_number(policy::classify::classify_path(s)));
+    put(got, 2, domain_number(domains::classify::classify_path(s)));
 }
 
 pub(crate) fn read(text: &[u8], got: &mut [usize]) {
@@ -81,14 +81,14 @@ fn put_answer(got: &mut [usize], answer: Answer) {
 
 // The domain whose number a record gives first.
 fn given_domain(cells: &[usize]) -> Domain {
-    match policy::domain::domain_of(cell(cells, 0)) {
+    match domains::domain_of(cell(cells, 0)) {
         DomainFound::Domain(d) => d,
         DomainFound::Nothing => Domain::Unknown,
     }
 }
 
 pub(crate) fn effective(cells: &[usize], got: &mut [usize]) {
-    let rule = policy::eval::effective(given_policy(cells), given_domain(cells));
+    let rule = verdicts::effective(given_policy(cells), given_domain(cells));
     lay(got, 2, &[bit(rule.allow), rule.from, rule.len]);
 }
 
@@ -158,7 +158,7 @@ pub(crate) fn evaluate(cells: &[usize], got: &mut [usize]) {
 fn put_evaluation(got: &mut [usize], e: Evaluation) {
     let answer = e.answer;
     put_answer(got, answer);
-    let compliant = policy::eval::is_compliant(e);
+    let compliant = verdicts::is_compliant(e);
     lay(got, 2, &[e.set as usize, e.count, bit(compliant)]);
     let v = e.verdicts;
     put_verdicts(got, v);

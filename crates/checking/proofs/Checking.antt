@@ -10,10 +10,10 @@ use Rattle.refusal.specs.declared.Refusal.{Refusal}
 use Rattle.refusal.proofs.Following.{never, followed, follow-stops, follow-goes}
 use Rattle.policy.specs.declared.PolicyRead.{PolicyRead}
 use Rattle.policy.specs.declared.Policy.{Policy}
-use Rattle.policy.specs.declared.eval.Evaluation.{Evaluation}
-use Rattle.policy.specs.Whole.{wholeText, verdictOf}
+use Rattle.verdicts.specs.declared.Evaluation.{Evaluation}
+use Rattle.pieces.specs.Whole.{wholeText, verdictOf}
 use Rattle.policy.specs.Reader.{policyOf, ReadAs}
-use Rattle.policy.specs.Evaluate.{Outcome, EvaluatedAs}
+use Rattle.verdicts.specs.Evaluate.{Outcome, EvaluatedAs, evaluated}
 use Rattle.refusal.specs.declared.Count.{Count}
 use Rattle.table.specs.Table.{laid, cells}
 use Rattle.table.specs.Listing.{rowsIn}
@@ -22,7 +22,6 @@ use Rattle.wasm.specs.declared.ModuleRead.{ModuleRead}
 use Rattle.wasm.specs.Rows.{importCells}
 use Rattle.wasm.specs.Module.{Parsed, moduleAt, moduleOf, countsOf, saidModule, Lent, tablesOf, ModuleIs}
 use Rattle.requirements.specs.Requirements.{roomOf, rowDomain, moduleRows, Requires}
-use Rattle.policy.specs.Evaluate.{evaluated}
 use Rattle.checking.specs.Checking.{weighed, heldTo, limits, importsLeft, readThen, checkedOf}
 
 one-value : {X : Type 0} {v w : X} → accepted v ≡ accepted w → v ≡ w

@@ -9,9 +9,9 @@ use Rattle.table.specs.Table.{laid, cells}
 use Rattle.wasm.specs.Rows.{importCells}
 use Rattle.wasm.specs.Module.{Sizes, Parsed, moduleAt}
 use Rattle.policy.specs.declared.Policy.{Policy}
-use Rattle.policy.specs.Whole.{wholeText}
+use Rattle.pieces.specs.Whole.{wholeText}
 use Rattle.policy.specs.Reader.{readPolicy}
-use Rattle.policy.specs.Evaluate.{Outcome, evaluated}
+use Rattle.verdicts.specs.Evaluate.{Outcome, evaluated}
 use Rattle.requirements.specs.Requirements.{rowDomain, moduleRows}
 
 -- the domains that the rows ask for, in columns at the limit, evaluated

@@ -1,14 +1,14 @@
 // The whole check in one call: a module's file held against a policy's text.
 use policy::Policy;
-use policy::eval::Evaluation;
-use policy::eval::evaluate_domains;
-use policy::eval::unjudged;
 use refusal::Answer;
 use refusal::Count;
 use refusal::Refusal;
 use requirements::requirements_from_module;
+use verdicts::Evaluation;
+use verdicts::evaluate_domains;
+use verdicts::unjudged;
 use wasm::ModuleRead;
-ghost use Rattle.policy.specs.Evaluate.{EvaluatedAs};
+ghost use Rattle.verdicts.specs.Evaluate.{EvaluatedAs};
 ghost use Rattle.checking.specs.Checking.{weighed, heldTo, readThen, checkedOf};
 
 // 14 of either, 4 of the text; the module's refusals; the policy's; then the verdicts.
@@ -18,7 +18,7 @@ pub fn check_module(file: &[u8], text: &[u8]) -> Evaluation
     if file.len() > 16777216 {
         return unjudged(Refusal::TooLong);
     }
-    match policy::whole::test_text(text) {
+    match pieces::test_text(text) {
         Answer::Refused(why) => unjudged(why),
         Answer::Accepted => read_then(file, text),
     }

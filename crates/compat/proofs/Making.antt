@@ -6,7 +6,7 @@ use lib.Dec.{eqb}
 use Rattle.refusal.specs.Pick.{pick}
 use Rattle.table.specs.Table.{cellOf, rangeOf}
 use Rattle.imports.specs.Queries.{kindIs}
-use Rattle.policy.specs.Classify.{importDomain}
+use Rattle.domains.specs.Classify.{importDomain}
 use Rattle.differences.specs.Rank.{rankOf}
 use Rattle.compat.specs.Keying.{keyOf, printOf, exportKey, needKey}
 

@@ -11,7 +11,7 @@ use Rattle.table.specs.Table.{cellOf, rangeOf, laid, cells, rowsOf}
 use Rattle.sorting.specs.Keys.{nameAt, sortedRows}
 use Rattle.sorting.specs.declared.Keys.{Keys}
 use Rattle.imports.specs.Queries.{kindIs}
-use Rattle.policy.specs.Classify.{importDomain}
+use Rattle.domains.specs.Classify.{importDomain}
 use Rattle.differences.specs.Rank.{rankOf}
 use Rattle.differences.specs.Numbers.{sided, someFrom}
 use Rattle.compat.specs.declared.keys.Key.{Key}

@@ -1,7 +1,7 @@
 // The rows that are compared, those of the baseline and then those of the candidate, as rows of one table of keys.
 use differences::kind_rank;
-use policy::classify::classify_import;
-use policy::domain::domain_number;
+use domains::classify::classify_import;
+use domains::domain_number;
 ghost use mathlib.Core.Path.{_≡_};
 ghost use mathlib.Core.List.{[]};
 ghost use Prim.Native.Nat.{_+_, _*_, _≤_};

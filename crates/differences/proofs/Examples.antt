@@ -8,7 +8,7 @@ use Rattle.table.specs.Table.{cellOf, rangeOf}
 use Rattle.text.specs.Find.{begins, same}
 use Rattle.kinds.specs.Kinds.{kindOf}
 use Rattle.imports.specs.Queries.{kindIs}
-use Rattle.policy.specs.Classify.{importDomain}
+use Rattle.domains.specs.Classify.{importDomain}
 use Rattle.differences.specs.declared.Change.{Change}
 use Rattle.differences.specs.declared.Change.the-variants.{Removed, Added}
 use Rattle.differences.specs.View.{View, exportAt, needAt, viewOf}

@@ -6,7 +6,7 @@ use Rattle.table.specs.Table.{cellOf}
 use Rattle.sorting.specs.Sort.{keep, upFrom}
 use Rattle.sorting.specs.Keys.{nameAt}
 use Rattle.imports.specs.Queries.{kindIs}
-use Rattle.policy.specs.Classify.{importDomain}
+use Rattle.domains.specs.Classify.{importDomain}
 
 pub record Export : Type 0 where
   pub name : List ℕ

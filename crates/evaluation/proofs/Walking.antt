@@ -14,10 +14,10 @@ use lib.Seq.{take-suc, take-all, getD-take, length-take-le}
 use Rattle.refusal.specs.Pick.{pick, both}
 use Rattle.refusal.specs.Said.{Said, accepted, refused, follow}
 use Rattle.table.specs.Table.{capacityOf}
-use Rattle.policy.specs.Evaluate.{firstPast, domainsTest, evaluated, outcome, outcomeBy, sevenOf, verdictFor, EvaluatedAs}
+use Rattle.verdicts.specs.Evaluate.{firstPast, domainsTest, evaluated, outcome, outcomeBy, sevenOf, verdictFor, EvaluatedAs}
 use Rattle.policy.specs.declared.Policy.{Policy}
-use Rattle.policy.specs.declared.eval.Evaluation.{Evaluation}
-use Rattle.policy.proofs.EvalLaws.{counts as tallied, counts-none, counts-next, counts-most}
+use Rattle.verdicts.specs.declared.Evaluation.{Evaluation}
+use Rattle.verdicts.proofs.EvalLaws.{counts as tallied, counts-none, counts-next, counts-most}
 use Rattle.evaluation.specs.Evaluate.{numbers}
 use Rattle.evaluation.specs.Tally.{startOf, counts, counted, stepOf, finishOf, Few}
 use Rattle.evaluation.specs.declared.Requirement.{Requirement}

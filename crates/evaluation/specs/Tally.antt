@@ -7,7 +7,7 @@ use lib.ListN.{getD, set, replicate}
 use Rattle.refusal.specs.Pick.{pick, both}
 use Rattle.refusal.specs.Said.{Said, accepted, refused}
 use Rattle.table.specs.Table.{capacityOf}
-use Rattle.policy.specs.Evaluate.{Outcome, outcomeBy, sevenOf, verdictFor}
+use Rattle.verdicts.specs.Evaluate.{Outcome, outcomeBy, sevenOf, verdictFor}
 use Rattle.policy.specs.declared.Policy.{Policy}
 use Rattle.evaluation.specs.declared.Tally.{Tally}
 

@@ -1,11 +1,11 @@
 // Evaluation over one lent list of requirement records: a thin function that walks the list, over functions on values.
 use policy::Policy;
-use policy::eval::Evaluation;
-use policy::eval::judge;
-use policy::eval::unjudged;
 use refusal::Refusal;
+use verdicts::Evaluation;
+use verdicts::judge;
+use verdicts::unjudged;
 ghost use mathlib.Core.Path.{_≡_};
-ghost use Rattle.policy.specs.Evaluate.{evaluated, EvaluatedAs};
+ghost use Rattle.verdicts.specs.Evaluate.{evaluated, EvaluatedAs};
 ghost use Rattle.evaluation.specs.Evaluate.{numbers};
 ghost use Rattle.evaluation.specs.Tally.{startOf, stepOf, finishOf, Few};
 

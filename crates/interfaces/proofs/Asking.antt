@@ -22,7 +22,7 @@ use Rattle.sorting.specs.Keys.{byName, sortedRows, saidSorted, Sorts}
 use Rattle.sorting.specs.declared.Keys.{Keys}
 use Rattle.sorting.specs.declared.Sorted.{Sorted}
 use Rattle.sorting.specs.declared.Sorted.the-variants.{Rows, Full}
-use Rattle.policy.specs.Classify.{pathDomain}
+use Rattle.domains.specs.Classify.{pathDomain}
 use Rattle.references.specs.Queries.{manifestTested, pathRows}
 use Rattle.requirements.specs.Requirements.{roomOf}
 use Rattle.requirements.specs.Filling.{Column, Fills}

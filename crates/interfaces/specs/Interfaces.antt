@@ -6,7 +6,7 @@ use Rattle.refusal.specs.Said.{Said, follow}
 use Rattle.table.specs.Table.{cellOf}
 use Rattle.table.specs.Listing.{fitted}
 use Rattle.sorting.specs.Keys.{nameAt}
-use Rattle.policy.specs.Classify.{pathDomain}
+use Rattle.domains.specs.Classify.{pathDomain}
 use Rattle.references.specs.Queries.{manifestTested, pathRows}
 
 -- of row i of table 6, by its path

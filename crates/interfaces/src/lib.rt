@@ -1,6 +1,6 @@
 // The domains that a manifest asks for: table 7, lent as two columns.
-use policy::classify::classify_path;
-use policy::domain::domain_number;
+use domains::classify::classify_path;
+use domains::domain_number;
 use refusal::Answer;
 use refusal::Count;
 use refusal::Refusal;

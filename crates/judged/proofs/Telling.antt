@@ -3,10 +3,10 @@ use Prim.Native.Nat.{ℕ, zero, suc}
 use mathlib.Core.Path.{_≡_, refl, subst}
 use mathlib.Core.List.{List}
 use Rattle.refusal.specs.Said.{saidAnswer}
-use Rattle.policy.specs.Evaluate.{evaluated, compliant, EvaluatedAs}
+use Rattle.verdicts.specs.Evaluate.{evaluated, compliant, EvaluatedAs}
 use Rattle.policy.specs.declared.Policy.{Policy}
 use Rattle.policy.specs.declared.Stance.the-variants.{Deny}
-use Rattle.policy.specs.declared.eval.Evaluation.{Evaluation}
+use Rattle.verdicts.specs.declared.Evaluation.{Evaluation}
 use Rattle.capi.specs.Policies.{numberIn, placeIn}
 use Rattle.capi.specs.Check.{judgedAs, evaluationTold}
 use Rattle.capi.proofs.Telling.{evaluation}

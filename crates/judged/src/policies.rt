@@ -5,17 +5,17 @@ use capi::policies::TokenTold;
 use capi::policies::WrittenTold;
 use capi::policies::token_for;
 use capi::policies::written_of;
+use domains::classify::classify_import;
+use domains::classify::classify_path;
+use domains::domain_number;
 use policy::Policy;
 use policy::Slot;
 use policy::Stance;
-use policy::classify::classify_import;
-use policy::classify::classify_path;
-use policy::domain::domain_number;
 ghost use mathlib.Core.Path.{_≡_};
 ghost use Prim.Native.Nat.{_≤_};
 ghost use lib.ListN.{length};
-ghost use Rattle.policy.specs.Classify.{importDomain, pathDomain};
-ghost use Rattle.policy.specs.Evaluate.{evaluated};
+ghost use Rattle.domains.specs.Classify.{importDomain, pathDomain};
+ghost use Rattle.verdicts.specs.Evaluate.{evaluated};
 ghost use Rattle.rewriting.specs.Writer.{written};
 ghost use Rattle.capi.specs.Policies.{tokenTold, tokenAsked, WriteTells};
 ghost use Rattle.capi.specs.Check.{evaluationTold};
@@ -98,7 +98,7 @@ pub extern "C" fn judged_evaluate(domains: &[usize], n: usize, cells: &[usize]) 
     ensures { λ r. ⌜ r ≡ evaluationTold (evaluated (now (domains .entry)) n (policyIn (now (cells .entry)))) ⌝ }
 {
     let p = policy_of(cells);
-    judged_of(policy::eval::evaluate_domains(domains, n, p))
+    judged_of(verdicts::evaluate_domains(domains, n, p))
 }
 
 #[no_mangle]

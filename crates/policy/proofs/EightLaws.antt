@@ -13,11 +13,11 @@ use Rattle.refusal.proofs.Following.{never, followed}
 use Rattle.refusal.specs.declared.Answer.{Answer}
 use Rattle.refusal.specs.declared.Refusal.{Refusal}
 use Rattle.text.specs.Utf8.{upTo}
-use Rattle.policy.specs.Piece.{first}
+use Rattle.pieces.specs.Piece.{first}
 use Rattle.policy.specs.declared.Slot.{Slot}
 use Rattle.policy.specs.Eight.{noSlot, firstBad, FitsAll, slotOf, eight, rangesTest, policyTest}
 use Rattle.policy.specs.declared.Policy.{Policy}
-use Rattle.policy.specs.Whole.{wholeText}
+use Rattle.pieces.specs.Whole.{wholeText}
 
 -- ---- the first range that leaves n bytes
 module _ (n : ℕ) (xs : List Slot) (i : ℕ) where

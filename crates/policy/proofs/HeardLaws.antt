@@ -11,22 +11,23 @@ use borrow.Author.Tests.{eq-eqb, ne-eqb, lt-ltb, le-ltb}
 use Rattle.refusal.specs.Pick.{pick}
 use Rattle.text.specs.Find.{indexOf, begins, same}
 use Rattle.text.proofs.FindLaws.{index-le}
-use Rattle.policy.specs.Domain.{Perhaps, nothing, just, domainOf}
-use Rattle.policy.specs.Piece.{Piece, first, beyond, until, past, trim, closed, bare, quotes, unquoted}
+use Rattle.domains.specs.Domain.{Perhaps, nothing, just, domainOf}
+use Rattle.pieces.specs.Piece.{Piece, first, beyond, trim, shorn, bytesOf, piece, TrimTo}
+use Rattle.policy.specs.Piece.{until, past, closed, bare, quotes}
 use Rattle.policy.specs.Directive.{policyW, defaultW, allowW, denyW, allow, deny, blank, called, defaulted, plainBy, listedBy}
 use Rattle.policy.specs.Directive.{ruled, worded, spoken, core, directive}
-use Rattle.policy.specs.Heard.{bytesOf, piece, ranged, TrimTo}
-use Rattle.policy.proofs.Pieces.{unquoted-le, begins-le, piece-long, first-piece, beyond-piece}
+use Rattle.policy.specs.Heard.{ranged}
+use Rattle.pieces.proofs.Pieces.{shorn-le, begins-le, piece-long, first-piece, beyond-piece}
 use Rattle.policy.specs.declared.reader.Heard.the-variants as h
 
 module _ (s : List ℕ) (a e : ℕ) where
   pub trim-is-bytes : (f g : ℕ) → TrimTo s a e f g → trim (piece s a e) .bytes ≡ bytesOf s f g
   trim-is-bytes f g t = ap (λ (p : Piece). p .bytes) (t .same)
 
-  closed-called : (p : Piece) → ranged (called (closed p)) ≡ h.Called (p .at) (unquoted (p .bytes))
-  closed-called p = rw (length-take-le (unquoted (p .bytes)) (p .bytes) (unquoted-le (p .bytes)))
+  closed-called : (p : Piece) → ranged (called (closed p)) ≡ h.Called (p .at) (shorn 34 (p .bytes))
+  closed-called p = rw (length-take-le (shorn 34 (p .bytes)) (p .bytes) (shorn-le 34 (p .bytes)))
 
-  pub called-is : (f g m n : ℕ) → TrimTo s a e f g → m ≡ quotes (bytesOf s f g) → n ≡ unquoted (bytesOf s (f + m) g)
+  pub called-is : (f g m n : ℕ) → TrimTo s a e f g → m ≡ quotes (bytesOf s f g) → n ≡ shorn 34 (bytesOf s (f + m) g)
       → h.Called (f + m) n ≡ ranged (called (bare (trim (piece s a e))))
   unfolding bare
   called-is f g m n t p q =

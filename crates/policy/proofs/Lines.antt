@@ -7,7 +7,8 @@ use native.Mathlib.Nat.{add-zero, suc-add, add-suc, le-of-suc-le-suc, not-suc-le
 use lib.ListN.{length, take, drop, length-drop}
 use Rattle.text.specs.Lines.{lines, lineLen, lineStep}
 use Rattle.text.proofs.LineLaws.{lines-next as lines-first, line-bounds, Bounds}
-use Rattle.policy.specs.Piece.{Piece, linesFrom, linesOf}
+use Rattle.pieces.specs.Piece.{Piece}
+use Rattle.policy.specs.Piece.{linesFrom, linesOf}
 
 -- ---- the line at the front
 lines-skip : (at k : ℕ) (s : List ℕ) → k ≤ length s → linesFrom at k s ≡ linesFrom (at + k) 0 (drop k s)

@@ -16,18 +16,19 @@ use Rattle.text.specs.Lines.{lineLen, lineStep}
 use Rattle.text.proofs.Laws.{left-none}
 use Rattle.policy.specs.declared.PolicyRead.{PolicyRead}
 use Rattle.policy.specs.Reader.{ReadAs, run, readWith, obey, zeroPolicy, readPolicy}
-use Rattle.policy.specs.Domain.{Perhaps, nothing, just, domainOf}
-use Rattle.policy.specs.Piece.{Piece, beyond, until, past, trim, bare, linesFrom, linesOf}
+use Rattle.domains.specs.Domain.{Perhaps, nothing, just, domainOf}
+use Rattle.pieces.specs.Piece.{Piece, beyond, trim, piece}
+use Rattle.policy.specs.Piece.{until, past, bare, linesFrom, linesOf}
 use Rattle.policy.specs.Directive.{policyW, defaultW, allowW, denyW, allow, deny, Directive, blank, wrong, called, preset, plain}
 use Rattle.policy.specs.Directive.{listed, defaulted, plainBy, listedBy, ruled, worded, spoken, core, directive, fault}
-use Rattle.policy.specs.Whole.{wholeText}
-use Rattle.policy.specs.Heard.{piece, ranged, faultOf, obeyed, Small}
+use Rattle.pieces.specs.Whole.{wholeText}
+use Rattle.policy.specs.Heard.{ranged, faultOf, obeyed, Small}
 use Rattle.policy.specs.declared.reader.Heard.{Heard}
 use Rattle.policy.specs.declared.Policy.{Policy}
-use Rattle.policy.proofs.DomainLaws.{domain-small, no, yes}
+use Rattle.domains.proofs.DomainLaws.{domain-small, no, yes}
 use Rattle.policy.proofs.Lines.{lines-next}
 use Rattle.policy.specs.declared.reader.Heard.the-variants as h
-use Rattle.policy.proofs.DomainLaws as domain-laws
+use Rattle.domains.proofs.DomainLaws as domain-laws
 
 pub fault-ranged : (d : Directive) → faultOf (ranged d) ≡ fault d
 unfolding fault

@@ -17,17 +17,18 @@ use Rattle.text.specs.Trim.{startLen, endLen, trimStart, trimEnd, trimOf}
 use Rattle.text.specs.Lines.{lineLen, lineStep}
 use Rattle.text.proofs.CharLaws.{start-long}
 use Rattle.text.proofs.LineLaws.{line-bounds}
-use Rattle.policy.specs.Domain.{Perhaps, nothing, just, domainOf}
-use Rattle.policy.specs.Piece.{fore, Piece, first, beyond, until, past, trim, bare, quotes, unquoted, linesFrom, linesOf}
+use Rattle.domains.specs.Domain.{Perhaps, nothing, just, domainOf}
+use Rattle.pieces.specs.Piece.{fore, Piece, first, beyond, trim, shorn}
+use Rattle.policy.specs.Piece.{until, past, bare, quotes, linesFrom, linesOf}
 use Rattle.policy.specs.Directive.{policyW, defaultW, allowW, denyW, allow, deny, Directive, blank, wrong, called, preset, plain}
 use Rattle.policy.specs.Directive.{listed, defaulted, plainBy, listedBy, ruled, worded, spoken, core, directive, fault}
 use Rattle.policy.specs.Reader.{run, readWith, slot, stanceOf, zeroPolicy, obey, readPolicy}
-use Rattle.policy.specs.View.{RuleView, ruling, View, split, commas, full, tokens, noName, firstView, heed, meaning, range}
-use Rattle.policy.specs.View.{ruleOf}
+use Rattle.policy.specs.View.{RuleView, ruling, View, split, commas, full, tokens, noName, firstView, heed, meaning, range, ruleOf}
 use Rattle.policy.specs.declared.Slot.{Slot}
 use Rattle.policy.specs.declared.Policy.{Policy}
-use Rattle.policy.specs.Whole.{wholeText}
-use Rattle.policy.proofs.Pieces.{quotes-le, begins-le}
+use Rattle.pieces.specs.Whole.{wholeText}
+use Rattle.policy.proofs.Quotes.{quotes-le}
+use Rattle.pieces.proofs.Pieces.{begins-le}
 use Rattle.policy.proofs.Lines.{step-less, EachPiece, none, more, lines-next}
 
 -- what a policy says, over its own list of rules
@@ -78,7 +79,7 @@ part-bare : (s : List ℕ) (p : Piece) → PartOf s p → PartOf s (bare p)
 unfolding bare
 part-bare s p q =
     let b = beyond (quotes (p .bytes)) p in
-    part-first s (unquoted (b .bytes)) b (part-beyond s (quotes (p .bytes)) p (quotes-le (p .bytes)) q)
+    part-first s (shorn 34 (b .bytes)) b (part-beyond s (quotes (p .bytes)) p (quotes-le (p .bytes)) q)
 
 -- ---- a directive's pieces
 pub data Within (s : List ℕ) : Directive → Type 0 where

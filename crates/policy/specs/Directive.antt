@@ -6,8 +6,9 @@ use lib.Dec.{eqb, ltb}
 use lib.ListN.{length}
 use Rattle.refusal.specs.Pick.{pick}
 use Rattle.text.specs.Find.{indexOf, begins, same}
-use Rattle.policy.specs.Domain.{Perhaps, nothing, just, domainOf}
-use Rattle.policy.specs.Piece.{Piece, beyond, until, past, trim, bare}
+use Rattle.domains.specs.Domain.{Perhaps, nothing, just, domainOf}
+use Rattle.pieces.specs.Piece.{Piece, beyond, trim}
+use Rattle.policy.specs.Piece.{until, past, bare}
 
 -- the directive words, each with its one space, and the two words for a default
 abbrev pub policyW : List ℕ

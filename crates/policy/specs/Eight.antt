@@ -6,7 +6,7 @@ use lib.Dec.{leb, ltb}
 use lib.ListN.{getD, length}
 use Rattle.refusal.specs.Pick.{pick}
 use Rattle.refusal.specs.Said.{Said, accepted, refused, follow}
-use Rattle.policy.specs.Whole.{wholeText}
+use Rattle.pieces.specs.Whole.{wholeText}
 use Rattle.policy.specs.Reader.{slot}
 use Rattle.policy.specs.declared.Stance.the-variants.{None}
 use Rattle.policy.specs.declared.Slot.{Slot}

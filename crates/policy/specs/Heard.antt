@@ -1,30 +1,12 @@
 -- For the code: what a line says, by ranges of the text; a directive without its bytes. Assumes nothing.
 use mathlib.Core.Bool.{true}
-use mathlib.Core.Path.{_≡_}
-use mathlib.Core.List.{List}
-use Prim.Native.Nat.{ℕ, _-_, _≤_, _<_}
-use lib.ListN.{length, take, drop}
-use Rattle.policy.specs.Piece.{Piece, trim}
+use Prim.Native.Nat.{ℕ, _≤_, _<_}
+use lib.ListN.{length}
 use Rattle.policy.specs.Directive.{Directive, blank, wrong, called, preset, plain, listed}
 use Rattle.policy.specs.Reader.{slot, stanceOf, withRule}
 use Rattle.policy.specs.declared.reader.Heard.{Heard}
 use Rattle.policy.specs.declared.reader.Heard.the-variants as h
 use Rattle.policy.specs.declared.Policy.{Policy}
-
--- the bytes of s from a to e
-abbrev pub bytesOf : List ℕ → ℕ → ℕ → List ℕ
-bytesOf s a e = take (e - a) (drop a s)
-
--- with their place
-abbrev pub piece : List ℕ → ℕ → ℕ → Piece
-piece s a e = record { at = a; bytes = bytesOf s a e }
-
--- the part from a to e, trimmed, is that from f to g
-pub record TrimTo (s : List ℕ) (a e f g : ℕ) : Type 0 where
-  pub low : a ≤ f
-  pub mid : f ≤ g
-  pub high : g ≤ e
-  pub same : trim (piece s a e) ≡ piece s f g
 
 abbrev pub ranged : Directive → Heard
 ranged blank = h.Blank

@@ -5,8 +5,9 @@ use mathlib.Core.List.{List, [], _∷_}
 use Prim.Native.Nat.{ℕ, zero, suc, _+_}
 use lib.ListN.{length, set, replicate}
 use Rattle.refusal.specs.Said.{Said, accepted, refused, follow, saidAnswer}
-use Rattle.policy.specs.Whole.{wholeText, verdictOf}
-use Rattle.policy.specs.Piece.{Piece, linesOf}
+use Rattle.pieces.specs.Whole.{wholeText, verdictOf}
+use Rattle.pieces.specs.Piece.{Piece}
+use Rattle.policy.specs.Piece.{linesOf}
 use Rattle.policy.specs.Directive.{Directive, blank, wrong, called, preset, plain, listed, directive, fault}
 use Rattle.policy.specs.declared.Stance.{Stance}
 use Rattle.policy.specs.declared.Stance.the-variants.{None, Allow, Deny}

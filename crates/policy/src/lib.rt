@@ -1,10 +1,6 @@
-// Domains, policies and verdicts: the original's policy.rs.
-pub mod classify;
-pub mod domain;
-pub mod eval;
+// Policies and their reader: of the original's policy.rs.
 pub mod ranges;
 mod reader;
-pub mod whole;
 
 use crate::reader::Heard;
 use refusal::Answer;
@@ -161,7 +157,7 @@ fn read_lines(s: &[u8]) -> PolicyRead
 pub fn read_policy(s: &[u8]) -> PolicyRead
     ensures { λ r. ⌜ ReadAs (readPolicy (now (s .entry))) r ⌝ }
 {
-    match whole::test_text(s) {
+    match pieces::test_text(s) {
         Answer::Accepted => read_lines(s),
         Answer::Refused(why) => turned_down(why),
     }

@@ -1,6 +1,6 @@
 // A policy handed in beside its text: its ranges may be anything.
 use crate::Policy;
-use crate::whole::test_text;
+use pieces::test_text;
 use refusal::Answer;
 use refusal::Refusal;
 ghost use mathlib.Core.Path.{_≡_};

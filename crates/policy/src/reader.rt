@@ -1,13 +1,14 @@
 // A line of a policy's text: what it says, by ranges of the text.
-use crate::domain;
-use crate::domain::DomainFound;
+use domains::DomainFound;
+use pieces::shorn_of;
 ghost use mathlib.Core.Path.{_≡_};
 ghost use Prim.Native.Nat.{_≤_};
 ghost use lib.ListN.{length};
-ghost use Rattle.policy.specs.Piece.{quotes, unquoted, trim, bare};
+ghost use Rattle.policy.specs.Piece.{quotes, bare};
+ghost use Rattle.pieces.specs.Piece.{trim, piece, TrimTo};
 ghost use Rattle.policy.specs.Directive.{called, defaulted, ruled, worded, directive};
-ghost use Rattle.policy.specs.Heard.{piece, ranged, faultOf, TrimTo};
-ghost use Rattle.policy.specs.Domain.{found, domainOf};
+ghost use Rattle.policy.specs.Heard.{ranged, faultOf};
+ghost use Rattle.domains.specs.Domain.{found, domainOf};
 
 // Nothing; a fault, by its number; the range of a name; whether the default is to allow; a rule, whether it allows, its domain's
 // number, and the range of its list.
@@ -40,20 +41,6 @@ fn quotes_of(s: &[u8]) -> usize
     i
 }
 
-// How many bytes stay when the quotes at the end go.
-fn unquoted_of(s: &[u8]) -> usize
-    ensures { λ r. ⌜ r ≡ unquoted (now (s .entry)) ⌝ }
-{
-    let mut n = s.len();
-    while 0 < n {
-        if s[n - 1] != b'"' {
-            return n;
-        }
-        n -= 1;
-    }
-    0
-}
-
 // The part from a to e, trimmed.
 fn trimmed_at(s: &[u8], a: usize, e: usize) -> Span
     requires { ⌜ (a ≤ e) × (e ≤ length (now s)) ⌝ }
@@ -75,7 +62,7 @@ fn called_at(s: &[u8], a: usize, e: usize) -> Heard
     let f = t.from;
     let g = t.past;
     let q = f + quotes_of(&s[f..g]);
-    let n = unquoted_of(&s[q..g]);
+    let n = shorn_of(&s[q..g], b'"');
     Heard::Called(q, n)
 }
 
@@ -103,7 +90,7 @@ fn domain_at(s: &[u8], a: usize, e: usize) -> DomainFound
     let t = trimmed_at(s, a, e);
     let f = t.from;
     let g = t.past;
-    domain::from_slug(&s[f..g])
+    domains::from_slug(&s[f..g])
 }
 
 fn ruled_at(s: &[u8], a: usize, e: usize, t: bool) -> Heard
@@ -115,13 +102,13 @@ fn ruled_at(s: &[u8], a: usize, e: usize, t: bool) -> Heard
         let DomainFound::Domain(d) = domain_at(s, a, i) else {
             return Heard::Wrong(8);
         };
-        let n = domain::domain_number(d);
+        let n = domains::domain_number(d);
         return Heard::Listed(t, n, i + 1, e - (i + 1));
     }
     let DomainFound::Domain(d) = domain_at(s, a, e) else {
         return Heard::Wrong(8);
     };
-    let n = domain::domain_number(d);
+    let n = domains::domain_number(d);
     Heard::Plain(t, n)
 }
 

@@ -30,17 +30,15 @@ use Rattle.wasm.specs.Module.{Sizes, Parsed, noTables, magic, headerAt, content
 use Rattle.wasm.specs.Shapes.{func}
 use Rattle.sorting.specs.Keys.{nameAt as nameIn}
 use Rattle.imports.specs.Queries.{asked, importsTested, importBad, importFits, kindIs}
-use Rattle.policy.specs.Domain.{words, wordIn, domainOf}
-use Rattle.policy.specs.Classify.{passes, judged, preview, heads, preview1, unstable, headOf, pathDomain, importDomain}
-use Rattle.policy.specs.Whole.{wholeText}
-use Rattle.policy.specs.Piece.{trim, linesFrom, linesOf}
+use Rattle.domains.specs.Domain.{words, wordIn, domainOf}
+use Rattle.domains.specs.Classify.{passes, judged, preview, heads, preview1, unstable, headOf, pathDomain, importDomain}
+use Rattle.pieces.specs.Whole.{wholeText}
+use Rattle.pieces.specs.Piece.{trim, shorn}
+use Rattle.policy.specs.Piece.{linesFrom, linesOf}
 use Rattle.policy.specs.Directive.{defaultW, allow, defaulted, worded, spoken, core, directive, fault}
 use Rattle.policy.specs.Reader.{run, readWith, zeroPolicy, obey, readPolicy}
-use Rattle.policy.specs.Evaluate.{effectiveOf}
+use Rattle.verdicts.specs.Evaluate.{effectiveOf}
 use Rattle.requirements.specs.Requirements.{rowDomain, moduleRows}
-use Rattle.pieces.specs.Whole.{wholeText as wholeManifest}
-use Rattle.pieces.specs.Piece.{shorn}
-use Rattle.pieces.specs.Piece.{trim as trimPiece}
 use Rattle.wit.specs.Line.{unbraced}
 use Rattle.wit.specs.Line.{worded as wordedLine, core as coreLine, spoken as spokenLine, directive as directiveLine}
 use Rattle.wit.specs.Manifest.{State, sized, start, closeAt, openAt, obeyAt, lineAt, linesAt, manifestAt}
@@ -169,7 +167,7 @@ unfolding ulebAt u32At slebAt told narrowed onward uN sN twos grown spent byteAt
     importDomain pathDomain headOf judged passes preview heads seek begins indexOf
     readPolicy readWith wholeText run zeroPolicy obey linesOf linesFrom lineLen lineStep crBefore directive core spoken worded defaulted fault
     trim trimStart trimEnd startLen endLen chars charsFrom more moreBy codeOf codeBy isWhite whites inSome effectiveOf
-    indexOf2 wholeManifest trimPiece shorn unbraced wordedLine coreLine spokenLine directiveLine start closeAt openAt obeyAt lineAt linesAt
+    indexOf2 shorn unbraced wordedLine coreLine spokenLine directiveLine start closeAt openAt obeyAt lineAt linesAt
     manifestAt
 examples-hold =
     (refl, (refl, (refl, (refl, (refl, (refl, (refl, (refl, (refl, (refl, (refl, (refl, (refl, (refl, (refl, (refl, (refl, (refl, tt))))))))))))))))))

@@ -1,5 +1,5 @@
 -- No two answers satisfy the promise of the whole check. Assumes nothing.
-use Rattle.policy.proofs.Known.{evaluation-known}
+use Rattle.verdicts.proofs.Known.{evaluation-known}
 use Rattle.promises.specs.Decides.{Decides}
 use Rattle.checking.proofs.check_module.Kinds as check-module-kinds
 use Rattle.checking.proofs.check_module.Reads as check-module

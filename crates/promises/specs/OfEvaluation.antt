@@ -16,12 +16,12 @@ use borrow.Fn.Kinds.{Dens, resT, endedOf}
 use borrow.Fn.World.{ArgsD, ResD}
 use denote.Ref.{now}
 use denote.Triple.Clauses.{AtExit}
-use Rattle.policy.specs.Evaluate.{evaluated, EvaluatedAs}
+use Rattle.verdicts.specs.Evaluate.{evaluated, EvaluatedAs}
 use Rattle.policy.specs.declared.Policy.{Policy}
-use Rattle.policy.specs.declared.eval.Evaluation.{Evaluation}
-use Rattle.policy.proofs.Known.{evaluation-known}
-use Rattle.policy.proofs.eval.evaluate_domains.Kinds as evaluate-domains-kinds
-use Rattle.policy.proofs.eval.evaluate_domains.Reads as evaluate-domains
+use Rattle.verdicts.specs.declared.Evaluation.{Evaluation}
+use Rattle.verdicts.proofs.Known.{evaluation-known}
+use Rattle.verdicts.proofs.evaluate_domains.Kinds as evaluate-domains-kinds
+use Rattle.verdicts.proofs.evaluate_domains.Reads as evaluate-domains
 use Rattle.evaluation.specs.Evaluate.{numbers}
 use Rattle.evaluation.proofs.evaluate as evaluate
 

@@ -5,42 +5,42 @@ use borrow.Fn.Kinds.{Dens, resT, endedOf}
 use denote.Triple.Clauses.{AtExit}
 use denote.Ref.{now}
 use Rattle.refusal.proofs.Known.{answer-known}
-use Rattle.policy.proofs.DomainLaws.{same-domain}
-use Rattle.policy.proofs.Known.{found-known, read-known, evaluation-known}
+use Rattle.domains.proofs.DomainLaws.{same-domain}
+use Rattle.domains.proofs.Known.{found-known}
+use Rattle.policy.proofs.Known.{read-known}
+use Rattle.verdicts.proofs.Known.{evaluation-known}
 use Rattle.rewriting.proofs.Known.{one-answer, one-output, token-known}
 use Rattle.promises.specs.Decides.{Decides}
-use Rattle.policy.proofs.domain.domain_number.Kinds as domain-number-kinds
-use Rattle.policy.proofs.domain.domain_number.Reads as domain-number
-use Rattle.policy.proofs.domain.domain_of.Kinds as domain-of-kinds
-use Rattle.policy.proofs.domain.domain_of.Reads as domain-of
-use Rattle.policy.proofs.domain.domain_slug.Kinds as domain-slug-kinds
-use Rattle.policy.proofs.domain.domain_slug.Reads as domain-slug
-use Rattle.policy.proofs.domain.from_slug.Kinds as from-slug-kinds
-use Rattle.policy.proofs.domain.from_slug.Reads as from-slug
-use Rattle.policy.proofs.classify.classify_import.Kinds as classify-import-kinds
-use Rattle.policy.proofs.classify.classify_import.Reads as classify-import
-use Rattle.policy.proofs.classify.classify_path.Kinds as classify-path-kinds
-use Rattle.policy.proofs.classify.classify_path.Reads as classify-path
-use Rattle.policy.proofs.whole.test_text.Kinds as test-text-kinds
-use Rattle.policy.proofs.whole.test_text.Reads as test-text
+use Rattle.domains.proofs.domain_number.Kinds as domain-number-kinds
+use Rattle.domains.proofs.domain_number.Reads as domain-number
+use Rattle.domains.proofs.domain_of.Kinds as domain-of-kinds
+use Rattle.domains.proofs.domain_of.Reads as domain-of
+use Rattle.domains.proofs.domain_slug.Kinds as domain-slug-kinds
+use Rattle.domains.proofs.domain_slug.Reads as domain-slug
+use Rattle.domains.proofs.from_slug.Kinds as from-slug-kinds
+use Rattle.domains.proofs.from_slug.Reads as from-slug
+use Rattle.domains.proofs.classify.classify_import.Kinds as classify-import-kinds
+use Rattle.domains.proofs.classify.classify_import.Reads as classify-import
+use Rattle.domains.proofs.classify.classify_path.Kinds as classify-path-kinds
+use Rattle.domains.proofs.classify.classify_path.Reads as classify-path
 use Rattle.policy.proofs.ranges.test_policy.Kinds as test-policy-kinds
 use Rattle.policy.proofs.ranges.test_policy.Reads as test-policy
 use Rattle.policy.proofs.default_policy.Kinds as default-policy-kinds
 use Rattle.policy.proofs.default_policy.Reads as default-policy
 use Rattle.policy.proofs.read_policy.Kinds as read-policy-kinds
 use Rattle.policy.proofs.read_policy.Reads as read-policy
-use Rattle.policy.proofs.eval.effective.Kinds as effective-kinds
-use Rattle.policy.proofs.eval.effective.Reads as effective
-use Rattle.policy.proofs.eval.is_violation.Kinds as is-violation-kinds
-use Rattle.policy.proofs.eval.is_violation.Reads as is-violation
-use Rattle.policy.proofs.eval.is_compliant.Kinds as is-compliant-kinds
-use Rattle.policy.proofs.eval.is_compliant.Reads as is-compliant
-use Rattle.policy.proofs.eval.judge.Kinds as judge-kinds
-use Rattle.policy.proofs.eval.judge.Reads as judge
-use Rattle.policy.proofs.eval.unjudged.Kinds as unjudged-kinds
-use Rattle.policy.proofs.eval.unjudged.Reads as unjudged
-use Rattle.policy.proofs.eval.evaluate_domains.Kinds as evaluate-domains-kinds
-use Rattle.policy.proofs.eval.evaluate_domains.Reads as evaluate-domains
+use Rattle.verdicts.proofs.effective.Kinds as effective-kinds
+use Rattle.verdicts.proofs.effective.Reads as effective
+use Rattle.verdicts.proofs.is_violation.Kinds as is-violation-kinds
+use Rattle.verdicts.proofs.is_violation.Reads as is-violation
+use Rattle.verdicts.proofs.is_compliant.Kinds as is-compliant-kinds
+use Rattle.verdicts.proofs.is_compliant.Reads as is-compliant
+use Rattle.verdicts.proofs.judge.Kinds as judge-kinds
+use Rattle.verdicts.proofs.judge.Reads as judge
+use Rattle.verdicts.proofs.unjudged.Kinds as unjudged-kinds
+use Rattle.verdicts.proofs.unjudged.Reads as unjudged
+use Rattle.verdicts.proofs.evaluate_domains.Kinds as evaluate-domains-kinds
+use Rattle.verdicts.proofs.evaluate_domains.Reads as evaluate-domains
 use Rattle.rewriting.proofs.token.next_token.Kinds as next-token-kinds
 use Rattle.rewriting.proofs.token.next_token.Reads as next-token
 use Rattle.rewriting.proofs.write_policy.Kinds as write-policy-kinds
@@ -63,9 +63,6 @@ classify-import-decides κs a x y s t p q = same-domain x y (p ∙ sym q)
 
 pub classify-path-decides : Decides classify-path-kinds.ps classify-path-kinds.r classify-path.Post
 classify-path-decides κs a x y s t p q = same-domain x y (p ∙ sym q)
-
-pub test-text-decides : Decides test-text-kinds.ps test-text-kinds.r test-text.Post
-test-text-decides κs a x y s t p q = answer-known x y (p ∙ sym q)
 
 pub test-policy-decides : Decides test-policy-kinds.ps test-policy-kinds.r test-policy.Post
 test-policy-decides κs a x y s t p q = answer-known x y (p ∙ sym q)

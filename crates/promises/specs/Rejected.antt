@@ -26,22 +26,23 @@ use Rattle.text.specs.Find.{seek, begins, same, indexOf}
 use Rattle.text.specs.Scan.{scan}
 use Rattle.text.specs.Utf8.{upTo, seqLen, after, followIn, covers, table}
 use Rattle.text.specs.Utf8.{follow as follow8}
-use Rattle.policy.specs.Domain.{words, wordIn, domainOf}
-use Rattle.policy.specs.Whole.{wholeText}
-use Rattle.policy.specs.Piece.{trim, linesFrom, linesOf}
+use Rattle.domains.specs.Domain.{words, wordIn, domainOf}
+use Rattle.pieces.specs.Whole.{wholeText}
+use Rattle.pieces.specs.Piece.{trim}
+use Rattle.policy.specs.Piece.{linesFrom, linesOf}
 use Rattle.policy.specs.Directive.{plainBy, ruled, worded, spoken, core, directive, fault}
 use Rattle.policy.specs.Reader.{run, readWith, zeroPolicy, stanceOf, obey, readPolicy, policyOf}
 use Rattle.policy.specs.Eight.{policyTest}
 use Rattle.policy.specs.View.{says}
-use Rattle.policy.specs.Evaluate.{effectiveOf, violates, bits, members, outcome, outcomeOf, noOutcome, domainsTest, evaluated, EvaluatedAs}
+use Rattle.verdicts.specs.Evaluate.{effectiveOf, violates, bits, members, outcome, outcomeOf, noOutcome, domainsTest, evaluated, EvaluatedAs}
 use Rattle.policy.specs.declared.Policy.{Policy}
 use Rattle.policy.specs.declared.PolicyRead.{PolicyRead}
-use Rattle.policy.specs.declared.eval.Evaluation.{Evaluation}
-use Rattle.policy.proofs.MemberLaws.{ones-bits}
+use Rattle.verdicts.specs.declared.Evaluation.{Evaluation}
+use Rattle.verdicts.proofs.MemberLaws.{ones-bits}
 use Rattle.policy.proofs.read_policy.Kinds as read-policy-kinds
 use Rattle.policy.proofs.read_policy.Reads as read-policy
-use Rattle.policy.proofs.eval.evaluate_domains.Kinds as evaluate-domains-kinds
-use Rattle.policy.proofs.eval.evaluate_domains.Reads as evaluate-domains
+use Rattle.verdicts.proofs.evaluate_domains.Kinds as evaluate-domains-kinds
+use Rattle.verdicts.proofs.evaluate_domains.Reads as evaluate-domains
 use Rattle.rewriting.specs.Writer.{nameLine, formLines, unlines, form, roomFor, written, counted, left, Told}
 use Rattle.rewriting.proofs.write_policy.Kinds as write-policy-kinds
 use Rattle.rewriting.proofs.write_policy.Reads as write-policy

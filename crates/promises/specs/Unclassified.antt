@@ -9,15 +9,15 @@ use denote.Ref.{now}
 use lib.ListN.{getD, take}
 use Rattle.refusal.specs.Said.{Said, accepted, refused, follow, saidAnswer}
 use Rattle.refusal.proofs.Following.{never}
-use Rattle.policy.specs.Whole.{verdictOf}
+use Rattle.pieces.specs.Whole.{verdictOf}
 use Rattle.policy.specs.Eight.{slotOf}
-use Rattle.policy.specs.Evaluate.{Outcome, outcome, outcomeOf, evaluated, domainsTest, effectiveOf, noVerdict, EvaluatedAs}
+use Rattle.verdicts.specs.Evaluate.{Outcome, outcome, outcomeOf, evaluated, domainsTest, effectiveOf, noVerdict, EvaluatedAs}
 use Rattle.policy.specs.declared.Policy.{Policy}
 use Rattle.policy.specs.declared.Stance.the-variants.{None}
-use Rattle.policy.specs.declared.eval.Verdict.{Verdict}
-use Rattle.policy.specs.declared.eval.Evaluation.{Evaluation}
-use Rattle.policy.proofs.eval.evaluate_domains.Kinds as evaluate-domains-kinds
-use Rattle.policy.proofs.eval.evaluate_domains.Reads as evaluate-domains
+use Rattle.verdicts.specs.declared.Verdict.{Verdict}
+use Rattle.verdicts.specs.declared.Evaluation.{Evaluation}
+use Rattle.verdicts.proofs.evaluate_domains.Kinds as evaluate-domains-kinds
+use Rattle.verdicts.proofs.evaluate_domains.Reads as evaluate-domains
 
 by-default : (ns : List ℕ) (n : ℕ) (p : Policy) (r : Evaluation) → EvaluatedAs (evaluated ns n p) r → saidAnswer (r .answer) ≡ accepted tt
     → slotOf p 6 .stance ≡ None → getD (r .verdicts) 6 noVerdict .allowed ≡ p .permit

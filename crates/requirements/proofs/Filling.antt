@@ -13,7 +13,7 @@ use Rattle.table.specs.Table.{cells, laid, putRow, capacityOf, cellOf, rangeOf}
 use Rattle.table.specs.Listing.{fitted}
 use Rattle.table.proofs.Laws.{length-laid, length-put-row, put-row-laid}
 use Rattle.sorting.specs.Sort.{keep, upFrom}
-use Rattle.policy.specs.Classify.{importDomain}
+use Rattle.domains.specs.Classify.{importDomain}
 use Rattle.requirements.specs.Requirements.{roomOf, rowDomain, Requires}
 use Rattle.requirements.specs.Filling.{Column, Fills}
 

@@ -9,7 +9,7 @@ use Rattle.table.specs.Listing.{fitted, rowsIn}
 use Rattle.sorting.specs.Sort.{keep, upFrom}
 use Rattle.sorting.specs.Keys.{nameAt}
 use Rattle.imports.specs.Queries.{asked, kindIs}
-use Rattle.policy.specs.Classify.{importDomain}
+use Rattle.domains.specs.Classify.{importDomain}
 
 -- how many requirements two columns of so many cells take
 abbrev pub roomOf : ℕ → ℕ → ℕ

@@ -1,6 +1,6 @@
 // The domains that a module asks for: table 7, lent as two columns.
-use policy::classify::classify_import;
-use policy::domain::domain_number;
+use domains::classify::classify_import;
+use domains::domain_number;
 use refusal::Answer;
 use refusal::Count;
 use refusal::Refusal;

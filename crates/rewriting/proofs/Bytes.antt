@@ -16,8 +16,9 @@ use Rattle.text.proofs.FindLaws.{index-cons}
 use Rattle.text.proofs.Laws.{both-one, both-two}
 use Rattle.text.proofs.SplitLaws.{well, well-one, well-ascii}
 use Rattle.text.proofs.TrimLaws.{trim-well}
-use Rattle.policy.specs.Piece.{quotes, unquoted}
-use Rattle.policy.proofs.Pieces.{unquoted-le}
+use Rattle.policy.specs.Piece.{quotes}
+use Rattle.pieces.specs.Piece.{shorn}
+use Rattle.pieces.proofs.Pieces.{shorn-le}
 
 -- b does not occur
 unfoldable pub lacks : ℕ → List ℕ → Bool
@@ -170,28 +171,28 @@ well-quotes (x ∷ s) e = by (eqb x 34) refl (well-quotes s)
 pub inner-quotes : (s : List ℕ) → Inner s → Inner (drop (quotes s) s)
 inner-quotes s i = inner-drop (quotes s) s (well-quotes s (i .good)) i
 
-unquoted-split : (s : List ℕ) → unquoted s < length s → s ≡ take (unquoted s) s ++ 34 ∷ drop (unquoted s + 1) s
-unfolding unquoted
+unquoted-split : (s : List ℕ) → shorn 34 s < length s → s ≡ take (shorn 34 s) s ++ 34 ∷ drop (shorn 34 s + 1) s
+unfolding shorn
 unquoted-split [] h = absurd (omega arith)
-unquoted-split (x ∷ s) h = by (both (eqb x 34) (eqb (unquoted s) 0)) refl (unquoted-split s) h
+unquoted-split (x ∷ s) h = by (both (eqb x 34) (eqb (shorn 34 s) 0)) refl (unquoted-split s) h
   where
-    by : (t : Bool) → both (eqb x 34) (eqb (unquoted s) 0) ≡ t
-        → (unquoted s < length s → s ≡ take (unquoted s) s ++ 34 ∷ drop (unquoted s + 1) s)
-        → pick t 0 (suc (unquoted s)) < suc (length s)
-        → _≡_ {A = List ℕ} (x ∷ s) (take (pick t 0 (suc (unquoted s))) (x ∷ s) ++ 34 ∷ drop (pick t 0 (suc (unquoted s)) + 1) (x ∷ s))
-    by true q ih h = rw (eqb-true x 34 (both-one (eqb x 34) (eqb (unquoted s) 0) q))
-    by false q ih h = rw (suc-add (unquoted s) 1) (ap (λ (l : List ℕ). x ∷ l) (ih (omega arith)))
+    by : (t : Bool) → both (eqb x 34) (eqb (shorn 34 s) 0) ≡ t
+        → (shorn 34 s < length s → s ≡ take (shorn 34 s) s ++ 34 ∷ drop (shorn 34 s + 1) s)
+        → pick t 0 (suc (shorn 34 s)) < suc (length s)
+        → _≡_ {A = List ℕ} (x ∷ s) (take (pick t 0 (suc (shorn 34 s))) (x ∷ s) ++ 34 ∷ drop (pick t 0 (suc (shorn 34 s)) + 1) (x ∷ s))
+    by true q ih h = rw (eqb-true x 34 (both-one (eqb x 34) (eqb (shorn 34 s) 0) q))
+    by false q ih h = rw (suc-add (shorn 34 s) 1) (ap (λ (l : List ℕ). x ∷ l) (ih (omega arith)))
 
-pub inner-unquoted : (s : List ℕ) → Inner s → Inner (take (unquoted s) s)
-inner-unquoted s i = inner-take (unquoted s) s (by (ltb (unquoted s) (length s)) refl) i
+pub inner-unquoted : (s : List ℕ) → Inner s → Inner (take (shorn 34 s) s)
+inner-unquoted s i = inner-take (shorn 34 s) s (by (ltb (shorn 34 s) (length s)) refl) i
   where
-    by : (t : Bool) → ltb (unquoted s) (length s) ≡ t → well (take (unquoted s) s) ≡ true
+    by : (t : Bool) → ltb (shorn 34 s) (length s) ≡ t → well (take (shorn 34 s) s) ≡ true
     by true q =
-        let p = take (unquoted s) s in
-        let r = drop (unquoted s + 1) s in
+        let p = take (shorn 34 s) s in
+        let r = drop (shorn 34 s + 1) s in
         both-one (well p) (well r) (sym (well-ascii p 34 r (omega arith))
-        ∙ rw (← unquoted-split s (ltb-true (unquoted s) (length s) q)) (i .good))
-    by false q = rw (take-all (unquoted s) s (ltb-false (unquoted s) (length s) q)) (i .good)
+        ∙ rw (← unquoted-split s (ltb-true (shorn 34 s) (length s) q)) (i .good))
+    by false q = rw (take-all (shorn 34 s) s (ltb-false (shorn 34 s) (length s) q)) (i .good)
 
 -- no quote at the front after they went
 quotes-gone : (s : List ℕ) → quotes (drop (quotes s) s) ≡ 0
@@ -213,13 +214,13 @@ quotes-take (suc n) (x ∷ s) e = by (eqb x 34) e
     by true e = absurd (omega arith)
     by false e = refl
 
-unquoted-take : (s : List ℕ) → unquoted (take (unquoted s) s) ≡ unquoted s
-unfolding unquoted
+unquoted-take : (s : List ℕ) → shorn 34 (take (shorn 34 s) s) ≡ shorn 34 s
+unfolding shorn
 unquoted-take [] = refl
-unquoted-take (x ∷ s) = by (both (eqb x 34) (eqb (unquoted s) 0)) refl (unquoted-take s)
+unquoted-take (x ∷ s) = by (both (eqb x 34) (eqb (shorn 34 s) 0)) refl (unquoted-take s)
   where
-    by : (t : Bool) → both (eqb x 34) (eqb (unquoted s) 0) ≡ t → unquoted (take (unquoted s) s) ≡ unquoted s
-        → unquoted (take (pick t 0 (suc (unquoted s))) (x ∷ s)) ≡ pick t 0 (suc (unquoted s))
+    by : (t : Bool) → both (eqb x 34) (eqb (shorn 34 s) 0) ≡ t → shorn 34 (take (shorn 34 s) s) ≡ shorn 34 s
+        → shorn 34 (take (pick t 0 (suc (shorn 34 s))) (x ∷ s)) ≡ pick t 0 (suc (shorn 34 s))
     by true q ih = refl
     by false q ih = rw (ih, q)
 
@@ -227,15 +228,15 @@ unquoted-take (x ∷ s) = by (both (eqb x 34) (eqb (unquoted s) 0)) refl (unquot
 pub record FineName (n : List ℕ) : Type 0 where
   pub inner : Inner n
   pub front : quotes n ≡ 0
-  pub back : unquoted n ≡ length n
+  pub back : shorn 34 n ≡ length n
 
-pub fine-name : (s : List ℕ) → Inner s → FineName (take (unquoted (drop (quotes s) s)) (drop (quotes s) s))
+pub fine-name : (s : List ℕ) → Inner s → FineName (take (shorn 34 (drop (quotes s) s)) (drop (quotes s) s))
 fine-name s i =
     let r = drop (quotes s) s in
     record {
       inner = inner-unquoted r (inner-quotes s i);
-      front = quotes-take (unquoted r) r (quotes-gone s);
-      back = unquoted-take r ∙ sym (length-take-le (unquoted r) r (unquoted-le r));
+      front = quotes-take (shorn 34 r) r (quotes-gone s);
+      back = unquoted-take r ∙ sym (length-take-le (shorn 34 r) r (shorn-le 34 r));
     }
 
 -- a name between quotes
@@ -248,16 +249,16 @@ quotes-before (x ∷ n) e h = by (eqb x 34) e
     by true e = absurd (omega arith)
     by false e = refl
 
-unquoted-after : (n : List ℕ) → unquoted (n ++ 34 ∷ []) ≡ unquoted n
-unfolding unquoted
+unquoted-after : (n : List ℕ) → shorn 34 (n ++ 34 ∷ []) ≡ shorn 34 n
+unfolding shorn
 unquoted-after [] = refl
 unquoted-after (x ∷ n) = rw (unquoted-after n)
 
-pub quoted-name : (n : List ℕ) → FineName n → take (unquoted (drop (quotes (34 ∷ (n ++ 34 ∷ []))) (34 ∷ (n ++ 34 ∷ []))))
+pub quoted-name : (n : List ℕ) → FineName n → take (shorn 34 (drop (quotes (34 ∷ (n ++ 34 ∷ []))) (34 ∷ (n ++ 34 ∷ []))))
     (drop (quotes (34 ∷ (n ++ 34 ∷ []))) (34 ∷ (n ++ 34 ∷ []))) ≡ n
 unfolding quotes
-quoted-name [] f = unfold unquoted in refl
+quoted-name [] f = unfold shorn in refl
 quoted-name (x ∷ n) f =
     let z : quotes (x ∷ (n ++ 34 ∷ [])) ≡ 0 = quotes-before (x ∷ n) (f .front) (omega arith) in
-    let u : unquoted (x ∷ (n ++ 34 ∷ [])) ≡ suc (length n) = unquoted-after (x ∷ n) ∙ f .back in
+    let u : shorn 34 (x ∷ (n ++ 34 ∷ [])) ≡ suc (length n) = unquoted-after (x ∷ n) ∙ f .back in
     rw (z, u) (take-append-seam (x ∷ n) (34 ∷ []))

@@ -14,15 +14,16 @@ use Rattle.text.specs.Find.{indexOf, begins, same}
 use Rattle.text.specs.Utf8.{upTo, seqLen}
 use Rattle.text.specs.Scan.{scan}
 use Rattle.text.proofs.SplitLaws.{well, upto-well}
-use Rattle.policy.specs.Domain.{Perhaps, nothing, just, domainOf}
-use Rattle.policy.specs.Piece.{Piece, first, beyond, until, past, trim, bare, quotes, unquoted, linesOf}
+use Rattle.domains.specs.Domain.{Perhaps, nothing, just, domainOf}
+use Rattle.pieces.specs.Piece.{Piece, first, beyond, trim, shorn}
+use Rattle.policy.specs.Piece.{until, past, bare, quotes, linesOf}
 use Rattle.policy.specs.Directive.{policyW, defaultW, allowW, denyW, allow, deny, Directive, blank, wrong, called, preset, plain}
 use Rattle.policy.specs.Directive.{listed, defaulted, plainBy, listedBy, ruled, worded, spoken, core, directive, fault}
 use Rattle.policy.specs.Reader.{run, readWith}
 use Rattle.policy.specs.View.{RuleView, silent, ruling, View, tokens, noName, firstView, heed, meaning}
-use Rattle.policy.specs.Whole.{wholeText}
-use Rattle.policy.proofs.DomainLaws.{Small, no, yes, domain-small}
-use Rattle.policy.proofs.Pieces.{trim-bytes}
+use Rattle.pieces.specs.Whole.{wholeText}
+use Rattle.domains.proofs.DomainLaws.{Small, no, yes, domain-small}
+use Rattle.pieces.proofs.Pieces.{trim-bytes}
 use Rattle.policy.proofs.Lines.{EachPiece, more}
 use Rattle.rewriting.proofs.Bytes.{lacks, lacks-take, until-lacks, well-until, Inner, inner-trim, inner-past, inner-word, ascii}
 use Rattle.rewriting.proofs.Bytes.{well-word, FineName, fine-name}
@@ -183,7 +184,7 @@ read-parts s w e =
     record { good = whole-well s (f .first); ran = f .then }
 
 first-fine : FineView firstView
-unfolding firstView lacks quotes unquoted ascii
+unfolding firstView lacks quotes shorn ascii
 first-fine =
     let w : well (noName ++ []) ≡ true = well-word noName [] refl ∙ well-none in
     record {

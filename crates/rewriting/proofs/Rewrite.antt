@@ -7,14 +7,15 @@ use lib.ListN.{length, getD, length-set}
 use Rattle.refusal.specs.Said.{Said, accepted, refused}
 use Rattle.refusal.proofs.Following.{followed}
 use Rattle.refusal.specs.Pick.{pick}
-use Rattle.policy.specs.Piece.{Piece, linesOf}
+use Rattle.pieces.specs.Piece.{Piece}
+use Rattle.policy.specs.Piece.{linesOf}
 use Rattle.policy.specs.Directive.{Directive, blank, wrong, called, preset, plain, listed, directive, fault}
 use Rattle.policy.specs.Reader.{run, readWith, slot, stanceOf, zeroPolicy, obey, readPolicy}
 use Rattle.policy.specs.View.{ruleOf, View, range, noName, RuleView, seven, says, meaning}
 use Rattle.policy.specs.Eight.{noSlot}
 use Rattle.policy.specs.declared.Slot.{Slot}
 use Rattle.policy.specs.declared.Policy.{Policy}
-use Rattle.policy.specs.Whole.{wholeText}
+use Rattle.pieces.specs.Whole.{wholeText}
 use Rattle.policy.proofs.Meaning.{view, mapSaid, policy-means}
 use Rattle.rewriting.specs.Writer.{form}
 use Rattle.rewriting.proofs.Trip.{round-trip}

@@ -17,19 +17,18 @@ use Rattle.refusal.specs.declared.Refusal.{Refusal}
 use Rattle.text.specs.Find.{indexOf}
 use Rattle.text.specs.Trim.{trimmed}
 use Rattle.text.proofs.FindLaws.{index-le}
-use Rattle.policy.specs.Piece.{Piece}
-use Rattle.policy.specs.Heard.{bytesOf}
+use Rattle.pieces.specs.Piece.{Piece, bytesOf}
 use Rattle.policy.specs.Eight.{FitsAll, slotOf, policyTest}
-use Rattle.policy.specs.Domain.{numberOf}
-use Rattle.policy.specs.Evaluate.{effectiveOf}
-use Rattle.policy.specs.declared.domain.Domain.{Domain}
-use Rattle.policy.specs.declared.eval.Rule.{Rule}
+use Rattle.domains.specs.Domain.{numberOf}
+use Rattle.verdicts.specs.Evaluate.{effectiveOf}
+use Rattle.domains.specs.declared.Domain.{Domain}
+use Rattle.verdicts.specs.declared.Rule.{Rule}
 use Rattle.policy.specs.declared.Policy.{Policy}
 use Rattle.policy.specs.declared.Stance.{Stance}
 use Rattle.policy.specs.declared.Stance.the-variants.{None, Allow, Deny}
-use Rattle.policy.proofs.DomainLaws.{number-small}
+use Rattle.domains.proofs.DomainLaws.{number-small}
 use Rattle.policy.proofs.EightLaws.{tested}
-use Rattle.policy.proofs.Pieces.{piece-long, first-piece, beyond-piece, trim-is}
+use Rattle.pieces.proofs.Pieces.{piece-long, first-piece, beyond-piece, trim-is}
 use Rattle.rewriting.specs.Token.{Found, nothing, token, part, step, tokenFrom, clampTo, tokenIn, nextToken}
 
 -- ---- at the front of a list

@@ -17,14 +17,15 @@ use Rattle.text.specs.Trim.{startLen, endLen, trimStart, trimEnd, trimOf}
 use Rattle.text.proofs.Laws.{both-and}
 use Rattle.text.proofs.SplitLaws.{well, well-upto, well-one, well-ascii, ascii-one}
 use Rattle.text.proofs.TrimLaws.{trim-whole, end-after}
-use Rattle.policy.specs.Domain.{just, words, slugs, slug, wordIn, domainOf}
-use Rattle.policy.specs.Piece.{Piece, beyond, until, past, trim, bare, linesFrom, linesOf}
+use Rattle.domains.specs.Domain.{just, words, slugs, slug, wordIn, domainOf}
+use Rattle.pieces.specs.Piece.{Piece, beyond, trim}
+use Rattle.policy.specs.Piece.{until, past, bare, linesFrom, linesOf}
 use Rattle.policy.specs.Directive.{policyW, defaultW, allowW, denyW, allow, deny, Directive, called, preset, plain, listed, defaulted}
 use Rattle.policy.specs.Directive.{plainBy, listedBy, ruled, worded, spoken, core, directive, fault}
 use Rattle.policy.specs.Reader.{run, readWith}
 use Rattle.policy.specs.View.{RuleView, silent, ruling, View, tokens, firstView, sets, heed, meaning}
-use Rattle.policy.specs.Whole.{wholeText}
-use Rattle.policy.proofs.Pieces.{trim-bytes}
+use Rattle.pieces.specs.Whole.{wholeText}
+use Rattle.pieces.proofs.Pieces.{trim-bytes}
 use Rattle.rewriting.specs.Writer.{stanceWord, nameLine, defaultLine, joined, listPart, ruleLine, ruleLines, formLines, unlines}
 use Rattle.rewriting.specs.Writer.{form}
 use Rattle.rewriting.proofs.Bytes.{lacks, lacks-append, lacks-cons, index-none, index-at, Inner, ascii, well-word, FineName}

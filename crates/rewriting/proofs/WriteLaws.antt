@@ -23,25 +23,24 @@ use Rattle.refusal.specs.Pick.{pick}
 use Rattle.text.specs.Trim.{trimmed, trimOf}
 use Rattle.text.specs.Find.{indexOf}
 use Rattle.text.proofs.FindLaws.{index-le}
-use Rattle.policy.specs.Domain.{numberOf, found, numbered, nothing, just, slugs, slug}
-use Rattle.policy.specs.Heard.{bytesOf, piece, TrimTo}
+use Rattle.domains.specs.Domain.{numberOf, found, numbered, nothing, just, slugs, slug}
+use Rattle.pieces.specs.Piece.{bytesOf, piece, TrimTo, Piece}
 use Rattle.policy.specs.Eight.{slotOf, policyTest}
 use Rattle.policy.specs.declared.Policy.{Policy}
-use Rattle.policy.specs.declared.domain.Domain.{Domain}
-use Rattle.policy.specs.declared.domain.Domain.the-variants.{Filesystem, Environment, Clock, Network, Random, Stdio, Unknown}
-use Rattle.policy.specs.declared.domain.DomainFound.{DomainFound}
-use Rattle.policy.specs.Piece.{Piece}
+use Rattle.domains.specs.declared.Domain.{Domain}
+use Rattle.domains.specs.declared.Domain.the-variants.{Filesystem, Environment, Clock, Network, Random, Stdio, Unknown}
+use Rattle.domains.specs.declared.DomainFound.{DomainFound}
 use Rattle.policy.specs.View.{Parts, split, commas, full, tokens, RuleView, silent, ruling, ruleOf, View, range, noName, seven, says}
 use Rattle.policy.specs.Directive.{policyW, defaultW}
 use Rattle.policy.specs.declared.Slot.{Slot}
 use Rattle.policy.specs.declared.Stance.the-variants.{None, Allow, Deny}
-use Rattle.policy.proofs.Pieces.{trim-is, trim-bytes, piece-long, first-piece, beyond-piece}
+use Rattle.pieces.proofs.Pieces.{trim-is, trim-bytes, piece-long, first-piece, beyond-piece}
 use Rattle.rewriting.specs.Writer.{left, roomFor, written, Formed, Writes, form, stanceWord, nameLine, defaultLine, formLines}
 use Rattle.rewriting.specs.Writer.{joined, listPart, ruleLine, ruleLines, unlines}
 use Rattle.rewriting.specs.Writing.{laid, Wrote, separator, tokenForm, marked, ruleText}
 use Rattle.rewriting.proofs.Bytes.{index-split, until-lacks}
 use Rattle.rewriting.proofs.Tokens.{split-one, split-at}
-use Rattle.policy.specs.declared.domain.DomainFound.the-variants as df
+use Rattle.domains.specs.declared.DomainFound.the-variants as df
 
 laid-none : (d : List ℕ) (at : ℕ) → laid d at [] ≡ d
 laid-none d at = rw (append-nil (take at d), add-zero at) (take-append-drop at d)

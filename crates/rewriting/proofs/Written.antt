@@ -20,7 +20,8 @@ use Rattle.text.proofs.Laws.{left-none, both-one, both-two}
 use Rattle.text.proofs.FindLaws.{index-le}
 use Rattle.text.proofs.CharLaws.{bytes-of}
 use Rattle.text.proofs.SplitLaws.{well, well-ascii, ascii-one, chars-ascii, bytes-all, allProper}
-use Rattle.policy.specs.Piece.{Piece, linesFrom, linesOf}
+use Rattle.pieces.specs.Piece.{Piece}
+use Rattle.policy.specs.Piece.{linesFrom, linesOf}
 use Rattle.policy.proofs.Lines.{EachPiece, none, more, lines-next, step-less}
 use Rattle.rewriting.proofs.Bytes.{lacks, lacks-take, index-at, until-lacks, well-until, well-past}
 

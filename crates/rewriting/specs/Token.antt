@@ -7,9 +7,9 @@ use Rattle.refusal.specs.Pick.{pick}
 use Rattle.refusal.specs.Said.{Said, accepted, refusedBy, follow}
 use Rattle.text.specs.Find.{indexOf}
 use Rattle.text.specs.Trim.{trimmed}
-use Rattle.policy.specs.Heard.{bytesOf}
+use Rattle.pieces.specs.Piece.{bytesOf}
 use Rattle.policy.specs.Eight.{policyTest}
-use Rattle.policy.specs.Evaluate.{effectiveOf}
+use Rattle.verdicts.specs.Evaluate.{effectiveOf}
 use Rattle.policy.specs.declared.Policy.{Policy}
 use Rattle.rewriting.specs.declared.token.Token.{Token}
 

@@ -8,7 +8,7 @@ use lib.ListN.{length, drop}
 use Rattle.refusal.specs.Pick.{pick}
 use Rattle.refusal.specs.Said.{Said, accepted, refused, follow, saidWritten}
 use Rattle.refusal.specs.declared.Written.{Written}
-use Rattle.policy.specs.Domain.{slug}
+use Rattle.domains.specs.Domain.{slug}
 use Rattle.policy.specs.Directive.{policyW, defaultW, allow, deny}
 use Rattle.policy.specs.View.{RuleView, silent, ruling, View, says}
 use Rattle.policy.specs.Eight.{policyTest}

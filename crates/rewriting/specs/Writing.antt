@@ -4,7 +4,7 @@ use mathlib.Core.Path.{_≡_}
 use mathlib.Core.List.{List, [], _∷_, _++_, map}
 use Prim.Native.Nat.{ℕ, _+_, _≤_}
 use lib.ListN.{length, take, drop}
-use Rattle.policy.specs.Domain.{slug}
+use Rattle.domains.specs.Domain.{slug}
 use Rattle.policy.specs.View.{RuleView, silent, ruling, ruleOf, seven}
 use Rattle.policy.specs.declared.Policy.{Policy}
 use Rattle.rewriting.specs.Writer.{stanceWord, listPart, ruleLine, ruleLines, unlines}

@@ -1,21 +1,21 @@
 // The tokens of a domain's list, one call after another.
+use domains::Domain;
 use policy::Policy;
-use policy::domain::Domain;
-use policy::eval::effective;
 use policy::ranges::test_policy;
 use refusal::Answer;
 use refusal::Part;
 use refusal::Refusal;
 use text::find::find;
 use text::white::trim;
+use verdicts::effective;
 ghost use mathlib.Core.Path.{_≡_};
 ghost use Prim.Native.Nat.{_+_, _≤_};
 ghost use lib.Dec.{ltb};
 ghost use lib.ListN.{length};
 ghost use Rattle.refusal.specs.Pick.{pick};
 ghost use Rattle.refusal.specs.Said.{accepted};
-ghost use Rattle.policy.specs.Domain.{numberOf};
-ghost use Rattle.policy.specs.Heard.{bytesOf};
+ghost use Rattle.domains.specs.Domain.{numberOf};
+ghost use Rattle.pieces.specs.Piece.{bytesOf};
 ghost use Rattle.rewriting.specs.Token.{tokenFrom, clampTo, nextToken, saidToken};
 
 // A token's range, and the offset from which the next one is looked for.

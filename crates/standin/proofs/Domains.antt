@@ -16,8 +16,8 @@ use Rattle.table.proofs.Laws.{length-laid}
 use Rattle.sorting.specs.Sort.{_∈_, keep, upFrom}
 use Rattle.sorting.specs.Keys.{nameAt}
 use Rattle.policy.specs.declared.Policy.{Policy}
-use Rattle.policy.specs.Classify.{passes, Entry, entry, judged, preview, heads, wasi, preview1, unstable, headOf, pathDomain, importDomain}
-use Rattle.policy.specs.Evaluate.{firstPast, domainsTest}
+use Rattle.domains.specs.Classify.{passes, Entry, entry, judged, preview, heads, wasi, preview1, unstable, headOf, pathDomain, importDomain}
+use Rattle.verdicts.specs.Evaluate.{firstPast, domainsTest}
 use Rattle.differences.specs.View.{Need, Row, row, needAt}
 use Rattle.imports.specs.Queries.{asked, kindIs}
 use Rattle.requirements.specs.Requirements.{functionRows, rowDomain, moduleRows}

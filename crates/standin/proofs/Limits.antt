@@ -19,8 +19,8 @@ use Rattle.wasm.specs.Module.{Parsed, moduleAt, moduleOf, countsOf, sectionCell
 use Rattle.conform.proofs.Larger.{limits-decide}
 use Rattle.imports.specs.Queries.{kindIs}
 use Rattle.policy.specs.declared.Policy.{Policy}
-use Rattle.policy.specs.Classify.{importDomain}
-use Rattle.policy.specs.Whole.{wholeText}
+use Rattle.domains.specs.Classify.{importDomain}
+use Rattle.pieces.specs.Whole.{wholeText}
 use Rattle.policy.specs.Reader.{readWith, readPolicy}
 use Rattle.requirements.specs.Requirements.{functionRows, rowDomain, moduleRows}
 use Rattle.checking.specs.Checking.{weighed, heldTo, limits, readThen, checkedOf}

@@ -24,12 +24,13 @@ use Rattle.text.specs.White.{whites, isWhite}
 use Rattle.sorting.specs.Sort.{_∈_, upFrom}
 use Rattle.policy.specs.declared.Policy.{Policy}
 use Rattle.policy.specs.declared.Stance.the-variants.{None, Deny}
-use Rattle.policy.specs.Domain.{words, wordIn, domainOf, slugs, slug}
-use Rattle.policy.specs.Piece.{trim, quotes, unquoted, bare, linesFrom, linesOf}
+use Rattle.domains.specs.Domain.{words, wordIn, domainOf, slugs, slug}
+use Rattle.pieces.specs.Piece.{trim, shorn}
+use Rattle.policy.specs.Piece.{quotes, bare, linesFrom, linesOf}
 use Rattle.policy.specs.Directive.{defaulted, plainBy, listedBy, ruled, worded, spoken, core, directive, fault}
-use Rattle.policy.specs.Whole.{wholeText}
+use Rattle.pieces.specs.Whole.{wholeText}
 use Rattle.policy.specs.Reader.{run, readWith, slot, stanceOf, zeroPolicy, obey, readPolicy}
-use Rattle.policy.specs.Evaluate.{effectiveOf, howMany, verdictFor, violates, one, members, Outcome, outcome, domainsTest, evaluated}
+use Rattle.verdicts.specs.Evaluate.{effectiveOf, howMany, verdictFor, violates, one, members, Outcome, outcome, domainsTest, evaluated}
 use Rattle.standin.specs.Passing.{Allows, Passes, witness}
 
 -- ---- a domain is required where it is needed at all
@@ -122,7 +123,7 @@ allBut d = record { named = false; start = 0; size = 0; permit = true; rules = s
 pub witness-reads : (d : ℕ) → d < 7 → readPolicy (witness d) ≡ accepted (allBut d)
 unfolding witness slug slugs words wordIn domainOf scan seek begins same indexOf table followIn follow8 covers after seqLen upTo
     crBefore lineLen lineStep whites inSome isWhite codeBy codeOf moreBy more charsFrom chars startLen endLen trimStart trimEnd
-    trim quotes unquoted bare linesFrom linesOf defaulted plainBy listedBy ruled worded spoken core directive fault
+    trim quotes shorn bare linesFrom linesOf defaulted plainBy listedBy ruled worded spoken core directive fault
     run readWith stanceOf zeroPolicy obey readPolicy wholeText follow
 witness-reads zero h = refl
 witness-reads (suc zero) h = refl

@@ -16,8 +16,8 @@ use Rattle.refusal.proofs.Following.{never}
 use Rattle.table.specs.Entries.{finished}
 use Rattle.sorting.specs.Sort.{_∈_}
 use Rattle.policy.specs.declared.Policy.{Policy}
-use Rattle.policy.specs.declared.eval.Evaluation.{Evaluation}
-use Rattle.policy.specs.Evaluate.{EvaluatedAs, acceptedAs, compliant}
+use Rattle.verdicts.specs.declared.Evaluation.{Evaluation}
+use Rattle.verdicts.specs.Evaluate.{EvaluatedAs, acceptedAs, compliant}
 use Rattle.imports.specs.Queries.{kindIs}
 use Rattle.differences.specs.View.{Need, needAt}
 use Rattle.differences.specs.Differences.{cmpExport, cmpNeed, exportOrder, needOrder, exportDiff, needDiff}

@@ -11,7 +11,7 @@ use Rattle.wasm.specs.Module.{Sizes, moduleAt, Lent, ModuleIs}
 use Rattle.conform.specs.Claims.{Bytes}
 use Rattle.policy.specs.declared.Policy.{Policy}
 use Rattle.policy.specs.Reader.{readPolicy}
-use Rattle.policy.specs.Evaluate.{Outcome}
+use Rattle.verdicts.specs.Evaluate.{Outcome}
 use Rattle.requirements.specs.Requirements.{rowDomain, moduleRows}
 use Rattle.checking.specs.Checking.{checkedOf}
 use Rattle.differences.specs.View.{View, Need, Export}

@@ -8,8 +8,8 @@ use lib.ListN.{length}
 use Rattle.refusal.specs.Said.{accepted, refused, follow}
 use Rattle.sorting.specs.Sort.{_∈_, Ascending}
 use Rattle.policy.specs.declared.Policy.{Policy}
-use Rattle.policy.specs.declared.eval.Evaluation.{Evaluation}
-use Rattle.policy.specs.Evaluate.{EvaluatedAs, compliant}
+use Rattle.verdicts.specs.declared.Evaluation.{Evaluation}
+use Rattle.verdicts.specs.Evaluate.{EvaluatedAs, compliant}
 use Rattle.differences.specs.declared.Change.the-variants.{Removed, Added}
 use Rattle.differences.specs.View.{Export, Need}
 use Rattle.differences.specs.Differences.{Entry, exportOrder, needOrder, exportDiff, needDiff}

@@ -54,8 +54,8 @@ use denote.Triple.Walked.{says, Stays, stay-none-slice, stay-none, walkOf, Walks
 use Rattle.evaluation.specs.declared.Requirement.{Requirement}
 use Rattle.policy.specs.declared.Policy.{Policy}
 use Rattle.evaluation.specs.declared.Tally.{Tally}
-use Rattle.policy.specs.declared.eval.Evaluation.{Evaluation}
-use Rattle.policy.specs.Evaluate.{evaluated, EvaluatedAs}
+use Rattle.verdicts.specs.declared.Evaluation.{Evaluation}
+use Rattle.verdicts.specs.Evaluate.{evaluated, EvaluatedAs}
 use Rattle.evaluation.specs.Evaluate.{numbers}
 use Rattle.evaluation.specs.Tally.{startOf, stepOf, finishOf, Few}
 use Rattle.evaluation.proofs.Walking.{none, Walked, begun, one, few, over}
@@ -65,8 +65,8 @@ use Rattle.policy.proofs.Policy as P
 use Rattle.policy.proofs.Policy.Laws as P′
 use Rattle.evaluation.proofs.Tally as Y
 use Rattle.evaluation.proofs.Tally.Laws as Y′
-use Rattle.policy.proofs.eval.Evaluation as Ve
-use Rattle.policy.proofs.eval.Evaluation.Laws as Ve′
+use Rattle.verdicts.proofs.Evaluation as Ve
+use Rattle.verdicts.proofs.Evaluation.Laws as Ve′
 use Rattle.evaluation.proofs.start as start
 use Rattle.evaluation.proofs.start.Symbol as start-def
 use Rattle.evaluation.proofs.start.Symbol.{name as #start}

@@ -3,7 +3,7 @@ use Prim.Native.Nat.{_+_, _*_, _-_, _≤_}
 use native.Mathlib.Omega.{arith}
 use lib.ListN.{length}
 use borrow.Author.Needs.{needs}
-use Rattle.policy.specs.Heard.{bytesOf}
+use Rattle.pieces.specs.Piece.{bytesOf}
 use Rattle.rewriting.proofs.WriteLaws.{Going, going-first, going-next, going-last, token-long, comma-near, token-at, whole-list}
 use Rattle.rewriting.proofs.put_list.Statement.{statement}
 use Rattle.rewriting.proofs.put_list.Tie as tie

@@ -1,6 +1,6 @@
 -- `token_for` meets its contract. Assumes nothing.
 use mathlib.Core.Path.{sym, _∙_, ap}
-use Rattle.policy.specs.Domain.{found}
+use Rattle.domains.specs.Domain.{found}
 use Rattle.capi.specs.Policies.{tokenTold}
 use Rattle.capi.proofs.Telling.{no-domain, a-domain}
 use borrow.Author.Needs.{needs}

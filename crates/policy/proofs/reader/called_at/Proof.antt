@@ -1,8 +1,9 @@
 -- `called_at` meets its contract. Assumes nothing.
 use native.Mathlib.Omega.{arith}
 use borrow.Author.Needs.{needs}
-use Rattle.policy.specs.Heard.{bytesOf}
-use Rattle.policy.proofs.Pieces.{piece-long, quotes-le}
+use Rattle.pieces.specs.Piece.{bytesOf}
+use Rattle.pieces.proofs.Pieces.{piece-long}
+use Rattle.policy.proofs.Quotes.{quotes-le}
 use Rattle.policy.proofs.HeardLaws.{called-is}
 use Rattle.policy.proofs.reader.called_at.Statement.{statement}
 use Rattle.policy.proofs.reader.called_at.Tie as tie
@@ -15,16 +16,16 @@ add-q c =
     let g = t .trimmed-at .result .past in
     omega (arith, c .quotes-of .ensures, quotes-le (bytesOf s f g), piece-long s f g (omega arith))
 
-sub-unquoted-of : tie.Need-sub-unquoted-of
-sub-unquoted-of c =
+sub-shorn-of : tie.Need-sub-shorn-of
+sub-shorn-of c =
     let t = c .before .before in
     let s = t .before .before .args .s .now in
     let f = t .trimmed-at .result .from in
     let g = t .trimmed-at .result .past in
     omega (arith, c .quotes-of .ensures, quotes-le (bytesOf s f g), piece-long s f g (omega arith))
 
-part-unquoted-of-start : tie.Need-part-unquoted-of-start
-part-unquoted-of-start c =
+part-shorn-of-start : tie.Need-part-shorn-of-start
+part-shorn-of-start c =
     let t = c .before .before in
     let s = t .before .before .args .s .now in
     let f = t .trimmed-at .result .from in
@@ -37,11 +38,11 @@ returns c =
     let t = q .before .before in
     let a = t .before .before .args in
     called-is (a .s .now) (a .a) (a .e) (t .trimmed-at .result .from) (t .trimmed-at .result .past) (q .quotes-of .result)
-    (c .unquoted-of .result) (t .trimmed-at .ensures) (q .quotes-of .ensures) (c .unquoted-of .ensures)
+    (c .shorn-of .result) (t .trimmed-at .ensures) (q .quotes-of .ensures) (c .shorn-of .ensures)
 
 pub called-at-spec : {M : Type 1} → statement M
 called-at-spec =
     tie.close
     (tie.spec
     (λ c κs. search needs) (λ c. search needs) (λ c. search needs) (λ c. search needs) (λ c κs. search needs) add-q
-    sub-unquoted-of part-unquoted-of-start (λ c. search needs) (λ c κs. search needs) returns)
+    sub-shorn-of part-shorn-of-start (λ c. search needs) (λ c κs. search needs) returns)

@@ -1,7 +1,7 @@
 -- `domain_at` meets its contract. Assumes nothing.
 use mathlib.Core.Path.{sym, ap, _∙_}
 use borrow.Author.Needs.{needs}
-use Rattle.policy.specs.Domain.{domainOf}
+use Rattle.domains.specs.Domain.{domainOf}
 use Rattle.policy.proofs.HeardLaws.{trim-is-bytes}
 use Rattle.policy.proofs.reader.domain_at.Statement.{statement}
 use Rattle.policy.proofs.reader.domain_at.Tie as tie

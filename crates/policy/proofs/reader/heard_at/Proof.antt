@@ -3,8 +3,9 @@ use mathlib.Core.Path.{sym, ap, _∙_}
 use native.Mathlib.Omega.{arith}
 use borrow.Author.Needs.{needs}
 use Rattle.text.proofs.FindLaws.{index-le}
-use Rattle.policy.specs.Heard.{ranged, bytesOf}
-use Rattle.policy.proofs.Pieces.{piece-long}
+use Rattle.policy.specs.Heard.{ranged}
+use Rattle.pieces.specs.Piece.{bytesOf}
+use Rattle.pieces.proofs.Pieces.{piece-long}
 use Rattle.policy.proofs.HeardLaws.{hash-fits, directive-some, directive-none}
 use Rattle.policy.proofs.reader.heard_at.Statement.{statement}
 use Rattle.policy.proofs.reader.heard_at.Tie as tie

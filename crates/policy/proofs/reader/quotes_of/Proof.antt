@@ -4,7 +4,7 @@ use Prim.Native.Nat.{_+_, _-_, _≤_}
 use native.Mathlib.Omega.{arith}
 use lib.ListN.{length, drop}
 use Rattle.policy.specs.Piece.{quotes}
-use Rattle.policy.proofs.Pieces.{quotes-hit, quotes-stop, quotes-end}
+use Rattle.policy.proofs.Quotes.{quotes-hit, quotes-stop, quotes-end}
 use Rattle.policy.proofs.reader.quotes_of.Statement.{statement}
 use Rattle.policy.proofs.reader.quotes_of.Tie as tie
 

@@ -4,10 +4,10 @@ use Prim.Native.Nat.{_+_}
 use native.Mathlib.Omega.{arith}
 use borrow.Author.Needs.{needs}
 use Rattle.text.proofs.FindLaws.{index-le}
-use Rattle.policy.specs.Domain.{found, just, domainOf}
-use Rattle.policy.specs.Piece.{trim}
-use Rattle.policy.specs.Heard.{piece, ranged, bytesOf}
-use Rattle.policy.proofs.Pieces.{piece-long}
+use Rattle.domains.specs.Domain.{found, just, domainOf}
+use Rattle.pieces.specs.Piece.{trim, piece, bytesOf}
+use Rattle.policy.specs.Heard.{ranged}
+use Rattle.pieces.proofs.Pieces.{piece-long}
 use Rattle.policy.proofs.HeardLaws.{ruled-far, ruled-near, listed-wrong, listed-right, plain-wrong, plain-right}
 use Rattle.policy.proofs.reader.ruled_at.Statement.{statement}
 use Rattle.policy.proofs.reader.ruled_at.Tie as tie

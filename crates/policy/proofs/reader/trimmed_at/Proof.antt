@@ -1,7 +1,7 @@
 -- `trimmed_at` meets its contract. Assumes nothing.
 use native.Mathlib.Omega.{arith}
 use borrow.Author.Needs.{needs}
-use Rattle.policy.proofs.Pieces.{trim-is}
+use Rattle.pieces.proofs.Pieces.{trim-is}
 use Rattle.policy.proofs.reader.trimmed_at.Statement.{statement}
 use Rattle.policy.proofs.reader.trimmed_at.Tie as tie
 

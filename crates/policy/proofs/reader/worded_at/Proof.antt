@@ -6,7 +6,7 @@ use Prim.Native.Nat.{ℕ}
 use native.Mathlib.Omega.{arith}
 use borrow.Author.Needs.{needs}
 use Rattle.text.specs.Find.{begins}
-use Rattle.policy.specs.Heard.{bytesOf}
+use Rattle.pieces.specs.Piece.{bytesOf}
 use Rattle.policy.specs.Directive.{policyW, defaultW, allowW, denyW}
 use Rattle.policy.proofs.HeardLaws.{word-fits, worded-name, worded-default, worded-allow, worded-deny, worded-wrong}
 use Rattle.policy.proofs.reader.worded_at.Statement.{statement}

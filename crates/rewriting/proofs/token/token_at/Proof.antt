@@ -4,7 +4,7 @@ use Prim.Native.Nat.{_+_, _-_, _≤_}
 use native.Mathlib.Omega.{arith}
 use borrow.Author.Needs.{needs}
 use Rattle.refusal.specs.Said.{accepted}
-use Rattle.policy.specs.Heard.{bytesOf}
+use Rattle.pieces.specs.Piece.{bytesOf}
 use Rattle.rewriting.specs.Token.{tokenFrom}
 use Rattle.rewriting.proofs.TokenLaws.{comma-near, token-near, token-next, token-found, token-none}
 use Rattle.rewriting.proofs.token.token_at.Statement.{statement}
