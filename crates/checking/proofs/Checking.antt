@@ -76,7 +76,8 @@ module _ (file imports : List ℕ) (n : ℕ) (p : Policy) {domains domains1 rows
   column : domains1 ≡ laid 1024 (map (rowDomain file imports) (rowsIn (moduleRows file imports n 1024)))
   column =
       h .domains-are
-      ∙ ap (λ (m : ℕ). laid m (map (rowDomain file imports) (rowsIn (moduleRows file imports n (roomOf (length domains) (length rows)))))) long
+      ∙ ap
+      (λ (m : ℕ). laid m (map (rowDomain file imports) (rowsIn (moduleRows file imports n (roomOf (length domains) (length rows)))))) long
       ∙ ap (λ (m : ℕ). laid 1024 (map (rowDomain file imports) (rowsIn (moduleRows file imports n m)))) room
 
   pub weigh-stops : {why : Refusal} → r ≡ Count.Refused why → refusedBy why ≡ weighed file imports n p
@@ -95,7 +96,8 @@ module _ (file imports : List ℕ) (n : ℕ) (p : Policy) {domains domains1 rows
       let held : domains1 ≡ laid 1024 (map (rowDomain file imports) (f .what)) =
       column ∙ ap (λ (x : Said (List ℕ)). laid 1024 (map (rowDomain file imports) (rowsIn x))) (f .first) in
       follow-goes _ (f .first)
-      (ap (λ (ds : List ℕ). evaluated ds k p) held ∙ ap (λ (m : ℕ). evaluated (laid 1024 (map (rowDomain file imports) (f .what))) m p) many)
+      (ap (λ (ds : List ℕ). evaluated ds k p) held
+      ∙ ap (λ (m : ℕ). evaluated (laid 1024 (map (rowDomain file imports) (f .what))) m p) many)
 
 -- ---- a module that was read, with tables at the limits
 module _ (file text : List ℕ) {l : Lent} {r : ModuleRead} (h : ModuleIs (length file) limits (moduleAt file limits) l (saidModule r)) where
@@ -112,7 +114,8 @@ module _ (file text : List ℕ) {l : Lent} {r : ModuleRead} (h : ModuleIs (lengt
   read-goes {m} e =
       let f = followed (moduleAt file limits) (λ m. accepted (moduleOf (length file) m)) (sym (h .answer-is) ∙ ap saidModule e) in
       let held : l .imports ≡ importsLeft (f .what) =
-      subst (λ (x : Said Parsed). l .imports ≡ laid 5120 (cells importCells (tablesOf x .imports))) (f .first) (h .tables-are .imports-are) in
+      subst (λ (x : Said Parsed). l .imports ≡ laid 5120 (cells importCells (tablesOf x .imports))) (f .first)
+      (h .tables-are .imports-are) in
       let many : m .imports ≡ length (f .what .tables .imports) = ap (λ (v : Module). v .imports) (sym (one-value (f .then))) in
       follow-goes _ (f .first)
       (ap (λ (t : List ℕ). heldTo file t (m .imports) text) held ∙ ap (λ (k : ℕ). heldTo file (importsLeft (f .what)) k text) many)

@@ -1,4 +1,5 @@
-// UTF-8: the ends of each row of Unicode's table 3-7, what lies just outside of them, and the ill-formed texts of tables 3-8 to 3-11 (version 15).
+// UTF-8: the ends of each row of Unicode's table 3-7, what lies just outside of them, and the ill-formed texts of tables 3-8
+// to 3-11 (version 15).
 use crate::tally::Tally;
 
 fn prefix(t: Tally, id: &[u8], s: &[u8], good: usize) -> Tally {

@@ -165,8 +165,8 @@ unfolding ulebAt u32At slebAt told narrowed onward uN sN twos grown spent byteAt
     scan seqLen after follow8 followIn covers table
     follow laid cells importCells moduleRows asked importsTested tested firstFrom importBad importFits kindIs cellOf rangeOf fitted
     importDomain pathDomain headOf judged passes preview heads seek begins indexOf
-    readPolicy readWith wholeText run zeroPolicy obey linesOf linesFrom lineLen lineStep crBefore directive core spoken worded defaulted fault
-    trim trimStart trimEnd startLen endLen chars charsFrom more moreBy codeOf codeBy isWhite whites inSome effectiveOf
+    readPolicy readWith wholeText run zeroPolicy obey linesOf linesFrom lineLen lineStep crBefore directive core spoken worded
+    defaulted fault trim trimStart trimEnd startLen endLen chars charsFrom more moreBy codeOf codeBy isWhite whites inSome effectiveOf
     indexOf2 shorn unbraced wordedLine coreLine spokenLine directiveLine start closeAt openAt obeyAt lineAt linesAt
     manifestAt
 examples-hold =

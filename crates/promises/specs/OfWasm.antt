@@ -29,7 +29,8 @@ read-module-decides κs a x y s t p q = module-known x y (p .answer-is ∙ sym (
 
 -- every cell of the tables
 module _ (κs : Lfts 5) (a : Dens κs read-module-kinds.ps) (x y : resT read-module-kinds.r κs .Denot)
-    (s t : AtExit (endedOf 5 read-module-kinds.ps read-module-kinds.r) κs) (p : read-module.Post κs a x s) (q : read-module.Post κs a y t) where
+    (s t : AtExit (endedOf 5 read-module-kinds.ps read-module-kinds.r) κs)
+    (p : read-module.Post κs a x s) (q : read-module.Post κs a y t) where
   pub sections-left : now (s .1 .0) ≡ now (t .1 .0)
   sections-left = p .tables-are .sections-are ∙ sym (q .tables-are .sections-are)
 

@@ -101,15 +101,15 @@ abbrev bothLines : List ℕ
 bothLines = firstLine ++ (100 ∷ 101 ∷ 110 ∷ 121 ∷ 32 ∷ 102 ∷ 115 ∷ 10 ∷ [])
 
 first-allows : effectiveOf (policyOf (readPolicy firstLine)) 0 .allow ≡ true
-unfolding readPolicy readWith wholeText run zeroPolicy obey stanceOf linesOf linesFrom lineLen lineStep crBefore directive core spoken worded ruled
-    plainBy fault domainOf words wordIn trim trimStart trimEnd startLen endLen chars charsFrom more moreBy codeOf codeBy isWhite whites inSome
-    upTo scan seqLen after follow8 followIn covers table same seek begins indexOf follow effectiveOf
+unfolding readPolicy readWith wholeText run zeroPolicy obey stanceOf linesOf linesFrom lineLen lineStep crBefore directive
+    core spoken worded ruled plainBy fault domainOf words wordIn trim trimStart trimEnd startLen endLen chars charsFrom
+    more moreBy codeOf codeBy isWhite whites inSome upTo scan seqLen after follow8 followIn covers table same seek begins indexOf follow effectiveOf
 first-allows = refl
 
 later-denies : effectiveOf (policyOf (readPolicy bothLines)) 0 .allow ≡ false
-unfolding readPolicy readWith wholeText run zeroPolicy obey stanceOf linesOf linesFrom lineLen lineStep crBefore directive core spoken worded ruled
-    plainBy fault domainOf words wordIn trim trimStart trimEnd startLen endLen chars charsFrom more moreBy codeOf codeBy isWhite whites inSome
-    upTo scan seqLen after follow8 followIn covers table same seek begins indexOf follow effectiveOf
+unfolding readPolicy readWith wholeText run zeroPolicy obey stanceOf linesOf linesFrom lineLen lineStep crBefore directive
+    core spoken worded ruled plainBy fault domainOf words wordIn trim trimStart trimEnd startLen endLen chars charsFrom
+    more moreBy codeOf codeBy isWhite whites inSome upTo scan seqLen after follow8 followIn covers table same seek begins indexOf follow effectiveOf
 later-denies = refl
 
 pub first-line-only : (κs : Lfts 1) (a : Dens κs read-policy-kinds.ps) (s : AtExit (endedOf 1 read-policy-kinds.ps read-policy-kinds.r) κs)

@@ -12,7 +12,8 @@ ghost use Prim.Native.Nat.{_+_, _<_};
 ghost use lib.ListN.{length};
 ghost use Rattle.table.specs.Told.{Told, mapped, Passed};
 ghost use Rattle.table.specs.Walking.{walkFrom};
-ghost use Rattle.wasm.specs.Custom.{Names, namedOf, saidNamed, saidCustom, Listed, ListedIn, labelAt, toldBy, subsectionAt, customOf, customAt};
+ghost use Rattle.wasm.specs.Custom.{Names, namedOf, saidNamed, saidCustom, Listed, ListedIn};
+ghost use Rattle.wasm.specs.Custom.{labelAt, toldBy, subsectionAt, customOf, customAt};
 
 // A module's name, as a range of the file; zeros where `named` is false.
 pub(crate) struct Label {
