@@ -79,6 +79,7 @@ pub struct Compatibility<'a> {
     export_diffs: Vec<ExportDiff<'a>>,
     capability_diffs: Vec<CapabilityDiff<'a>>,
     compatible: bool,
+    reasons: String,
 }
 
 /// Compares two modules.
@@ -95,7 +96,8 @@ pub fn compare_modules<'a>(baseline: &Module<'a>, candidate: &Module<'a>) -> Res
         let import = change.side(baseline, candidate).imports().get(row).ok_or(Refusal::STRANGE)?;
         Ok(CapabilityDiff { change, domain: Domain::numbered(domain)?, source: import.module, detail: import.field })
     })?;
-    Ok(Compatibility { export_diffs, capability_diffs, compatible: told.compatible != 0 })
+    let reasons = cells.text(told.reasons)?.to_string();
+    Ok(Compatibility { export_diffs, capability_diffs, compatible: told.compatible != 0, reasons })
 }
 
 impl<'a> Compatibility<'a> {
@@ -114,7 +116,12 @@ impl<'a> Compatibility<'a> {
         &self.capability_diffs
     }
 
-    /// Why the candidate cannot stand in, in the original's words.
+    /// Why the candidate cannot stand in, as the archive writes it: in the original's words, LF after each reason.
+    pub fn reasons(&self) -> &str {
+        &self.reasons
+    }
+
+    /// The same as a list: a name may have LF in it.
     pub fn breaking_reasons(&self) -> Vec<String> {
         let exports = self.export_diffs.iter().filter(|diff| diff.change == Change::Removed);
         let exports = exports.map(|diff| format!("export removed: {} ({})", diff.name, diff.kind));

@@ -16,6 +16,11 @@ impl<'o> Cells<'o> {
         (0..count).map(|_| self.row().and_then(&make)).collect()
     }
 
+    /// The next `len` bytes, as text.
+    pub fn text(&mut self, len: usize) -> Result<&'o str> {
+        name(self.0, 0, len)
+    }
+
     fn row<const N: usize>(&mut self) -> Result<[usize; N]> {
         let mut row = [0; N];
         for cell in &mut row {
@@ -32,7 +37,7 @@ pub fn number<T, U: TryFrom<T>>(cell: T) -> Result<U> {
     U::try_from(cell).map_err(|_| Refusal::STRANGE)
 }
 
-/// A name: a range of the caller's bytes.
+/// A text: a range of bytes.
 pub fn name(bytes: &[u8], from: usize, len: usize) -> Result<&str> {
     let part = bytes.get(from..).and_then(|rest| rest.get(..len)).ok_or(Refusal::STRANGE)?;
     std::str::from_utf8(part).map_err(|_| Refusal::STRANGE)

@@ -181,7 +181,9 @@ fn both_ways(one: &Module, other: &Module) {
         assert_eq!(needs(&there, here), needs(&back, elsewhere));
     }
     for answer in [there, back] {
-        assert_eq!(answer.is_compatible(), answer.breaking_reasons().is_empty());
+        let reasons = answer.breaking_reasons();
+        assert_eq!(answer.is_compatible(), reasons.is_empty());
+        assert_eq!(answer.reasons(), reasons.iter().map(|reason| format!("{reason}\n")).collect::<String>());
     }
 }
 
