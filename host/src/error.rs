@@ -5,6 +5,9 @@ use std::fmt;
 /// What the calls of this crate answer.
 pub type Result<T> = std::result::Result<T, Refusal>;
 
+/// The original's name of a [`Refusal`].
+pub type Error = Refusal;
+
 /// The sixteen refusals, by their numbers.
 #[derive(Debug, Clone, Copy, PartialEq, Eq, PartialOrd, Ord, Hash)]
 #[allow(missing_docs)]

@@ -57,7 +57,7 @@ mod rows;
 pub mod wasm;
 pub mod wit;
 
-pub use error::{ErrorKind, Refusal, Result};
+pub use error::{Error, ErrorKind, Refusal, Result};
 pub use policy::{check, Verdict};
 
 /// The longest file of a module that is read, in bytes: a longer one is refused, 14.

@@ -88,7 +88,9 @@ fn follow<'a>(out: &mut Vec<u8>, builds: &'a [PathBuf], policy: &Policy, json: b
             writeln!(out, "{}", compare::tell(&answer, object).done())?;
         } else {
             writeln!(out, "step {step}: {}", compare::stands(path, before.path, &answer))?;
-            write!(out, "{}", show::table(&compare::differences(&answer)))?;
+            for line in show::table(&compare::differences(&answer)).lines() {
+                writeln!(out, "  {line}")?;
+            }
         }
         last = Some(build);
     }
