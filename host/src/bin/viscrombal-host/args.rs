@@ -1,0 +1,92 @@
+//! The command's words.
+
+use std::ffi::OsString;
+use std::path::PathBuf;
+
+/// What is asked for.
+#[derive(Debug, PartialEq, Eq)]
+pub enum Command {
+    Help,
+    Check { modules: Vec<PathBuf>, policy: PathBuf, json: bool },
+    Compare { baseline: PathBuf, candidate: PathBuf, json: bool },
+    Chain { builds: Vec<PathBuf>, policy: PathBuf, json: bool },
+}
+
+/// The command, or what is wrong with the words. Options stand anywhere; after `--` every word is a file.
+pub fn parse(words: impl Iterator<Item = OsString>) -> Result<Command, &'static str> {
+    let (mut plain, mut policy, mut json) = (Vec::new(), None, false);
+    let mut words = words.fuse();
+    while let Some(word) = words.next() {
+        match word.to_str() {
+            Some("-h" | "--help") => return Ok(Command::Help),
+            Some("--json") => json = true,
+            Some("--policy") if policy.is_some() => return Err("more than one policy"),
+            Some("--policy") => policy = Some(words.next().ok_or("--policy needs a file")?),
+            Some("--") => plain.extend(words.by_ref()),
+            _ if word.as_encoded_bytes().starts_with(b"-") => return Err("an option that is not known (files after --)"),
+            _ => plain.push(word),
+        }
+    }
+    let policy = policy.map(PathBuf::from);
+    let mut plain = plain.into_iter();
+    let verb = plain.next().ok_or("no command")?;
+    let files: Vec<PathBuf> = plain.map(PathBuf::from).collect();
+    match (verb.to_str(), policy) {
+        (Some("check"), Some(_)) if files.is_empty() => Err("check needs a module"),
+        (Some("check"), Some(policy)) => Ok(Command::Check { modules: files, policy, json }),
+        (Some("chain"), Some(_)) if files.len() < 2 => Err("chain needs two builds or more"),
+        (Some("chain"), Some(policy)) => Ok(Command::Chain { builds: files, policy, json }),
+        (Some("check" | "chain"), None) => Err("no --policy FILE"),
+        (Some("compare"), Some(_)) => Err("compare takes no policy"),
+        (Some("compare"), None) => match <[PathBuf; 2]>::try_from(files) {
+            Ok([baseline, candidate]) => Ok(Command::Compare { baseline, candidate, json }),
+            Err(_) => Err("compare needs two modules"),
+        },
+        _ => Err("no such command"),
+    }
+}
+
+#[cfg(test)]
+mod tests {
+    use super::*;
+
+    fn parsed(words: &str) -> Result<Command, &'static str> {
+        parse(words.split_whitespace().map(OsString::from))
+    }
+
+    #[test]
+    fn options_stand_anywhere() {
+        let want = Ok(Command::Check { modules: vec!["a".into(), "b".into()], policy: "p".into(), json: true });
+        assert_eq!(parsed("check a b --policy p --json"), want);
+        assert_eq!(parsed("--json check --policy p a b"), want);
+        assert_eq!(parsed("--policy p --json -- check a b"), want);
+    }
+
+    #[test]
+    fn a_file_may_begin_with_a_dash_after_two() {
+        let want = Command::Compare { baseline: "-a".into(), candidate: "--json".into(), json: false };
+        assert_eq!(parsed("compare -- -a --json"), Ok(want));
+    }
+
+    #[test]
+    fn wrong_words_are_told() {
+        for words in [
+            "",
+            "checks a",
+            "check",
+            "check a",
+            "check --policy p",
+            "check a --policy",
+            "check a --policy p --policy q",
+            "compare a",
+            "compare a b c",
+            "compare a b --policy p",
+            "chain a --policy p",
+            "chain a b",
+            "check a --polity p",
+            "-x",
+        ] {
+            assert!(parsed(words).is_err(), "{words}");
+        }
+    }
+}

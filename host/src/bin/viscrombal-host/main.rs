@@ -1,0 +1,85 @@
+//! `viscrombal-host`: a module's file held against a policy, compared with another, or at the end of a chain of replacements.
+
+#![forbid(unsafe_code)]
+
+mod args;
+mod chain;
+mod check;
+mod compare;
+mod files;
+mod json;
+mod show;
+mod work;
+
+use std::env;
+use std::fmt::Display;
+use std::io::{self, Write};
+use std::process::ExitCode;
+
+use args::Command;
+use files::Stop;
+
+const USAGE: &str = "\
+usage: viscrombal-host [--json] check MODULE.. --policy FILE
+       viscrombal-host [--json] compare BASELINE CANDIDATE
+       viscrombal-host [--json] chain FIRST .. LAST --policy FILE
+
+  check     holds each module against the policy
+  compare   whether the candidate can stand in for the baseline, and why not
+  chain     whether each build can stand in for the one before it, and what the theorem then gives for the last
+  --json    one object a line
+
+Exit status: 0 all pass; 1 not compliant, or cannot stand in; 2 refused, or cannot be read.
+";
+
+/// The exit status; of several the worst is given.
+#[derive(Debug, Clone, Copy, PartialEq, Eq, PartialOrd, Ord)]
+pub enum Status {
+    Pass = 0,
+    No = 1,
+    Refused = 2,
+}
+
+impl Status {
+    /// Of an answer that is not refused.
+    fn passing(pass: bool) -> Status {
+        if pass {
+            Status::Pass
+        } else {
+            Status::No
+        }
+    }
+}
+
+/// Runs the command and says which file ended it, if one did.
+fn run(out: &mut dyn Write, command: &Command) -> io::Result<Status> {
+    let (ended, json) = match command {
+        Command::Help => return write!(out, "{USAGE}").map(|()| Status::Pass),
+        Command::Check { modules, policy, json } => (check::run(out, modules, policy, *json), *json),
+        Command::Compare { baseline, candidate, json } => (compare::run(out, baseline, candidate, *json), *json),
+        Command::Chain { builds, policy, json } => (chain::run(out, builds, policy, *json), *json),
+    };
+    match ended {
+        Ok(status) => Ok(status),
+        Err(Stop::Output(fault)) => Err(fault),
+        Err(Stop::File { what, path, trouble }) => files::report(out, what, &path, &trouble, json).map(|()| Status::Refused),
+    }
+}
+
+/// A fault of the command itself, on standard error; where that is closed too, the status alone tells.
+fn fault(words: impl Display) -> Status {
+    let _ = writeln!(io::stderr(), "viscrombal-host: {words}");
+    Status::Refused
+}
+
+fn main() -> ExitCode {
+    let mut out = io::stdout().lock();
+    let status = match args::parse(env::args_os().skip(1)) {
+        Err(words) => fault(format_args!("{words}\n{USAGE}")),
+        Ok(command) => match run(&mut out, &command).and_then(|status| out.flush().map(|()| status)) {
+            Ok(status) => status,
+            Err(error) => fault(format_args!("cannot write: {error}")),
+        },
+    };
+    ExitCode::from(status as u8)
+}

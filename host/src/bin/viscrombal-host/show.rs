@@ -1,0 +1,106 @@
+//! Words and tables for a person. Whatever came from a file or its name is shown so that it cannot break or reorder a line.
+
+use std::fmt::Write;
+use std::os::unix::ffi::OsStrExt;
+use std::path::Path;
+
+/// Names longer than this are cut where they are shown.
+const LONGEST: usize = 96;
+
+/// Bytes as they are where they are plain, else in quotes, and what is no printable character as an escape.
+pub fn word(bytes: &[u8]) -> String {
+    let plain = |byte: &u8| byte.is_ascii_alphanumeric() || b"-_./:@+=,~%$".contains(byte);
+    if !bytes.is_empty() && bytes.iter().all(plain) {
+        return String::from_utf8_lossy(bytes).into_owned();
+    }
+    let mut out = String::from("\"");
+    for chunk in bytes.utf8_chunks() {
+        let _ = write!(out, "{}", chunk.valid().escape_debug());
+        for byte in chunk.invalid() {
+            let _ = write!(out, "\\x{byte:02x}");
+        }
+    }
+    out.push('"');
+    out
+}
+
+/// A path, whole.
+pub fn path(path: &Path) -> String {
+    word(path.as_os_str().as_bytes())
+}
+
+/// A name of a module or a policy, cut where it is long.
+pub fn name(name: &str) -> String {
+    match name.char_indices().nth(LONGEST) {
+        None => word(name.as_bytes()),
+        Some((end, _)) => format!("{}.. ({} bytes)", word(&name.as_bytes()[..end]), count(name.len())),
+    }
+}
+
+/// A number with its thousands apart.
+pub fn count(number: usize) -> String {
+    let digits = number.to_string();
+    let mut out = String::new();
+    for (i, digit) in digits.chars().enumerate() {
+        if i > 0 && (digits.len() - i) % 3 == 0 {
+            out.push(',');
+        }
+        out.push(digit);
+    }
+    out
+}
+
+/// `1 file`, `2 files`.
+pub fn many(number: usize, what: &str) -> String {
+    format!("{} {what}{}", count(number), if number == 1 { "" } else { "s" })
+}
+
+/// Rows as a table of columns, two blanks apart; the last column is as long as it is.
+pub fn table(rows: &[Vec<String>]) -> String {
+    let columns = rows.iter().map(Vec::len).max().unwrap_or(0);
+    let width = |column: usize| {
+        let cells = rows.iter().filter_map(|row| row.get(column));
+        cells.map(|cell| cell.chars().count()).max().unwrap_or(0)
+    };
+    let widths: Vec<usize> = (0..columns.saturating_sub(1)).map(width).chain([0]).collect();
+    let mut out = String::new();
+    for row in rows {
+        let cells: Vec<String> = row.iter().zip(&widths).map(|(cell, &width)| format!("{cell:width$}")).collect();
+        out += cells.join("  ").trim_end();
+        out.push('\n');
+    }
+    out
+}
+
+#[cfg(test)]
+mod tests {
+    use super::*;
+
+    #[test]
+    fn words_stay_on_their_line() {
+        assert_eq!(word(b"samples/tide-1.wasm"), "samples/tide-1.wasm");
+        assert_eq!(word(b""), "\"\"");
+        assert_eq!(word(b"a b"), "\"a b\"");
+        assert_eq!(word("é".as_bytes()), "\"é\"");
+        assert_eq!(word(b"a\ncompliant\r\x1b[2K\"\\"), r#""a\ncompliant\r\u{1b}[2K\"\\""#);
+        assert_eq!(word("\u{202e}\u{2028}\u{85}\u{200b}".as_bytes()), r#""\u{202e}\u{2028}\u{85}\u{200b}""#);
+        assert_eq!(word(b"a\xff\xfeb"), r#""a\xff\xfeb""#);
+    }
+
+    #[test]
+    fn long_names_are_cut() {
+        assert_eq!(name(&"é".repeat(96)), format!("\"{}\"", "é".repeat(96)));
+        assert_eq!(name(&"a".repeat(16_000)), format!("{}.. (16,000 bytes)", "a".repeat(96)));
+    }
+
+    #[test]
+    fn numbers() {
+        assert_eq!([0, 999, 1000, 16_777_216].map(count), ["0", "999", "1,000", "16,777,216"]);
+    }
+
+    #[test]
+    fn columns_line_up() {
+        let rows = [vec!["a".into(), "bb".into(), "c".into()], vec!["aaa".into(), "b".into(), "cccc".into()], vec!["a".into()]];
+        assert_eq!(table(&rows), "a    bb  c\naaa  b   cccc\na\n");
+    }
+}

@@ -1,0 +1,150 @@
+//! The C interface, include/viscrombal.h: the one file with `unsafe`. No answer leaves it that was refused.
+//!
+//! What the interface asks of its caller holds by the types: a Rust slice is never at NULL, and `out`, lent for writing alone,
+//! overlaps no input. Marks (C's bool) are taken as bytes, so that no value of them is undefined.
+
+use crate::error::{Refusal, Result};
+
+/// Every answer begins with a number and a place: 0 and 0 where the call accepts.
+#[repr(C)]
+struct Told<T> {
+    number: u32,
+    place: usize,
+    answer: T,
+}
+
+impl<T> Told<T> {
+    fn accepted(self) -> Result<T> {
+        match self.number {
+            0 => Ok(self.answer),
+            number => Err(Refusal::told(number, self.place)),
+        }
+    }
+}
+
+#[repr(C)]
+pub struct Rule {
+    pub stance: usize,
+    pub from: usize,
+    pub len: usize,
+}
+
+#[repr(C)]
+pub struct Policy {
+    pub named: u8,
+    pub start: usize,
+    pub size: usize,
+    pub permit: u8,
+    pub rules: [Rule; 7],
+}
+
+#[repr(C)]
+pub struct Token {
+    pub found: u8,
+    pub from: usize,
+    pub len: usize,
+    pub next: usize,
+}
+
+#[repr(C)]
+pub struct Written {
+    pub bytes: usize,
+}
+
+#[repr(C)]
+pub struct Verdict {
+    pub required: u8,
+    pub allowed: u8,
+    pub many: usize,
+}
+
+#[repr(C)]
+pub struct Evaluation {
+    pub verdicts: [Verdict; 7],
+    pub set: u32,
+    pub count: usize,
+    pub compliant: u8,
+}
+
+#[repr(C)]
+pub struct Module {
+    pub version: u32,
+    pub length: usize,
+    pub named: u8,
+    pub start: usize,
+    pub size: usize,
+    pub sections: usize,
+    pub imports: usize,
+    pub exports: usize,
+    pub symbols: usize,
+    pub bytes: usize,
+}
+
+#[repr(C)]
+pub struct Manifest {
+    pub packaged: u8,
+    pub start: usize,
+    pub size: usize,
+    pub worlds: usize,
+    pub references: usize,
+    pub imported: usize,
+    pub exported: usize,
+    pub bytes: usize,
+}
+
+#[repr(C)]
+pub struct Comparison {
+    pub exports: usize,
+    pub capabilities: usize,
+    pub compatible: u8,
+    pub reasons: usize,
+    pub bytes: usize,
+}
+
+extern "C" {
+    fn viscrombal_policy(text: *const u8, len: usize) -> Told<Policy>;
+    fn viscrombal_token(text: *const u8, len: usize, domain: usize, from: usize) -> Told<Token>;
+    fn viscrombal_rewrite(text: *const u8, len: usize, out: *mut u8, room: usize) -> Told<Written>;
+    fn viscrombal_check(file: *const u8, len: usize, text: *const u8, text_len: usize) -> Told<Evaluation>;
+    fn viscrombal_module(file: *const u8, len: usize, out: *mut u8, room: usize) -> Told<Module>;
+    fn viscrombal_manifest(text: *const u8, len: usize, out: *mut u8, room: usize) -> Told<Manifest>;
+    fn viscrombal_compare(
+        baseline: *const u8,
+        len: usize,
+        candidate: *const u8,
+        candidate_len: usize,
+        out: *mut u8,
+        room: usize,
+    ) -> Told<Comparison>;
+}
+
+// SAFETY, of every call below: each pointer and length are those of a slice that is borrowed for the call.
+
+pub fn policy(text: &[u8]) -> Result<Policy> {
+    unsafe { viscrombal_policy(text.as_ptr(), text.len()) }.accepted()
+}
+
+pub fn token(text: &[u8], domain: usize, from: usize) -> Result<Token> {
+    unsafe { viscrombal_token(text.as_ptr(), text.len(), domain, from) }.accepted()
+}
+
+pub fn rewrite(text: &[u8], out: &mut [u8]) -> Result<Written> {
+    unsafe { viscrombal_rewrite(text.as_ptr(), text.len(), out.as_mut_ptr(), out.len()) }.accepted()
+}
+
+pub fn check(file: &[u8], text: &[u8]) -> Result<Evaluation> {
+    unsafe { viscrombal_check(file.as_ptr(), file.len(), text.as_ptr(), text.len()) }.accepted()
+}
+
+pub fn module(file: &[u8], out: &mut [u8]) -> Result<Module> {
+    unsafe { viscrombal_module(file.as_ptr(), file.len(), out.as_mut_ptr(), out.len()) }.accepted()
+}
+
+pub fn manifest(text: &[u8], out: &mut [u8]) -> Result<Manifest> {
+    unsafe { viscrombal_manifest(text.as_ptr(), text.len(), out.as_mut_ptr(), out.len()) }.accepted()
+}
+
+pub fn compare(baseline: &[u8], candidate: &[u8], out: &mut [u8]) -> Result<Comparison> {
+    let (b, c) = (baseline, candidate);
+    unsafe { viscrombal_compare(b.as_ptr(), b.len(), c.as_ptr(), c.len(), out.as_mut_ptr(), out.len()) }.accepted()
+}

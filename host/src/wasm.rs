@@ -1,0 +1,203 @@
+//! Modules: sections, imports, exports and names, as the archive reads them.
+
+use std::fmt;
+
+use crate::error::Result;
+use crate::ffi;
+use crate::rows::{name, number, with_room, Cells};
+
+/// The four bytes that open every module.
+pub const WASM_MAGIC: [u8; 4] = *b"\0asm";
+
+/// The bytes of all four tables at their limits.
+const ROOM: usize = 8 * (256 * 5 + 1024 * 5 + 1024 * 4 + 4096 * 3);
+
+/// The kind of an import or export.
+#[derive(Debug, Clone, Copy, PartialEq, Eq, Hash)]
+#[allow(missing_docs)]
+pub enum ExternalKind {
+    Func,
+    Table,
+    Memory,
+    Global,
+    /// Any other byte; an export's alone.
+    Other(u8),
+}
+
+impl ExternalKind {
+    fn from_byte(byte: u8) -> ExternalKind {
+        match byte {
+            0 => ExternalKind::Func,
+            1 => ExternalKind::Table,
+            2 => ExternalKind::Memory,
+            3 => ExternalKind::Global,
+            other => ExternalKind::Other(other),
+        }
+    }
+
+    /// Stable slug used in reports.
+    pub fn slug(self) -> String {
+        self.to_string()
+    }
+}
+
+impl fmt::Display for ExternalKind {
+    fn fmt(&self, f: &mut fmt::Formatter<'_>) -> fmt::Result {
+        match self {
+            ExternalKind::Func => f.write_str("func"),
+            ExternalKind::Table => f.write_str("table"),
+            ExternalKind::Memory => f.write_str("memory"),
+            ExternalKind::Global => f.write_str("global"),
+            ExternalKind::Other(byte) => write!(f, "other:{byte:#04x}"),
+        }
+    }
+}
+
+/// The name of a section's id.
+pub fn section_name(id: u8) -> &'static str {
+    const NAMES: [&str; 14] = [
+        "custom",
+        "type",
+        "import",
+        "function",
+        "table",
+        "memory",
+        "global",
+        "export",
+        "start",
+        "element",
+        "code",
+        "data",
+        "data-count",
+        "tag",
+    ];
+    NAMES.get(usize::from(id)).copied().unwrap_or("unknown")
+}
+
+/// A section: where its payload is, and a custom section's name (empty of others).
+#[derive(Debug, Clone, Copy, PartialEq, Eq)]
+#[non_exhaustive]
+#[allow(missing_docs)]
+pub struct SectionInfo<'a> {
+    pub id: u8,
+    pub name: &'static str,
+    pub custom_name: &'a str,
+    pub offset: usize,
+    pub size: usize,
+}
+
+/// An import.
+#[derive(Debug, Clone, Copy, PartialEq, Eq)]
+#[non_exhaustive]
+#[allow(missing_docs)]
+pub struct Import<'a> {
+    pub module: &'a str,
+    pub field: &'a str,
+    pub kind: ExternalKind,
+}
+
+/// An export.
+#[derive(Debug, Clone, Copy, PartialEq, Eq)]
+#[non_exhaustive]
+#[allow(missing_docs)]
+pub struct Export<'a> {
+    pub field: &'a str,
+    pub kind: ExternalKind,
+    pub index: u32,
+}
+
+/// A module that was read and accepted, with the file that it was read from.
+#[derive(Debug, Clone)]
+pub struct Module<'a> {
+    file: &'a [u8],
+    version: u32,
+    sections: Vec<SectionInfo<'a>>,
+    imports: Vec<Import<'a>>,
+    exports: Vec<Export<'a>>,
+    module_name: Option<&'a str>,
+    function_names: Vec<(u32, &'a str)>,
+}
+
+/// Reads a module's file.
+pub fn parse(file: &[u8]) -> Result<Module<'_>> {
+    let (told, out) = with_room(ROOM, |out| ffi::module(file, out))?;
+    let mut cells = Cells::of(&out, told.bytes)?;
+    let sections = cells.rows(told.sections, |[id, offset, size, from, len]| {
+        let id = number(id)?;
+        Ok(SectionInfo { id, name: section_name(id), custom_name: name(file, from, len)?, offset, size })
+    })?;
+    let imports = cells.rows(told.imports, |[module, module_len, field, field_len, kind]| {
+        let kind = ExternalKind::from_byte(number(kind)?);
+        Ok(Import { module: name(file, module, module_len)?, field: name(file, field, field_len)?, kind })
+    })?;
+    let exports = cells.rows(told.exports, |[from, len, kind, index]| {
+        let kind = ExternalKind::from_byte(number(kind)?);
+        Ok(Export { field: name(file, from, len)?, kind, index: number(index)? })
+    })?;
+    let function_names = cells.rows(told.symbols, |[index, from, len]| Ok((number(index)?, name(file, from, len)?)))?;
+    let module_name = match told.named {
+        0 => None,
+        _ => Some(name(file, told.start, told.size)?),
+    };
+    Ok(Module { file, version: told.version, sections, imports, exports, module_name, function_names })
+}
+
+impl<'a> Module<'a> {
+    /// The file.
+    pub fn file(&self) -> &'a [u8] {
+        self.file
+    }
+
+    /// The version that the header states, never 0.
+    pub fn version(&self) -> u32 {
+        self.version
+    }
+
+    /// The sections, in the order of the file.
+    pub fn sections(&self) -> &[SectionInfo<'a>] {
+        &self.sections
+    }
+
+    /// The imports, of the last import section.
+    pub fn imports(&self) -> &[Import<'a>] {
+        &self.imports
+    }
+
+    /// The exports, of the last export section.
+    pub fn exports(&self) -> &[Export<'a>] {
+        &self.exports
+    }
+
+    /// The module's name, of the last `name` section that has one.
+    pub fn module_name(&self) -> Option<&'a str> {
+        self.module_name
+    }
+
+    /// Functions' names, by index.
+    pub fn function_names(&self) -> &[(u32, &'a str)] {
+        &self.function_names
+    }
+
+    /// How long the file is.
+    pub fn byte_len(&self) -> usize {
+        self.file.len()
+    }
+
+    /// How many imports are functions.
+    pub fn imported_functions(&self) -> usize {
+        self.imports.iter().filter(|import| import.kind == ExternalKind::Func).count()
+    }
+
+    /// How many imports are memories.
+    pub fn imported_memories(&self) -> usize {
+        self.imports.iter().filter(|import| import.kind == ExternalKind::Memory).count()
+    }
+
+    /// The module names of all imports, by bytes, each once.
+    pub fn import_namespaces(&self) -> Vec<&'a str> {
+        let mut names: Vec<_> = self.imports.iter().map(|import| import.module).collect();
+        names.sort_unstable();
+        names.dedup();
+        names
+    }
+}

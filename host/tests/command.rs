@@ -1,0 +1,347 @@
+//! The command, run as a person or a program runs it.
+
+mod common;
+
+use std::env;
+use std::ffi::{OsStr, OsString};
+use std::fs::{self, File};
+use std::os::unix::ffi::OsStrExt;
+use std::path::{Path, PathBuf};
+use std::process::{Command, Stdio};
+
+use common::{bomb, damaged, folder, long, module, samples};
+use viscrombal::LONGEST_MODULE;
+
+/// What a run left.
+struct Ran {
+    status: i32,
+    out: String,
+    err: String,
+}
+
+/// The command; on another processor by the runner that cargo was given for x86-64.
+fn command() -> Command {
+    let program = env!("CARGO_BIN_EXE_viscrombal-host");
+    match env::var_os("CARGO_TARGET_X86_64_UNKNOWN_LINUX_GNU_RUNNER") {
+        None => Command::new(program),
+        Some(runner) => {
+            let mut command = Command::new(runner);
+            command.arg(program);
+            command
+        }
+    }
+}
+
+fn run(command: &mut Command) -> Ran {
+    let output = command.output().unwrap();
+    let text = |bytes| String::from_utf8(bytes).expect("the command writes text");
+    let status = output.status.code().expect("a signal ended it");
+    Ran { status, out: text(output.stdout), err: text(output.stderr) }
+}
+
+fn check(files: &[OsString], policy: &OsStr, options: &[&str]) -> Ran {
+    run(command().arg("check").args(files).arg("--policy").arg(policy).args(options))
+}
+
+fn compare(baseline: &OsStr, candidate: &OsStr, options: &[&str]) -> Ran {
+    run(command().arg("compare").arg(baseline).arg(candidate).args(options))
+}
+
+fn chain(builds: &[OsString], policy: &OsStr, options: &[&str]) -> Ran {
+    run(command().arg("chain").args(builds).arg("--policy").arg(policy).args(options))
+}
+
+/// A new folder for the files of one test.
+fn place(test: &str) -> PathBuf {
+    let place = Path::new(env!("CARGO_TARGET_TMPDIR")).join(test);
+    let _ = fs::remove_dir_all(&place);
+    fs::create_dir_all(&place).unwrap();
+    place
+}
+
+fn write(place: &Path, name: impl AsRef<OsStr>, bytes: &[u8]) -> OsString {
+    let path = place.join(name.as_ref());
+    fs::write(&path, bytes).unwrap();
+    path.into()
+}
+
+fn of_sample(name: &str) -> OsString {
+    folder().join(name).into()
+}
+
+/// Whether a line is one JSON value in ASCII; RFC 8259, no more.
+fn is_json(line: &str) -> bool {
+    fn value(s: &[u8]) -> Option<&[u8]> {
+        match s.first()? {
+            b'{' => list(&s[1..], b'}', |s| value(string(s)?.strip_prefix(b":")?)),
+            b'[' => list(&s[1..], b']', value),
+            b'"' => string(s),
+            b't' => s.strip_prefix(b"true"),
+            b'f' => s.strip_prefix(b"false"),
+            _ => match s.iter().take_while(|b| b.is_ascii_digit()).count() {
+                0 => None,
+                digits => Some(&s[digits..]),
+            },
+        }
+    }
+    fn list(mut s: &[u8], end: u8, item: fn(&[u8]) -> Option<&[u8]>) -> Option<&[u8]> {
+        if *s.first()? == end {
+            return Some(&s[1..]);
+        }
+        loop {
+            s = item(s)?;
+            match s.first()? {
+                b',' => s = &s[1..],
+                b if *b == end => return Some(&s[1..]),
+                _ => return None,
+            }
+        }
+    }
+    fn string(s: &[u8]) -> Option<&[u8]> {
+        let mut s = s.strip_prefix(b"\"")?;
+        loop {
+            match s.first()? {
+                b'"' => return Some(&s[1..]),
+                b'\\' if s.get(1) == Some(&b'u') => {
+                    s.get(2..6)?.iter().all(u8::is_ascii_hexdigit).then_some(())?;
+                    s = &s[6..];
+                }
+                b'\\' => {
+                    br#""\/bfnrt"#.contains(s.get(1)?).then_some(())?;
+                    s = &s[2..];
+                }
+                b' '..=b'~' => s = &s[1..],
+                _ => return None,
+            }
+        }
+    }
+    value(line.as_bytes()) == Some(b"")
+}
+
+/// The lines, each of them an object.
+fn objects(out: &str) -> Vec<&str> {
+    let lines: Vec<_> = out.lines().collect();
+    for line in &lines {
+        assert!(line.starts_with('{') && is_json(line), "{line}");
+    }
+    lines
+}
+
+/// No byte that a terminal would obey but LF.
+fn is_plain(out: &str) -> bool {
+    out.chars().all(|c| c == '\n' || !c.is_control())
+}
+
+#[test]
+fn statuses_of_a_check() {
+    let of = |name: &str, policy: &str| check(&[of_sample(name)], &of_sample(policy), &[]).status;
+    assert_eq!(of("tide.wasm", "portal.policy"), 0);
+    assert_eq!(of("feed.wasm", "portal.policy"), 1);
+    assert_eq!(of("legend.wasm", "open.policy"), 0);
+    assert_eq!(of("legend.wasm", "guarded.policy"), 1);
+    assert_eq!(of("no.wasm", "portal.policy"), 2);
+    assert_eq!(of("README.md", "portal.policy"), 2);
+    assert_eq!(of("tide.wasm", "no.policy"), 2);
+    assert_eq!(of("tide.wasm", "tide.wasm"), 2);
+    let mixed = [of_sample("feed.wasm"), of_sample("README.md"), of_sample("tide.wasm")];
+    assert_eq!(check(&mixed, &of_sample("portal.policy"), &[]).status, 2, "the worst of all");
+}
+
+#[test]
+fn a_table_of_all_samples() {
+    let files: Vec<_> = samples(".wasm").iter().map(|(name, _)| of_sample(name)).collect();
+    let ran = check(&files, &of_sample("portal.policy"), &[]);
+    assert_eq!((ran.status, ran.err.as_str()), (1, ""), "no progress where there is no terminal");
+    assert!(ran.out.starts_with("policy portal (") && is_plain(&ran.out));
+    assert!(ran.out.ends_with("\n7 files: 4 compliant, 3 not compliant, 0 refused, 0 not readable\n"), "{}", ran.out);
+    assert!(ran.out.contains("feed.wasm: network is not allowed: imports sock_open from wasi_snapshot_preview1\n"));
+}
+
+#[test]
+fn an_object_for_each_sample() {
+    let files: Vec<_> = samples(".wasm").iter().map(|(name, _)| of_sample(name)).collect();
+    let ran = check(&files, &of_sample("portal.policy"), &["--json"]);
+    let lines = objects(&ran.out);
+    assert_eq!((ran.status, lines.len()), (1, 7));
+    for (line, file) in lines.iter().zip(&files) {
+        assert!(line.starts_with(&format!("{{\"file\":\"{}\",", file.to_str().unwrap())), "in the order of the words");
+    }
+    assert!(lines[3].contains(r#""answer":"not compliant","bytes":568,"compliant":false,"violations":["network"],"#));
+    assert!(lines[3].contains(r#"{"domain":"network","required":true,"allowed":false,"many":3}"#));
+    assert!(lines[3].ends_with(r#""needs":[{"domain":"network","source":"wasi_snapshot_preview1","detail":"sock_open"}]}"#));
+}
+
+/// Every sample, and copies of each that are cut or changed: an answer with a number, or a verdict.
+#[test]
+fn damaged_copies() {
+    let place = place("damaged");
+    let mut files = Vec::new();
+    for (name, whole) in samples(".wasm") {
+        files.push(of_sample(&name));
+        let copies = damaged(&whole).enumerate().step_by(37);
+        files.extend(copies.map(|(i, copy)| write(&place, format!("{i}-{name}"), &copy)));
+    }
+    assert!(files.len() > 200, "{}", files.len());
+    let ran = check(&files, &of_sample("portal.policy"), &["--json"]);
+    let lines = objects(&ran.out);
+    assert_eq!((ran.status, ran.err.as_str(), lines.len()), (2, "", files.len()));
+    let refused = lines.iter().filter(|line| line.contains("\"answer\":\"refused\",\"number\":")).count();
+    let checked = lines.iter().filter(|line| line.contains("\"compliant\":")).count();
+    assert_eq!(refused + checked, files.len());
+    assert!(refused > 100 && checked > 50, "{refused} refused, {checked} checked");
+    let ran = check(&files, &of_sample("portal.policy"), &[]);
+    assert!(is_plain(&ran.out) && ran.out.contains(&format!(", {refused} refused, 0 not readable\n")), "{}", ran.out);
+}
+
+#[test]
+fn hostile_files() {
+    let place = place("hostile");
+    let sparse = place.join("sparse.wasm");
+    File::create(&sparse).unwrap().set_len(1 << 40).unwrap();
+    let cases = [
+        (write(&place, "empty.wasm", b""), r#""answer":"refused","number":1,"place":0"#),
+        (write(&place, "long.wasm", &long(LONGEST_MODULE + 1)), r#""answer":"refused","number":14,"place":0"#),
+        (write(&place, "longest.wasm", &long(LONGEST_MODULE)), r#""answer":"compliant","bytes":16777216"#),
+        (sparse.into(), r#""answer":"refused","number":14,"place":0"#),
+        (write(&place, "bomb.wasm", &bomb()), r#""answer":"refused","number":1,"place":5"#),
+        ("/dev/zero".into(), r#""answer":"refused","number":14,"place":0"#),
+        ("/dev/null".into(), r#""answer":"refused","number":1,"place":0"#),
+        (place.clone().into(), r#""answer":"cannot be read","os_error":21"#),
+        (place.join("none.wasm").into(), r#""answer":"cannot be read","os_error":2"#),
+        ("/proc/self/mem".into(), r#""answer":"cannot be read","os_error":5"#),
+        ("".into(), r#""answer":"cannot be read","os_error":2"#),
+    ];
+    let files = cases.clone().map(|(file, _)| file);
+    let ran = check(&files, &of_sample("portal.policy"), &["--json"]);
+    let lines = objects(&ran.out);
+    assert_eq!((ran.status, ran.err.as_str(), lines.len()), (2, "", cases.len()));
+    for (line, (_, want)) in lines.iter().zip(&cases) {
+        assert!(line.contains(want), "{line}");
+    }
+    let one = of_sample("tide.wasm");
+    for (file, want) in cases {
+        let refused = want.contains("number") || want.contains("os_error");
+        for ran in [
+            compare(&one, &file, &["--json"]),
+            compare(&file, &one, &["--json"]),
+            chain(&[one.clone(), file.clone()], &of_sample("portal.policy"), &["--json"]),
+        ] {
+            assert_eq!(ran.status == 2, refused, "{}", ran.out);
+            assert!(!refused || objects(&ran.out).last().unwrap().contains(want), "{}", ran.out);
+        }
+    }
+}
+
+#[test]
+fn hostile_policies() {
+    let place = place("policies");
+    let cases = [
+        (write(&place, "directive", b"allow fs\nbogus"), "refused 6 at 2: a line that is no directive (line 2)"),
+        (write(&place, "default", b"default maybe"), "refused 7 at 1: a default that is neither allow nor deny (line 1)"),
+        (write(&place, "domain", b"allow gpu"), "refused 8 at 1: no such domain (line 1)"),
+        (write(&place, "bytes", b"allow fs\n\xff"), "refused 4 at 9: not well-formed UTF-8 (offset 9)"),
+        (write(&place, "long", &[b'#'; 65_537]), "refused 14 at 0: longer than is read"),
+        (place.join("none").into(), "cannot be read: No such file or directory (os error 2)"),
+        (place.clone().into(), "cannot be read: Is a directory (os error 21)"),
+    ];
+    for (policy, want) in &cases {
+        let want = format!("policy {}: {want}\n", policy.to_str().unwrap());
+        let files = [of_sample("tide.wasm"), of_sample("feed.wasm")];
+        for ran in [check(&files, policy, &[]), chain(&files, policy, &[])] {
+            assert_eq!((ran.status, &ran.out), (2, &want), "no module is held against it");
+        }
+        objects(&check(&files, policy, &["--json"]).out);
+    }
+}
+
+/// Names of files and names in files that would forge a line or move the cursor.
+#[test]
+fn names_cannot_forge_a_line() {
+    let place = place("names");
+    let evil = "x\nall.wasm can stand in\r\u{1b}[2K\u{202e}\u{2028}\u{7f}\u{85}\"\\";
+    let old = write(&place, OsStr::from_bytes(b"old\xff\n.wasm"), &module(&[("a", "b")], &[(evil, 0)], &[""; 0]));
+    let new = write(&place, format!("{}.wasm", &evil[..20].replace('/', "")), &module(&[(evil, evil)], &[("e", 0)], &[""; 0]));
+    let policy = write(&place, "p\n.policy", format!("policy {}", evil.replace('\n', " ")).as_bytes());
+    let both = [old.clone(), new.clone()];
+    for ran in [compare(&old, &new, &[]), check(&both, &policy, &[]), chain(&both, &policy, &[])] {
+        assert_eq!(ran.status, 1);
+        assert!(is_plain(&ran.out) && !ran.out.contains(['\u{202e}', '\u{2028}']), "{}", ran.out);
+        assert!(ran.out.lines().all(|line| !line.starts_with("all.wasm")), "{}", ran.out);
+        assert!(ran.out.contains(r"\xff\n.wasm"), "{}", ran.out);
+    }
+    let lines = [compare(&old, &new, &["--json"]), check(&both, &policy, &["--json"]), chain(&both, &policy, &["--json"])];
+    assert_eq!(lines.map(|ran| objects(&ran.out).len()), [1, 2, 2]);
+    let told = compare(&old, &new, &["--json"]).out;
+    assert!(told.contains(r#""name":"x\u000aall.wasm can stand in\u000d\u001b[2K\u202e\u2028\u007f\u0085\"\\""#), "{told}");
+    assert!(told.contains(r"old\ufffd\u000a.wasm") && told.contains("ff0a2e7761736d\""), "{told}");
+}
+
+#[test]
+fn what_a_comparison_prints() {
+    let (one, two, three) = (of_sample("contours-1.wasm"), of_sample("contours-2.wasm"), of_sample("contours-3.wasm"));
+    let ran = compare(&one, &two, &[]);
+    assert_eq!((ran.status, ran.err.as_str()), (1, ""));
+    let lines: Vec<_> = ran.out.lines().collect();
+    assert_eq!(lines[3], "removed  export scale (func)                                     breaks");
+    assert_eq!(lines[5], "added    need of network via wasi_snapshot_preview1 (sock_recv)  breaks");
+    assert!(lines[7].contains(" cannot stand in for ") && lines[7].ends_with(": 2 reasons"));
+    let ran = compare(&one, &three, &["--json"]);
+    assert_eq!((ran.status, objects(&ran.out).len()), (0, 1));
+    assert!(ran.out.contains(r#""answer":"stands in","compatible":true,"exports":[{"change":"added","name":"version","kind":"func"}]"#));
+}
+
+#[test]
+fn what_a_chain_gives() {
+    let builds = |numbers: &[usize]| numbers.iter().map(|n| of_sample(&format!("contours-{n}.wasm"))).collect::<Vec<_>>();
+    let portal = of_sample("portal.policy");
+    let given = |ran: &Ran| {
+        let lines = ran.out.lines().filter_map(|line| line.trim_start().strip_prefix("theorem  "));
+        lines.map(|line| line.split(' ').next().unwrap().to_string()).collect::<Vec<_>>()
+    };
+    let unbroken = chain(&builds(&[1, 3, 3]), &portal, &[]);
+    assert_eq!((unbroken.status, given(&unbroken)), (0, ["series", "policies", "checks"].map(Into::into).to_vec()), "{}", unbroken.out);
+    let broken = chain(&builds(&[1, 2, 3]), &portal, &[]);
+    assert_eq!((broken.status, given(&broken)), (1, vec![]), "{}", broken.out);
+    assert!(broken.out.contains("the chain is broken: the theorem gives nothing"), "{}", broken.out);
+    let denied = chain(&builds(&[2, 2]), &portal, &[]);
+    assert_eq!((denied.status, given(&denied)), (1, ["series", "policies"].map(Into::into).to_vec()), "{}", denied.out);
+    let told = chain(&builds(&[1, 3]), &portal, &["--json"]);
+    let lines = objects(&told.out);
+    assert!(lines[0].starts_with(r#"{"step":1,"#) && lines[0].contains(r#""compatible":true"#));
+    let end = r#""answer":"unbroken","unbroken":true,"theorem":["series","policies","checks"],"last_stands_in":true,"#;
+    assert!(lines[1].contains(end) && lines[1].ends_with(r#""first_compliant":true,"last_compliant":true}"#), "{}", lines[1]);
+    let refused = chain(&[builds(&[1]), vec![of_sample("README.md")]].concat(), &portal, &[]);
+    assert!(refused.status == 2 && refused.out.ends_with("README.md: refused 2 at 0: not a WebAssembly module (offset 0)\n"));
+}
+
+#[test]
+fn wrong_words() {
+    for words in [&[][..], &["check"], &["check", "a"], &["compare", "a"], &["chain", "a", "--policy", "p"], &["check", "--json=1"]] {
+        let ran = run(command().args(words));
+        assert_eq!((ran.status, ran.out.as_str()), (2, ""), "{words:?}");
+        assert!(ran.err.starts_with("viscrombal-host: ") && ran.err.contains("usage:"), "{}", ran.err);
+    }
+    assert_eq!(run(command().arg("--help")).status, 0);
+}
+
+#[test]
+fn a_closed_pipe_is_told() {
+    let files = vec![of_sample("tide.wasm"); 2000];
+    let mut command = command();
+    command.arg("check").args(&files).arg("--policy").arg(of_sample("portal.policy")).arg("--json");
+    let mut child = command.stdout(Stdio::piped()).stderr(Stdio::piped()).spawn().unwrap();
+    drop(child.stdout.take());
+    let output = child.wait_with_output().unwrap();
+    assert_eq!(output.status.code(), Some(2));
+    assert_eq!(String::from_utf8_lossy(&output.stderr), "viscrombal-host: cannot write: Broken pipe (os error 32)\n");
+}
+
+#[test]
+fn json_is_told_from_what_is_none() {
+    for good in ["{}", "[]", r#"{"a":[1,true,"\u000a"],"b":{}}"#] {
+        assert!(is_json(good), "{good}");
+    }
+    for bad in ["", "{", "{}x", r#"{"a"}"#, r#""\x""#, r#""\u00g0""#, "\"\n\"", "\"\u{e9}\"", "[1,]"] {
+        assert!(!is_json(bad), "{bad}");
+    }
+}
