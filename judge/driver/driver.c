@@ -11,14 +11,14 @@
 #include <stdlib.h>
 #include <string.h>
 
-enum { MARK = 0xa5, MOST_NUMBERS = 8192, MOST_STRINGS = 2, MOST_BYTES = 16777216 + 64 };
+enum { MARK = 0xa5, MOST_NUMBERS = 1 << 15, MOST_STRINGS = 2, MOST_BYTES = 16777216 + 64 };
 
 static uint64_t number[MOST_NUMBERS];
 static uint8_t *string[MOST_STRINGS];
 static uint32_t length[MOST_STRINGS];
 
 /* ---- the answer */
-static uint64_t told[1 << 18];
+static uint64_t told[1 << 20];
 static uint32_t tells;
 static uint8_t *output;
 static uint32_t output_length;
@@ -204,10 +204,122 @@ static void all_imports(void) { paths(false); }
 
 static void all_exports(void) { paths(true); }
 
+/* numbers: the room of both columns, the stated counts of tables 5 and 6, how many cells table 5 has, then the cells of both */
+static void needs(void) {
+    size_t *a = lend(number[0]), *b = lend(number[1]), *worlds = number + 5, *references = worlds + number[4];
+    struct judged_count_told r = judged_needs(string[0], length[0], worlds, number[4], references, given - 5 - number[4], a, number[0], b, number[1],
+                                              number[2], number[3]);
+    counted(r);
+    tell_table(a, number[0], r.count);
+    tell_table(b, number[1], r.count);
+}
+
+/* ---- two modules: a file, and its tables 2 and 3 with a stated count each */
+struct given {
+    const uint8_t *file;
+    size_t length, n2, n3, cells2, cells3;
+    const size_t *imports, *exports;
+};
+
+static struct judged_name_told export_byte(struct given b, struct given c, size_t change, size_t row, size_t k) {
+    return judged_export_name(b.file, b.length, b.exports, b.cells3, c.file, c.length, c.exports, c.cells3, b.n3, c.n3, change, row, k);
+}
+
+static struct judged_name_told source_byte(struct given b, struct given c, size_t change, size_t row, size_t k) {
+    return judged_source_name(b.file, b.length, b.imports, b.cells2, c.file, c.length, c.imports, c.cells2, b.n2, c.n2, change, row, k);
+}
+
+/* A name's length, then its bytes, one call after another. */
+static void tell_name(struct judged_name_told (*byte)(struct given, struct given, size_t, size_t, size_t), struct given b, struct given c,
+                      size_t change, size_t row) {
+    size_t len = byte(b, c, change, row, 0).len;
+    tell(len);
+    for (size_t k = 0; k < len; k++)
+        tell(byte(b, c, change, row, k).byte);
+}
+
+/* The range at the first two cells of a row, if there is such a row. */
+static void tell_range(const size_t *rows, size_t cells, size_t width, size_t row) {
+    bool there = row < cells / width;
+    tell(there ? rows[width * row] : 0), tell(there ? rows[width * row + 1] : SIZE_MAX);
+}
+
+/* How far a table's cells are zero from the first `used` on. */
+static size_t zeros_from(const size_t *t, size_t used, size_t cells) {
+    while (used < cells && t[used] == 0)
+        used++;
+    return used;
+}
+
+static void compared(struct given b, struct given c, size_t room8, size_t room9) {
+    size_t *xd = lend(room8), *cd = lend(room9);
+    struct judged_compare_told r =
+        judged_compare(b.file, b.length, b.imports, b.cells2, b.exports, b.cells3, c.file, c.length, c.imports, c.cells2, c.exports, c.cells3, xd,
+                       room8, cd, room9, b.n2, b.n3, c.n2, c.n3);
+    tell(r.number), tell(r.place), tell(r.exports), tell(r.capabilities), tell(r.compatible);
+    tell(zeros_from(xd, r.exports * 2, room8)), tell(zeros_from(cd, r.capabilities * 3, room9));
+    for (size_t i = 0; i < r.exports && i < room8 / 2; i++) {
+        size_t change = xd[2 * i], row = xd[2 * i + 1];
+        struct given g = change ? c : b;
+        tell(change), tell(row), tell_range(g.exports, g.cells3, 4, row);
+        tell(row < g.cells3 / 4 ? g.exports[4 * row + 2] : 0);
+        tell_name(export_byte, b, c, change, row);
+    }
+    for (size_t i = 0; i < r.capabilities && i < room9 / 3; i++) {
+        size_t change = cd[3 * i], row = cd[3 * i + 2];
+        struct given g = change ? c : b;
+        tell(change), tell(row), tell_range(g.imports, g.cells2, 5, row), tell(cd[3 * i + 1]);
+        tell_name(source_byte, b, c, change, row);
+    }
+    free(xd), free(cd);
+}
+
+/* numbers: the cells of tables 8 and 9. Both modules are read into tables at their limits first. */
+static void compare(void) {
+    static size_t sections[1280], names[12288], imports[2][5120], exports[2][4096];
+    struct given g[2];
+    for (int i = 0; i < 2; i++) {
+        struct judged_module_told m = judged_module(string[i], length[i], sections, 1280, imports[i], 5120, exports[i], 4096, names, 12288);
+        if (m.number != 0) {
+            tell(m.number), tell(m.place);
+            return;
+        }
+        g[i] = (struct given){string[i], length[i], m.imports, m.exports, 5120, 4096, imports[i], exports[i]};
+    }
+    compared(g[0], g[1], number[0], number[1]);
+}
+
+/* numbers from n on: the stated counts of tables 2 and 3 of both modules, how many cells the first three have, then the cells of the four */
+static void handed(const size_t *n, size_t numbers, struct given g[2]) {
+    const size_t *a = n + 7, *b = a + n[4], *c = b + n[5], *d = c + n[6];
+    g[0] = (struct given){string[0], length[0], n[0], n[1], n[4], n[5], a, b};
+    g[1] = (struct given){string[1], length[1], n[2], n[3], n[6], numbers - (d - n), c, d};
+}
+
+/* numbers: the cells of tables 8 and 9, then both modules' tables */
+static void differences(void) {
+    struct given g[2];
+    handed(number + 2, given - 2, g);
+    compared(g[0], g[1], number[0], number[1]);
+}
+
+/* numbers: the change, the row, both counts, how many cells the baseline's table has, then the cells of both */
+static void export_name(void) {
+    size_t cells = number[4], *b = number + 5, *c = b + cells, more = given - 5 - cells;
+    tell_name(export_byte, (struct given){string[0], length[0], 0, number[2], 0, cells, NULL, b},
+              (struct given){string[1], length[1], 0, number[3], 0, more, NULL, c}, number[0], number[1]);
+}
+
+static void source_name(void) {
+    size_t cells = number[4], *b = number + 5, *c = b + cells, more = given - 5 - cells;
+    tell_name(source_byte, (struct given){string[0], length[0], number[2], 0, cells, 0, b, NULL},
+              (struct given){string[1], length[1], number[3], 0, more, 0, c, NULL}, number[0], number[1]);
+}
+
 /* In the order of `Call` in src/case.rs. */
 static void (*const calls[])(void) = {
     NULL, uleb128, uleb128_u32, sleb128, name, module, functions, memories, namespaces, policy, token, write_policy, evaluate, import, path,
-    rewrite, manifest, requirements, all_imports, all_exports, check,
+    rewrite, manifest, requirements, all_imports, all_exports, check, needs, compare, differences, export_name, source_name,
 };
 
 /* ---- cases */

@@ -39,6 +39,25 @@ struct judged_count_told judged_imports(const uint8_t *text, size_t length, cons
                                         size_t cells6, size_t *sorted, size_t room, size_t n5, size_t n6);
 struct judged_count_told judged_exports(const uint8_t *text, size_t length, const size_t *worlds, size_t cells5, const size_t *references,
                                         size_t cells6, size_t *sorted, size_t room, size_t n5, size_t n6);
+struct judged_count_told judged_needs(const uint8_t *text, size_t length, const size_t *worlds, size_t cells5, const size_t *references,
+                                      size_t cells6, size_t *domains, size_t n1, size_t *rows, size_t n2, size_t n5, size_t n6);
+
+struct judged_compare_told {
+    uint32_t number;
+    size_t place, exports, capabilities;
+    bool compatible;
+};
+struct judged_name_told {
+    size_t len;
+    uint8_t byte;
+};
+struct judged_compare_told judged_compare(const uint8_t *baseline, size_t n, const size_t *bi, size_t cells_bi, const size_t *be, size_t cells_be,
+                                          const uint8_t *candidate, size_t m, const size_t *ci, size_t cells_ci, const size_t *ce, size_t cells_ce,
+                                          size_t *xd, size_t cells_xd, size_t *cd, size_t cells_cd, size_t nbi, size_t nbe, size_t nci, size_t nce);
+struct judged_name_told judged_export_name(const uint8_t *baseline, size_t n, const size_t *be, size_t cells_be, const uint8_t *candidate, size_t m,
+                                           const size_t *ce, size_t cells_ce, size_t nbe, size_t nce, size_t change, size_t row, size_t k);
+struct judged_name_told judged_source_name(const uint8_t *baseline, size_t n, const size_t *bi, size_t cells_bi, const uint8_t *candidate, size_t m,
+                                           const size_t *ci, size_t cells_ci, size_t nbi, size_t nci, size_t change, size_t row, size_t k);
 size_t judged_import(const uint8_t *source, size_t n, const uint8_t *field, size_t m);
 size_t judged_path(const uint8_t *path, size_t n);
 

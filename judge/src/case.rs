@@ -24,9 +24,14 @@ pub enum Call {
     AllImports,
     AllExports,
     Check,
+    Needs,
+    Compare,
+    Differences,
+    ExportName,
+    SourceName,
 }
 
-pub const CALLS: [(Call, &str); 20] = [
+pub const CALLS: [(Call, &str); 25] = [
     (Call::Uleb128, "uleb128"),
     (Call::Uleb128U32, "uleb128_u32"),
     (Call::Sleb128, "sleb128"),
@@ -47,6 +52,11 @@ pub const CALLS: [(Call, &str); 20] = [
     (Call::AllImports, "all_imports"),
     (Call::AllExports, "all_exports"),
     (Call::Check, "check"),
+    (Call::Needs, "needs"),
+    (Call::Compare, "compare"),
+    (Call::Differences, "differences"),
+    (Call::ExportName, "export_name"),
+    (Call::SourceName, "source_name"),
 ];
 
 #[derive(Clone, PartialEq, Eq, Debug)]

@@ -1,5 +1,6 @@
 //! The comparison of the port with the original: see docs/JUDGE.md.
 mod case;
+mod compare;
 mod limits;
 mod list;
 mod make;
@@ -60,7 +61,7 @@ fn the_port() -> Port {
 fn strip_input() -> bool {
     let mut source = String::new();
     std::io::stdin().read_to_string(&mut source).expect("text");
-    std::io::stdout().write_all(strip::stripped(&source).as_bytes()).is_ok()
+    std::io::stdout().write_all(strip::exported(&strip::stripped(&source)).as_bytes()).is_ok()
 }
 
 fn apart(says: impl Fn(&[u8]) -> String) -> bool {

@@ -1,6 +1,7 @@
 //! What the original says of a case, and what the port's answer says, in the same words. Where the original has nothing to say (limits,
 //! lent memory, tables that are handed in), docs/RULES.md decides, and this file says what that is.
 use crate::case::{hex, Answer, Call, Case};
+use crate::compare;
 use original::error::{Error, ErrorKind};
 use original::leb::Reader;
 use original::policy::{self, Domain, DomainRule, Policy, Requirement};
@@ -10,10 +11,10 @@ use original::wit::{InterfaceRef, Manifest, World};
 pub const MARK: u8 = 0xa5;
 pub const LONGEST_MODULE: usize = 16_777_216;
 pub const LONGEST_TEXT: usize = 65_536;
-const DOMAINS: [Domain; 7] =
+pub const DOMAINS: [Domain; 7] =
     [Domain::Filesystem, Domain::Environment, Domain::Clock, Domain::Network, Domain::Random, Domain::Stdio, Domain::Unknown];
 
-fn refused(number: u64, place: u64) -> String {
+pub fn refused(number: u64, place: u64) -> String {
     format!("refused {number} at {place}")
 }
 
@@ -41,6 +42,11 @@ pub fn original_says(case: &Case) -> String {
         Call::AllImports => paths(s(0), n, false),
         Call::AllExports => paths(s(0), n, true),
         Call::Check => checked(s(0), s(1)),
+        Call::Needs => needs(s(0), n),
+        Call::Compare => compare::files(s(0), s(1), [n[0], n[1]]),
+        Call::Differences => compare::tables(s(0), s(1), n),
+        Call::ExportName => compare::name(s(0), s(1), n, 4),
+        Call::SourceName => compare::name(s(0), s(1), n, 5),
     }
 }
 
@@ -60,12 +66,14 @@ pub fn port_says(case: &Case, a: &Answer) -> String {
         Call::Evaluate | Call::Check => answered(t, 26, |t| format!("{:?} {} {} {}", &t[2..23], t[23], t[24], t[25])),
         Call::Import | Call::Path => t[0].to_string(),
         Call::Manifest => port_manifest(s(0), t),
-        Call::Requirements => port_requirements(t),
+        Call::Requirements | Call::Needs => port_requirements(t),
+        Call::Compare | Call::Differences => compare::port(s(0), s(1), t),
+        Call::ExportName | Call::SourceName => compare::port_name(t),
     }
 }
 
 /// An answer of number, place and values: refused, every value is zero.
-fn answered(t: &[u64], len: usize, values: impl Fn(&[u64]) -> String) -> String {
+pub fn answered(t: &[u64], len: usize, values: impl Fn(&[u64]) -> String) -> String {
     if t.len() != len {
         return format!("an answer of {} numbers", t.len());
     }
@@ -78,7 +86,7 @@ fn answered(t: &[u64], len: usize, values: impl Fn(&[u64]) -> String) -> String 
 }
 
 /// The bytes of a range that the port gave.
-fn part(s: &[u8], from: u64, len: u64) -> String {
+pub fn part(s: &[u8], from: u64, len: u64) -> String {
     match from.checked_add(len) {
         Some(end) if end <= s.len() as u64 => hex(&s[from as usize..end as usize]),
         _ => format!("a range {from}, {len} outside"),
@@ -206,7 +214,7 @@ pub fn zeros_to(cells: &[u64]) -> String {
 
 // ---- tables handed in
 
-fn kind_of(byte: u64) -> ExternalKind {
+pub fn kind_of(byte: u64) -> ExternalKind {
     match byte {
         0 => ExternalKind::Func,
         1 => ExternalKind::Table,
@@ -216,14 +224,9 @@ fn kind_of(byte: u64) -> ExternalKind {
     }
 }
 
-/// 15 for table 2: the capacity if the count exceeds it, else the first row that is bad.
+/// 15 for table 2.
 fn imports_tested(cells: &[u64], n: u64, bad: impl Fn(&[u64]) -> bool) -> Option<String> {
-    let room = (cells.len() as u64 / 5).min(1024);
-    if n > room {
-        return Some(refused(15, room));
-    }
-    let row = cells.chunks_exact(5).take(n as usize).position(|r| r[4] > 255 || bad(r))?;
-    Some(refused(15, row as u64))
+    rows_tested(cells, 5, 1024, n, |r| r[4] > 255 || bad(r)).err()
 }
 
 fn kinds(numbers: &[u64], count: impl Fn(&Module) -> usize) -> String {
@@ -235,12 +238,12 @@ fn kinds(numbers: &[u64], count: impl Fn(&Module) -> usize) -> String {
     })
 }
 
-fn inside(s: &[u8], from: u64, len: u64) -> bool {
+pub fn inside(s: &[u8], from: u64, len: u64) -> bool {
     from.checked_add(len).is_some_and(|end| end <= s.len() as u64)
 }
 
 /// Bytes as a String whose order is that of the bytes: the original compares Strings, and a range need not be UTF-8.
-fn latin(s: &[u8], from: u64, len: u64) -> String {
+pub fn latin(s: &[u8], from: u64, len: u64) -> String {
     s[from as usize..(from + len) as usize].iter().map(|b| *b as char).collect()
 }
 
@@ -475,7 +478,7 @@ fn port_written(t: &[u64], bytes: &[u8]) -> String {
 
 // ---- domains
 
-fn number_of(d: Domain) -> usize {
+pub fn number_of(d: Domain) -> usize {
     DOMAINS.iter().position(|x| *x == d).unwrap()
 }
 
@@ -580,38 +583,76 @@ fn port_manifest(s: &[u8], t: &[u64]) -> String {
     said + &zeros_to(&zeros)
 }
 
-/// Tables 5 and 6 handed in: the room, both counts, how many cells table 5 has, the cells of both.
+/// Tables 5 and 6 handed in: both counts, how many cells table 5 has, the cells of both.
+struct References<'a> {
+    rows: Vec<&'a [u64]>,
+    text: &'a [u8],
+}
+
+/// 14 and 4; 15 for table 5, then for table 6.
+fn references<'a>(text: &'a [u8], n: &'a [u64]) -> Result<References<'a>, String> {
+    let (n5, n6) = (n[0], n[1]);
+    let (worlds, references) = n[3..].split_at(n[2] as usize);
+    whole(text)?;
+    rows_tested(worlds, 2, 64, n5, |r| !inside(text, r[0], r[1]))?;
+    rows_tested(references, 7, 1024, n6, |r| r[0] >= n5 || !inside(text, r[2], r[3]) || !inside(text, r[5], r[6]))?;
+    Ok(References { rows: references.chunks_exact(7).take(n6 as usize).collect(), text })
+}
+
+/// 15: the capacity if the count exceeds it, else the first row that is bad.
+pub fn rows_tested(cells: &[u64], width: usize, limit: u64, count: u64, bad: impl Fn(&[u64]) -> bool) -> Result<(), String> {
+    let room = ((cells.len() / width) as u64).min(limit);
+    if count > room {
+        return Err(refused(15, room));
+    }
+    cells.chunks_exact(width).take(count as usize).position(bad).map_or(Ok(()), |row| Err(refused(15, row as u64)))
+}
+
+impl References<'_> {
+    fn path(&self, r: &[u64]) -> String {
+        latin(self.text, r[2], r[3])
+    }
+
+    fn manifest(&self) -> Manifest {
+        let side = |wanted: bool| {
+            let rows = self.rows.iter().filter(|r| (r[1] != 0) == wanted);
+            rows.map(|r| InterfaceRef { path: self.path(r), signature: None }).collect()
+        };
+        Manifest { package: None, worlds: vec![World { name: String::new(), imports: side(false), exports: side(true) }] }
+    }
+
+    fn lowest(&self, path: &str, exported: bool) -> usize {
+        self.rows.iter().position(|r| (r[1] != 0) == exported && self.path(r) == path).unwrap()
+    }
+}
+
+/// The room, then the tables.
 fn paths(text: &[u8], n: &[u64], exports: bool) -> String {
-    let (room, n5, n6) = (n[0], n[1], n[2]);
-    let (worlds, references) = n[4..].split_at(n[3] as usize);
-    let tested = |cells: &[u64], width: usize, limit: u64, count: u64, bad: &dyn Fn(&[u64]) -> bool| {
-        let capacity = (cells.len() / width) as u64;
-        if count > capacity.min(limit) {
-            return Err(refused(15, capacity.min(limit)));
-        }
-        match cells.chunks_exact(width).take(count as usize).position(bad) {
-            Some(row) => Err(refused(15, row as u64)),
-            None => Ok(()),
-        }
-    };
-    let said = whole(text)
-        .and_then(|_| tested(worlds, 2, 64, n5, &|r| !inside(text, r[0], r[1])))
-        .and_then(|_| tested(references, 7, 1024, n6, &|r| r[0] >= n5 || !inside(text, r[2], r[3]) || !inside(text, r[5], r[6])));
-    let said = said.map(|()| {
-        let rows: Vec<&[u64]> = references.chunks_exact(7).take(n6 as usize).collect();
-        let refer = |r: &&[u64]| InterfaceRef { path: latin(text, r[2], r[3]), signature: None };
-        let side = |wanted: bool| rows.iter().filter(|r| (r[1] != 0) == wanted).map(refer).collect();
-        let world = World { name: String::new(), imports: side(false), exports: side(true) };
-        let m = Manifest { package: None, worlds: vec![world] };
+    let room = n[0];
+    let said = references(text, &n[1..]).map(|t| {
+        let m = t.manifest();
         let names = if exports { m.all_exports() } else { m.all_imports() };
-        let lowest = |name: &String| rows.iter().position(|r| (r[1] != 0) == exports && latin(text, r[2], r[3]) == *name).unwrap();
         if names.len() as u64 > room.min(1024) {
-            refused(13, 15)
-        } else {
-            format!("{}: {:?}", names.len(), names.iter().map(lowest).collect::<Vec<_>>())
+            return refused(13, 15);
         }
+        format!("{}: {:?}", names.len(), names.iter().map(|name| t.lowest(name, exports)).collect::<Vec<_>>())
     });
     said.unwrap_or_else(|why| why) + &zeros_to(&[room])
+}
+
+/// The room of both columns of table 7, then the tables.
+fn needs(text: &[u8], n: &[u64]) -> String {
+    let columns = &n[..2];
+    let said = references(text, &n[2..]).map(|t| {
+        let asked = policy::requirements_from_manifest(&t.manifest());
+        if asked.len() as u64 > columns[0].min(columns[1]).min(1024) {
+            return refused(13, 7);
+        }
+        let domains: Vec<usize> = asked.iter().map(|r| number_of(r.domain)).collect();
+        let rows: Vec<usize> = asked.iter().map(|r| t.lowest(&r.source, false)).collect();
+        format!("{} {domains:?} {rows:?}", asked.len())
+    });
+    said.unwrap_or_else(|why| why) + &zeros_to(columns)
 }
 
 // ---- requirements

@@ -1,6 +1,6 @@
 -- The answers in structs of numbers, from the promises of the calls. Assumes nothing.
 use Prim.Native.Nat.{ℕ, zero, suc}
-use mathlib.Core.Path.{_≡_, refl, subst}
+use mathlib.Core.Path.{_≡_, _∙_, refl, ap, subst}
 use mathlib.Core.List.{List}
 use Rattle.refusal.specs.Said.{saidAnswer}
 use Rattle.verdicts.specs.Evaluate.{evaluated, compliant, EvaluatedAs}
@@ -10,7 +10,11 @@ use Rattle.verdicts.specs.declared.Evaluation.{Evaluation}
 use Rattle.capi.specs.Policies.{numberIn, placeIn}
 use Rattle.capi.specs.Check.{judgedAs, evaluationTold}
 use Rattle.capi.proofs.Telling.{evaluation}
+use Rattle.differences.specs.declared.Change.{Change}
+use Rattle.differences.specs.declared.Change.the-variants.{Added}
+use Rattle.parts.specs.Part.{diffBytes}
 use Rattle.judged.specs.Policies.{stanceAt}
+use Rattle.judged.specs.Compares.{changeAt, nameTold}
 
 pub denied : (m : ℕ) → (m ≡ 0 → ⊥) → (m ≡ 1 → ⊥) → Deny ≡ stanceAt m
 denied zero a b = absurd (a refl)
@@ -21,3 +25,11 @@ pub evaluation-told : (ns : List ℕ) (n : ℕ) (p q : Policy) (e : Evaluation) 
     → judgedAs (numberIn (saidAnswer (e .answer))) (placeIn (saidAnswer (e .answer))) (e .verdicts) (e .set) (e .count) (compliant e)
     ≡ evaluationTold (evaluated ns n q)
 evaluation-told ns n p q e i h = evaluation (evaluated ns n q) e (subst (λ (z : Policy). EvaluatedAs (evaluated ns n z) e) i h)
+
+pub added : (m : ℕ) → (m ≡ 0 → ⊥) → Added ≡ changeAt m
+added zero a = absurd (a refl)
+added (suc m) a = refl
+
+pub name-told : (b bt : List ℕ) (nb : ℕ) (c ct : List ℕ) (nc w : ℕ) (x y : Change) (row k : ℕ) {l : List ℕ} → x ≡ y
+    → l ≡ diffBytes b bt nb c ct nc w x row → nameTold l k ≡ nameTold (diffBytes b bt nb c ct nc w y row) k
+name-told b bt nb c ct nc w x y row k i h = ap (λ z. nameTold z k) (h ∙ ap (λ z. diffBytes b bt nb c ct nc w z row) i)

@@ -2,3 +2,4 @@
 pub mod Rows
 pub mod Policies
 pub mod Manifests
+pub mod Compares

@@ -8,7 +8,9 @@ ghost use Rattle.wit.specs.Manifest.{sizes, lend, saidManifest, manifestAt};
 ghost use mathlib.Core.Bool.{true, false};
 ghost use Rattle.references.specs.Queries.{pathsOf};
 ghost use Rattle.judged.specs.Manifests.{manifestTold, ManifestTells};
-ghost use Rattle.judged.specs.Rows.{ListTells};
+ghost use Rattle.requirements.specs.Requirements.{roomOf};
+ghost use Rattle.interfaces.specs.Interfaces.{referenceDomain, manifestRows};
+ghost use Rattle.judged.specs.Rows.{ListTells, RequireTells};
 
 #[repr(C)]
 pub struct ManifestTold {
@@ -89,4 +91,31 @@ pub extern "C" fn judged_exports(
         (length (now (sorted .entry)))) (now (sorted .entry)) (now (sorted .exit)) r ⌝ }
 {
     count_of(references::all_exports(text, worlds, n5, references, n6, sorted))
+}
+
+// Table 7: of each path that is imported the domain and the lowest row, by bytes.
+#[no_mangle]
+pub extern "C" fn judged_needs(
+    text: &[u8],
+    worlds: &[usize],
+    references: &[usize],
+    domains: &mut [usize],
+    rows: &mut [usize],
+    n5: usize,
+    n6: usize,
+) -> CountTold
+    ensures { λ r. ⌜ RequireTells (referenceDomain (now (text .entry)) (now (references .entry)))
+        (manifestRows (now (text .entry)) (now (worlds .entry)) n5 (now (references .entry)) n6
+        (roomOf (length (now (domains .entry))) (length (now (rows .entry)))))
+        (now (domains .entry)) (now (domains .exit)) (now (rows .entry)) (now (rows .exit)) r ⌝ }
+{
+    count_of(interfaces::requirements_from_manifest(
+        text,
+        worlds,
+        n5,
+        references,
+        n6,
+        domains,
+        rows,
+    ))
 }

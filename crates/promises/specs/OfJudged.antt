@@ -21,6 +21,14 @@ use Rattle.judged.proofs.manifests.judged_imports.Kinds as all-imports-kinds
 use Rattle.judged.proofs.manifests.judged_imports.Reads as all-imports-reads
 use Rattle.judged.proofs.manifests.judged_exports.Kinds as all-exports-kinds
 use Rattle.judged.proofs.manifests.judged_exports.Reads as all-exports-reads
+use Rattle.judged.proofs.manifests.judged_needs.Kinds as needs-kinds
+use Rattle.judged.proofs.manifests.judged_needs.Reads as needs-reads
+use Rattle.judged.proofs.compares.judged_compare.Kinds as compare-kinds
+use Rattle.judged.proofs.compares.judged_compare.Reads as compare-reads
+use Rattle.judged.proofs.compares.judged_export_name.Kinds as export-name-kinds
+use Rattle.judged.proofs.compares.judged_export_name.Reads as export-name-reads
+use Rattle.judged.proofs.compares.judged_source_name.Kinds as source-name-kinds
+use Rattle.judged.proofs.compares.judged_source_name.Reads as source-name-reads
 use Rattle.judged.proofs.policies.judged_token.Kinds as token-kinds
 use Rattle.judged.proofs.policies.judged_token.Reads as token-reads
 use Rattle.judged.proofs.policies.judged_write.Kinds as write-kinds
@@ -123,3 +131,32 @@ pub all-exports-leave : (κs : Lfts 4) (a : Dens κs all-exports-kinds.ps) (x y 
     (s t : AtExit (endedOf 4 all-exports-kinds.ps all-exports-kinds.r) κs)
     → all-exports-reads.Post κs a x s → all-exports-reads.Post κs a y t → now (s .1 .1 .1 .0) ≡ now (t .1 .1 .1 .0)
 all-exports-leave κs a x y s t p q = p .table-is ∙ sym (q .table-is)
+
+pub needs-decides : Decides needs-kinds.ps needs-kinds.r needs-reads.Post
+needs-decides κs a x y s t p q = p .answer-is ∙ sym (q .answer-is)
+
+module _ (κs : Lfts 5) (a : Dens κs needs-kinds.ps) (x y : resT needs-kinds.r κs .Denot)
+    (s t : AtExit (endedOf 5 needs-kinds.ps needs-kinds.r) κs) (p : needs-reads.Post κs a x s) (q : needs-reads.Post κs a y t) where
+  pub needs-domains-left : now (s .1 .1 .1 .0) ≡ now (t .1 .1 .1 .0)
+  needs-domains-left = p .domains-are ∙ sym (q .domains-are)
+
+  pub needs-rows-left : now (s .1 .1 .1 .1 .0) ≡ now (t .1 .1 .1 .1 .0)
+  needs-rows-left = p .rows-are ∙ sym (q .rows-are)
+
+pub compare-decides : Decides compare-kinds.ps compare-kinds.r compare-reads.Post
+compare-decides κs a x y s t p q = p .answer-is ∙ sym (q .answer-is)
+
+module _ (κs : Lfts 7) (a : Dens κs compare-kinds.ps) (x y : resT compare-kinds.r κs .Denot)
+    (s t : AtExit (endedOf 7 compare-kinds.ps compare-kinds.r) κs)
+    (p : compare-reads.Post κs a x s) (q : compare-reads.Post κs a y t) where
+  pub export-changes-left : now (s .1 .1 .1 .1 .1 .1 .0) ≡ now (t .1 .1 .1 .1 .1 .1 .0)
+  export-changes-left = p .table8-is ∙ sym (q .table8-is)
+
+  pub capability-changes-left : now (s .1 .1 .1 .1 .1 .1 .1 .0) ≡ now (t .1 .1 .1 .1 .1 .1 .1 .0)
+  capability-changes-left = p .table9-is ∙ sym (q .table9-is)
+
+pub export-name-decides : Decides export-name-kinds.ps export-name-kinds.r export-name-reads.Post
+export-name-decides κs a x y s t p q = p ∙ sym q
+
+pub source-name-decides : Decides source-name-kinds.ps source-name-kinds.r source-name-reads.Post
+source-name-decides κs a x y s t p q = p ∙ sym q

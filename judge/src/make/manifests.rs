@@ -110,6 +110,7 @@ pub fn fixed(court: &mut Court) {
         hear(court, format!("world {name}\n").as_bytes(), ROOMY);
     }
     around(court);
+    many_paths(court);
     for length in 65_535..=65_537 {
         hear(court, "/".repeat(length).as_bytes(), ROOMY);
         hear(court, ("world ".to_string() + &"b".repeat(length - 6)).as_bytes(), ROOMY);
@@ -141,9 +142,12 @@ fn around(court: &mut Court) {
     }
 }
 
+const TEXTS: [&[u8]; 2] = [b"abaab\xc3\xa9ab", b"wasi:io/a wasi:random wasi:clocks@1 cli/env io"];
+
 /// Tables 5 and 6 with ranges of a text, now and then ones that leave it, and counts.
 fn handed(court: &mut Court, r: &mut Random) {
-    let text = b"abaab\xc3\xa9ab";
+    let words = r.one_in(2);
+    let text = TEXTS[words as usize];
     let range = |r: &mut Random| {
         let from = r.below(text.len() + 1);
         let len = r.below(text.len() - from + 1).min(r.below(4));
@@ -151,6 +155,7 @@ fn handed(court: &mut Court, r: &mut Random) {
             0 => [from as u64, (text.len() - from + 1) as u64],
             1 => [u64::MAX, 1],
             2 => [2, u64::MAX],
+            3..=50 if words => [[0, 9], [0, 7], [10, 11], [22, 13], [22, 11], [36, 7], [36, 3], [44, 2], [15, 6]][r.below(9)],
             _ => [from as u64, len as u64],
         }
     };
@@ -168,8 +173,41 @@ fn handed(court: &mut Court, r: &mut Random) {
     cells.extend((0..if r.one_in(4) { r.below(7) } else { 0 }).map(|_| 0));
     let n5 = if r.one_in(10) { r.below(5) } else { rows5 } as u64;
     let n6 = if r.one_in(8) { r.below(10) } else { rows6 } as u64;
+    let tables = [&[n5, n6, len5], &cells[..]].concat();
     for call in [Call::AllImports, Call::AllExports] {
-        court.hear(Case::new(call, &[&[r.below(6) as u64, n5, n6, len5], &cells[..]].concat(), &[text]));
+        court.hear(Case::new(call, &[&[r.below(6) as u64], &tables[..]].concat(), &[text]));
+    }
+    court.hear(Case::new(Call::Needs, &[&[r.below(6) as u64, r.below(6) as u64], &tables[..]].concat(), &[text]));
+}
+
+/// Paths of a text, one byte each: as many as table 7 takes, one more, room for one less; and 14, 4, 15 and 13, every two at once.
+fn many_paths(court: &mut Court) {
+    let rows = |n: u64, step: u64| -> Vec<u64> { (0..n).flat_map(|i| [0, 0, i * step, 2, 0, 0, 0]).collect() };
+    let text: Vec<u8> = (0..1025u32).flat_map(|i| [0x21 + (i / 40) as u8, 0x21 + (i % 40) as u8]).collect();
+    for n in [1023, 1024, 1025] {
+        for (a, b) in [(1023, 2000), (1024, 1024), (2000, 1023), (1025, 1025)] {
+            for step in [0, 2] {
+                let tables = [&[1, n, 2, 0, 1], &rows(n, step)[..]].concat();
+                court.hear(Case::new(Call::Needs, &[&[a, b], &tables[..]].concat(), &[&text]));
+                court.hear(Case::new(Call::AllImports, &[&[a], &tables[..]].concat(), &[&text]));
+            }
+        }
+    }
+    let long = vec![b'a'; 65_537];
+    let texts: [&[u8]; 5] = [b"ab", b"a\xff", &long, &long[1..], b"\xff"];
+    for text in texts {
+        for worlds in [[0, 1], [9, 9], [70_000, 0]] {
+            for reference in [[0, 0, 0, 1, 0, 0, 0], [1, 0, 0, 1, 0, 0, 0], [0, 0, 70_000, 1, 0, 0, 0], [0, 0, 0, 1, 1, 0, 70_000]] {
+                for (n5, n6) in [(1, 1), (2, 1), (1, 2), (0, 0), (0, 1)] {
+                    for room in 0..2 {
+                        let tables = [&[n5, n6, 2], &worlds[..], &reference[..]].concat();
+                        court.hear(Case::new(Call::Needs, &[&[room, 1], &tables[..]].concat(), &[text]));
+                        court.hear(Case::new(Call::AllImports, &[&[room], &tables[..]].concat(), &[text]));
+                        court.hear(Case::new(Call::AllExports, &[&[room], &tables[..]].concat(), &[text]));
+                    }
+                }
+            }
+        }
     }
 }
 

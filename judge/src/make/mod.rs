@@ -1,4 +1,5 @@
 //! The inputs: exhaustive short ones, good ones made by a grammar, damaged copies. A round of seeded ones is the same for the same seed.
+mod contrasts;
 mod manifests;
 mod modules;
 mod numbers;
@@ -17,6 +18,7 @@ pub fn fixed(court: &mut Court) {
     manifests::fixed(court);
     modules::fixed(court);
     tables::fixed(court);
+    contrasts::fixed(court);
 }
 
 pub fn seeded(court: &mut Court, seed: u64) {
@@ -26,6 +28,7 @@ pub fn seeded(court: &mut Court, seed: u64) {
     manifests::seeded(court, r);
     modules::seeded(court, r);
     tables::seeded(court, r);
+    contrasts::seeded(court, r);
     for _ in 0..600 {
         let (mut file, mut text) = (modules::module(r), policies::lines(r).into_bytes());
         if r.one_in(6) {

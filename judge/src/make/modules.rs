@@ -4,7 +4,7 @@ use crate::case::{Call, Case};
 use crate::random::Random;
 use crate::Court;
 
-const HEADER: &[u8] = b"\0asm\x01\0\0\0";
+pub const HEADER: &[u8] = b"\0asm\x01\0\0\0";
 /// Cells of tables at their full limits, and of roomy small ones.
 const FULL: [u64; 4] = [256 * 5, 1024 * 5, 1024 * 4, 4096 * 3];
 const ROOMY: [u64; 4] = [40, 60, 48, 36];
@@ -15,13 +15,7 @@ fn hear(court: &mut Court, file: &[u8], cells: [u64; 4]) {
 
 /// A number, now and then in more bytes than it takes.
 fn number(n: u64, r: &mut Random) -> Vec<u8> {
-    let mut out = Vec::new();
-    let mut n = n;
-    while n >= 0x80 {
-        out.push(n as u8 | 0x80);
-        n >>= 7;
-    }
-    out.push(n as u8);
+    let mut out = plain(n as usize);
     if r.one_in(12) {
         let most = 10 - out.len();
         let more = 1 + r.below(most);
@@ -167,18 +161,20 @@ fn small(r: &mut Random) -> [u64; 4] {
     [5, 5, 4, 3].map(|w| w * r.below(4) as u64 + if r.one_in(4) { r.below(w as usize) as u64 } else { 0 })
 }
 
+/// A number in as few bytes as it takes.
+pub fn plain(n: usize) -> Vec<u8> {
+    let mut out = Vec::new();
+    let mut n = n;
+    while n >= 0x80 {
+        out.push(n as u8 | 0x80);
+        n >>= 7;
+    }
+    out.push(n as u8);
+    out
+}
+
 /// n equal entries in one section, and a fault or nothing after them.
 fn many(id: u8, entry: &[u8], n: usize, stated: usize, fault: &[u8]) -> Vec<u8> {
-    let plain = |n: usize| {
-        let mut out = Vec::new();
-        let mut n = n;
-        while n >= 0x80 {
-            out.push(n as u8 | 0x80);
-            n >>= 7;
-        }
-        out.push(n as u8);
-        out
-    };
     let mut payload = plain(stated);
     for _ in 0..n {
         payload.extend(entry);
