@@ -1,5 +1,4 @@
 // The calls, by the word that a record has for each.
-use crate::manifests;
 use crate::modules;
 use crate::policies;
 use text::order::equal;
@@ -15,13 +14,16 @@ pub(crate) fn make_call(
     if on_module(word, a, cells, got) {
         return true;
     }
+    if on_kind(word, cells, got) {
+        return true;
+    }
     if on_domain(word, a, b, cells, got) {
         return true;
     }
     if on_policy(word, a, cells, got) {
         return true;
     }
-    on_manifest(word, a, cells, got)
+    on_requirements(word, a, cells, got)
 }
 
 fn on_module(word: &[u8], a: &[u8], cells: &[usize], got: &mut [usize]) -> bool {
@@ -41,6 +43,10 @@ fn on_module(word: &[u8], a: &[u8], cells: &[usize], got: &mut [usize]) -> bool 
         modules::namespaces(a, cells, got);
         return true;
     }
+    false
+}
+
+fn on_kind(word: &[u8], cells: &[usize], got: &mut [usize]) -> bool {
     if equal(word, b"kind") {
         modules::kind(cells, got);
         return true;
@@ -93,6 +99,14 @@ fn on_policy(word: &[u8], a: &[u8], cells: &[usize], got: &mut [usize]) -> bool 
         policies::token(a, cells, got);
         return true;
     }
+    if equal(word, b"write") {
+        policies::write(a, cells, got);
+        return true;
+    }
+    false
+}
+
+fn on_requirements(word: &[u8], a: &[u8], cells: &[usize], got: &mut [usize]) -> bool {
     if equal(word, b"requirements") {
         policies::requirements(a, cells, got);
         return true;
@@ -103,18 +117,6 @@ fn on_policy(word: &[u8], a: &[u8], cells: &[usize], got: &mut [usize]) -> bool 
     }
     if equal(word, b"evaluate") {
         policies::evaluate(cells, got);
-        return true;
-    }
-    if equal(word, b"write") {
-        policies::write(a, cells, got);
-        return true;
-    }
-    false
-}
-
-fn on_manifest(word: &[u8], a: &[u8], cells: &[usize], got: &mut [usize]) -> bool {
-    if equal(word, b"manifest") {
-        manifests::read(a, cells, got);
         return true;
     }
     false

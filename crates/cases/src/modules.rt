@@ -1,64 +1,44 @@
 // Calls on modules: what each answers, as cells.
-use crate::cells::bit;
-use crate::cells::cell;
-use crate::cells::count;
-use crate::cells::given;
-use crate::cells::lay;
-use crate::cells::lay_bytes;
-use crate::cells::lent;
-use crate::cells::place;
-use crate::cells::put;
+use fields::answers::put_count;
+use fields::answers::put_refusal;
+use fields::answers::put_slug;
+use fields::bit;
+use fields::cell;
+use fields::count;
+use fields::given;
+use fields::lay;
+use fields::lent;
+use fields::place;
 use kinds::ExternalKind;
-use refusal::Count;
-use refusal::Refusal;
-use refusal::Slug;
-use refusal::Written;
 use wasm::Module;
 use wasm::ModuleRead;
 
-pub(crate) fn put_refusal(got: &mut [usize], why: Refusal) {
-    lay(
-        got,
-        0,
-        &[refusal::number(why) as usize, refusal::place(why)],
-    );
-}
-
-pub(crate) fn put_count(got: &mut [usize], answer: Count) {
-    match answer {
-        Count::Rows(n) => put(got, 2, n),
-        Count::Refused(why) => put_refusal(got, why),
-    }
-}
-
-pub(crate) fn put_written(got: &mut [usize], answer: Written) {
-    match answer {
-        Written::Bytes(n) => put(got, 2, n),
-        Written::Refused(why) => put_refusal(got, why),
-    }
-}
-
-// A word of a kind, a section or a domain.
-pub(crate) fn put_slug(got: &mut [usize], word: Slug) {
-    let bytes = word.bytes;
-    lay_bytes(got, place(0), table::range(&bytes, 0, word.len));
-}
-
 pub(crate) fn read(file: &[u8], cells: &[usize], got: &mut [usize]) {
     let mut sections = [7usize; 1372];
+    let mut names = [7usize; 12400];
+    let n = lent(cells, 1, 1372);
+    let m = lent(cells, 4, 12400);
+    read_rows(file, cells, &mut sections[..n], &mut names[..m], got);
+}
+
+// Tables 2 and 3, beside the others.
+fn read_rows(
+    file: &[u8],
+    cells: &[usize],
+    sections: &mut [usize],
+    names: &mut [usize],
+    got: &mut [usize],
+) {
     let mut imports = [7usize; 5200];
     let mut exports = [7usize; 4200];
-    let mut names = [7usize; 12400];
-    let a = lent(cells, 1, 1372);
-    let b = lent(cells, 2, 5200);
-    let c = lent(cells, 3, 4200);
-    let d = lent(cells, 4, 12400);
+    let n = lent(cells, 2, 5200);
+    let m = lent(cells, 3, 4200);
     read_into(
         file,
-        &mut sections[..a],
-        &mut imports[..b],
-        &mut exports[..c],
-        &mut names[..d],
+        sections,
+        &mut imports[..n],
+        &mut exports[..m],
+        names,
         got,
     );
 }
