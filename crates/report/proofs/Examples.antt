@@ -1,0 +1,26 @@
+-- Worked examples of the definitions. Assumes nothing.
+use mathlib.Core.Path.{_≡_, refl}
+use mathlib.Core.List.{List, [], _∷_}
+use Rattle.refusal.specs.declared.Refusal.the-variants.{Full, TooLong}
+use Rattle.report.specs.Decimal.{digits, decimalOf}
+use Rattle.report.specs.Escape.{plain, shown, escaped}
+use Rattle.report.specs.Texts.{refusalText}
+
+zero-is : decimalOf 0 ≡ 48 ∷ []
+unfolding decimalOf digits
+zero-is = refl
+
+-- 65536
+many-are : decimalOf 65536 ≡ 54 ∷ 53 ∷ 53 ∷ 51 ∷ 54 ∷ []
+unfolding decimalOf digits
+many-are = refl
+
+-- a, LF, backslash, 0xff
+name-is : escaped (97 ∷ 10 ∷ 92 ∷ 255 ∷ []) ≡ 97 ∷ 92 ∷ 120 ∷ 48 ∷ 97 ∷ 92 ∷ 120 ∷ 53 ∷ 99 ∷ 92 ∷ 120 ∷ 102 ∷ 102 ∷ []
+unfolding plain shown escaped
+name-is = refl
+
+-- refused 14 at 0
+too-long-is : refusalText TooLong ≡ 114 ∷ 101 ∷ 102 ∷ 117 ∷ 115 ∷ 101 ∷ 100 ∷ 32 ∷ 49 ∷ 52 ∷ 32 ∷ 97 ∷ 116 ∷ 32 ∷ 48 ∷ 10 ∷ []
+unfolding refusalText decimalOf digits
+too-long-is = refl

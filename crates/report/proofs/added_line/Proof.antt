@@ -1,0 +1,30 @@
+-- `added_line` meets its contract. Assumes nothing.
+use mathlib.Core.Path.{_∙_}
+use native.Mathlib.Omega.{arith}
+use borrow.Author.Needs.{needs}
+use Rattle.domains.specs.Domain.{numberOf}
+use Rattle.domains.proofs.DomainLaws.{number-small}
+use Rattle.report.specs.Texts.{headText}
+use Rattle.report.proofs.Escapes.{told-same}
+use Rattle.report.proofs.Telling.{line-text}
+use Rattle.report.proofs.Reasons.{head-long, added-is}
+use Rattle.report.proofs.added_line.Statement.{statement}
+use Rattle.report.proofs.added_line.Tie as tie
+
+returns : tie.Need-returns
+returns c =
+    let f = c .before .before in
+    let g = f .before .before .before in
+    let t = g .before .before .before in
+    let a = t .before .before .before .args in
+    let n = numberOf (a .d) in
+    told-same (f .frame .ensures)
+    (added-is n (a .source .now) _ (number-small (a .d))
+    (g .range .ensures .0 ∙ line-text (headText n) (omega (arith, head-long n (number-small (a .d)))) (t .domain-head .ensures)))
+
+pub added-line-spec : {M : Type 1} → statement M
+added-line-spec =
+    tie.close
+    (tie.spec
+    (λ c κs. search needs) (λ c. search needs) (λ c κs. search needs) (λ c. search needs) (λ c κs. search needs)
+    (λ c. search needs) returns)

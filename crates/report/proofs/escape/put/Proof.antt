@@ -1,0 +1,51 @@
+-- `escape::put` meets its contract. Assumes nothing.
+use mathlib.Core.Path.{_≡_, refl}
+use mathlib.Core.Bool.{true}
+use Prim.Native.Nat.{_-_}
+use native.Mathlib.Omega.{arith}
+use lib.ListN.{length, take}
+use borrow.Author.Needs.{needs}
+use Rattle.rewriting.specs.Writing.{Wrote}
+use Rattle.report.specs.Escape.{escaped}
+use Rattle.report.proofs.Escapes.{put-none, put-next, put-room, put-all}
+use Rattle.report.proofs.escape.put.Statement.{statement}
+use Rattle.report.proofs.escape.put.Tie as tie
+
+abbrev Inv-loop : tie.InvT-loop
+Inv-loop out₀ at bytes n₀ i₀ i-end out n i = (i-end ≡ length bytes) × Wrote out₀ at true (take i bytes) n out
+
+abbrev μ-loop : tie.MeasureT-loop
+μ-loop out₀ at bytes n₀ i₀ i-end out n i = i-end - i
+
+loop-holds : tie.Need-loop-holds Inv-loop μ-loop
+loop-holds c = (refl, put-none _ _ (c .before .before .args .bytes .now))
+
+put-byte-requires : tie.Need-put-byte-requires Inv-loop μ-loop
+put-byte-requires c κs =
+    let t = c .before .before in
+    let l = t .before in
+    let s = l .before .before .before .args .bytes .now in
+    omega (arith, put-room s (l .loop .i) (t .loop-test .taken) (l .loop .inv .1))
+
+loop-again : tie.Need-loop-again Inv-loop μ-loop
+loop-again c =
+    let p = c .before .before in
+    let t = p .before .before .before in
+    let l = t .before in
+    let s = l .before .before .before .args .bytes .now in
+    (refl, put-next s (l .loop .i) (t .loop-test .taken) (l .loop .inv .1) (p .put-byte .ensures))
+
+same-length : tie.Need-same-length Inv-loop μ-loop
+same-length c = c .before .loop .inv .1 .long
+
+returns : tie.Need-returns Inv-loop μ-loop
+returns c =
+    let l = c .before in
+    put-all (l .before .before .before .args .bytes .now) (l .loop .i) (c .loop-test .left) (l .loop .inv .1)
+
+pub put-spec : {M : Type 1} → statement M
+put-spec =
+    tie.close
+    (tie.spec
+    Inv-loop μ-loop loop-holds (λ c. search needs) put-byte-requires (λ c. search needs) (λ c. search needs)
+    loop-again same-length returns)
