@@ -5,6 +5,8 @@ use Prim.Native.Nat.{ℕ}
 use lib.ListN.{take, drop}
 use Rattle.refusal.specs.Pick.{pick}
 use Rattle.text.specs.Find.{begins, same, indexOf}
+use Rattle.domains.specs.declared.classify.Fit.{Fit}
+use Rattle.domains.specs.declared.classify.Fit.the-variants as fit
 
 -- a name begins with a word, or is it
 pub data Test : Type 0 where
@@ -78,3 +80,8 @@ importDomain m f =
     (pick (same unstable m) (judged preview f)
     (pick (begins wasi m) (pathDomain m)
     6))
+
+-- ---- for the code: the test that it makes of a word
+abbrev pub testBy : Fit → List ℕ → Test
+testBy fit.Front w = front w
+testBy fit.Exact w = exact w

@@ -5,31 +5,46 @@ use text::order::equal;
 use text::order::starts;
 ghost use mathlib.Core.Path.{_≡_};
 ghost use Rattle.domains.specs.Domain.{numberOf};
-ghost use Rattle.domains.specs.Classify.{judged, preview, heads, headOf, upToByte, pathDomain, importDomain};
+ghost use Rattle.domains.specs.Classify.{passes, testBy, judged, preview, heads, headOf, upToByte, pathDomain, importDomain};
+
+// How a name is held against a word: it begins with the word, or it is the word.
+enum Fit {
+    Front,
+    Exact,
+}
+
+fn passes(s: &[u8], fit: Fit, word: &[u8]) -> bool
+    ensures { λ r. ⌜ r ≡ passes (testBy fit (now (word .entry))) (now (s .entry)) ⌝ }
+{
+    match fit {
+        Fit::Front => starts(s, word),
+        Fit::Exact => equal(s, word),
+    }
+}
 
 // A field of preview 1. Descriptors of streams cannot be told from those of files: `fd_` is filesystem.
 fn preview_of(s: &[u8]) -> Domain
     ensures { λ r. ⌜ numberOf r ≡ judged preview (now (s .entry)) ⌝ }
 {
-    if starts(s, b"fd_") {
+    if passes(s, Fit::Front, b"fd_") {
         return Domain::Filesystem;
     }
-    if starts(s, b"path_") {
+    if passes(s, Fit::Front, b"path_") {
         return Domain::Filesystem;
     }
-    if starts(s, b"environ_") {
+    if passes(s, Fit::Front, b"environ_") {
         return Domain::Environment;
     }
-    if starts(s, b"args_") {
+    if passes(s, Fit::Front, b"args_") {
         return Domain::Environment;
     }
-    if starts(s, b"clock_") {
+    if passes(s, Fit::Front, b"clock_") {
         return Domain::Clock;
     }
-    if starts(s, b"sock_") {
+    if passes(s, Fit::Front, b"sock_") {
         return Domain::Network;
     }
-    if equal(s, b"random_get") {
+    if passes(s, Fit::Exact, b"random_get") {
         return Domain::Random;
     }
     Domain::Unknown
@@ -89,13 +104,13 @@ pub fn classify_path(path: &[u8]) -> Domain
 pub fn classify_import(source: &[u8], field: &[u8]) -> Domain
     ensures { λ r. ⌜ numberOf r ≡ importDomain (now (source .entry)) (now (field .entry)) ⌝ }
 {
-    if starts(source, b"wasi_snapshot_preview1") {
+    if passes(source, Fit::Front, b"wasi_snapshot_preview1") {
         return preview_of(field);
     }
-    if equal(source, b"wasi_unstable") {
+    if passes(source, Fit::Exact, b"wasi_unstable") {
         return preview_of(field);
     }
-    if starts(source, b"wasi:") {
+    if passes(source, Fit::Front, b"wasi:") {
         return classify_path(source);
     }
     Domain::Unknown

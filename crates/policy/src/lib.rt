@@ -6,10 +6,10 @@ use crate::reader::Heard;
 use refusal::Answer;
 use refusal::Refusal;
 ghost use mathlib.Core.Path.{_≡_};
-ghost use Prim.Native.Nat.{_≤_};
+ghost use Prim.Native.Nat.{_≤_, _<_};
 ghost use Rattle.refusal.specs.Said.{refused, refusedBy};
 ghost use Rattle.policy.specs.Piece.{linesOf};
-ghost use Rattle.policy.specs.Reader.{run, obey, stanceOf, zeroPolicy, readPolicy, ReadAs};
+ghost use Rattle.policy.specs.Reader.{run, obey, stanceOf, withRule, zeroPolicy, readPolicy, ReadAs};
 ghost use Rattle.policy.specs.Heard.{obeyed, Small};
 
 pub enum Stance {
@@ -64,6 +64,16 @@ fn stance_of(allow: bool) -> Stance
     if allow { Stance::Allow } else { Stance::Deny }
 }
 
+// The policy with a rule for domain d, in the place of the one it had.
+fn with_rule(p: Policy, d: usize, rule: Slot) -> Policy
+    requires { ⌜ d < 7 ⌝ }
+    ensures { λ r. ⌜ r ≡ withRule d rule p ⌝ }
+{
+    let mut v = p;
+    v.rules[d] = rule;
+    v
+}
+
 // The policy after what a line says.
 fn obeyed_by(p: Policy, heard: Heard) -> Policy
     requires { ⌜ Small heard ⌝ }
@@ -89,17 +99,17 @@ fn obeyed_by(p: Policy, heard: Heard) -> Policy
         }
         Heard::Plain(allow, d) => {
             let stance = stance_of(allow);
-            v.rules[d] = Slot {
+            let rule = Slot {
                 stance,
                 from: 0,
                 len: 0,
             };
-            return v;
+            return with_rule(v, d, rule);
         }
         Heard::Listed(allow, d, from, len) => {
             let stance = stance_of(allow);
-            v.rules[d] = Slot { stance, from, len };
-            return v;
+            let rule = Slot { stance, from, len };
+            return with_rule(v, d, rule);
         }
     }
 }
