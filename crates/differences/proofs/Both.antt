@@ -1,8 +1,8 @@
 -- 14 and 15 of two modules, by what the calls say. Assumes nothing.
-use mathlib.Core.Path.{_≡_}
+use mathlib.Core.Path.{_≡_, refl}
 use mathlib.Core.Bool.{Bool, true, false}
 use Prim.Native.Nat.{ℕ, _≤_, _<_}
-use borrow.Author.Tests.{lt-ltb, le-ltb}
+use borrow.Author.Tests.{ltb-false, lt-ltb, le-ltb}
 use lib.Dec.{ltb}
 use lib.ListN.{length}
 use Rattle.refusal.specs.Pick.{pick}
@@ -55,3 +55,15 @@ module _ (b c : Given) where
       by true t q = absurd (never q)
       by false true q = absurd (never q)
       by false false q = let f = followed (tablesTested b) (λ u. tablesTested c) q in (good-of b (f .first), good-of c (f .then))
+
+  -- neither file is too long
+  pub both-short : bothTested b c ≡ accepted tt → (length (b .file) ≤ 16777216) × (length (c .file) ≤ 16777216)
+  unfolding bothTested
+  both-short e = by (ltb 16777216 (length (b .file))) refl (ltb 16777216 (length (c .file))) refl e
+    where
+      by : (s : Bool) → ltb 16777216 (length (b .file)) ≡ s → (t : Bool) → ltb 16777216 (length (c .file)) ≡ t
+          → pick s (refused 14 0) (pick t (refused 14 0) (follow (tablesTested b) (λ u. tablesTested c))) ≡ accepted tt
+          → (length (b .file) ≤ 16777216) × (length (c .file) ≤ 16777216)
+      by true p t q e = absurd (never e)
+      by false p true q e = absurd (never e)
+      by false p false q e = (ltb-false 16777216 (length (b .file)) p, ltb-false 16777216 (length (c .file)) q)
