@@ -116,7 +116,8 @@ impl<'a> Compatibility<'a> {
         &self.capability_diffs
     }
 
-    /// Why the candidate cannot stand in, as the archive writes it: in the original's words, LF after each reason.
+    /// Why the candidate cannot stand in, as the archive writes it: in the original's words, LF after each reason; empty where it is
+    /// an archive that writes none.
     pub fn reasons(&self) -> &str {
         &self.reasons
     }
