@@ -12,9 +12,7 @@ use Rattle.text.specs.Order.{cmpNat, andThen, cmpBytes}
 use Rattle.text.specs.declared.order.Order.{Order}
 use Rattle.text.specs.declared.order.Order.the-variants.{Less, Equal, Greater}
 use Rattle.table.specs.Table.{cellOf}
-use Rattle.sorting.specs.Order.{Lawful}
 use Rattle.sorting.specs.Sort.{sort, keep, upFrom}
-use Rattle.sorting.proofs.Orders.{lawful-nat, lawful-bytes, lawful-on, lawful-then}
 use Rattle.kinds.specs.Kinds.{kindOf}
 use Rattle.imports.specs.Queries.{kindIs}
 use Rattle.differences.specs.View.{Export, Need, exportAt, needAt, exportRows, row}
@@ -22,6 +20,7 @@ use Rattle.differences.specs.Rank.{rankOf}
 use Rattle.differences.specs.Differences.{Entry, slugOf, cmpExport, cmpNeed, exportOrder, needOrder, changes}
 use Rattle.differences.specs.Numbers.{sided}
 use Rattle.differences.proofs.Ranks.{rank-order}
+use Rattle.differences.proofs.Only.{lawful-export, lawful-exports, lawful-needs}
 use Rattle.differences.proofs.Numbered.{sided-first, sided-second, number-order}
 use Rattle.compat.specs.declared.keys.Key.{Key}
 use Rattle.compat.specs.Keying.{keyIn, keyName, printOf, exportKey, needKey, exportKeys, needKeys, Printed, tableOf, missing}
@@ -85,14 +84,6 @@ module _ (b be c ce : List ℕ) (nb : ℕ) where
   export-orders {e = e} {f = f} p q h m o =
       rw (p .major-is, q .major-is, p .name-is, q .name-is, p .minor-is, q .minor-is, rank-order (e .kind) (f .kind) h m)
       (sym (then-assoc (cmpBytes (e .name) (f .name)) (cmpBytes (slugOf (e .kind)) (slugOf (f .kind))) o))
-
-lawful-export : Lawful cmpExport
-unfolding cmpExport
-lawful-export = lawful-then (lawful-on lawful-bytes (λ e. e .name)) (lawful-on lawful-bytes (λ e. slugOf (e .kind)))
-
-lawful-exports : Lawful exportOrder
-unfolding exportOrder
-lawful-exports = lawful-then (lawful-on lawful-export (λ e. e .row .key)) (lawful-on lawful-nat (λ e. e .row .at))
 
 keep-all : (l : List ℕ) → keep (λ i. true) l ≡ l
 keep-all [] = refl
@@ -174,14 +165,6 @@ module _ (b bi c ci : List ℕ) (nb : ℕ) where
   need-orders {e = e} {f = f} p q o =
       rw (p .major-is, q .major-is, p .name-is, q .name-is, p .minor-is, q .minor-is)
       (sym (then-assoc (cmpNat (e .domain) (f .domain)) (cmpBytes (e .source) (f .source)) o))
-
-lawful-need : Lawful cmpNeed
-unfolding cmpNeed
-lawful-need = lawful-then (lawful-on lawful-nat (λ n. n .domain)) (lawful-on lawful-bytes (λ n. n .source))
-
-lawful-needs : Lawful needOrder
-unfolding needOrder
-lawful-needs = lawful-on lawful-need (λ e. e .row .key)
 
 pub needs-listed : (b bi c ci : List ℕ) (nb nc : ℕ)
     → map (needNumbered b bi nb c ci) (missing b c (tableOf 14336 (needKeys b bi nb c ci) (nb + nc)) nb (nb + nc) false)

@@ -3,4 +3,5 @@ pub mod Tests
 pub mod Both
 pub mod Ranks
 pub mod Numbered
+pub mod Only
 pub mod Examples
