@@ -2,6 +2,7 @@
 use compat::Compared;
 use differences::Change;
 use fields::answers::put_refusal;
+use fields::answers::put_written;
 use fields::bit;
 use fields::cell;
 use fields::count;
@@ -114,4 +115,34 @@ pub(crate) fn import_source<'a, 'b, 'c>(
 fn put_part(got: &mut [usize], part: &[u8]) {
     put(got, 2, part.len());
     lay_bytes(got, place(0), part);
+}
+
+// Why the candidate cannot stand in for the baseline, by tables 8 and 9 as a record gives them.
+pub(crate) fn explain(a: &[u8], b: &[u8], cells: &[usize], got: &mut [usize]) {
+    let mut out = [0xaau8; 8000];
+    let n = lent(cells, 0, 8000);
+    explain_into(a, b, cells, &mut out[..n], got);
+}
+
+// The answer, and every byte of the output.
+fn explain_into(a: &[u8], b: &[u8], cells: &[usize], out: &mut [u8], got: &mut [usize]) {
+    let written = reasons::breaking_reasons(
+        a,
+        given(cells, 2),
+        count(cells, 2),
+        given(cells, 3),
+        count(cells, 3),
+        b,
+        given(cells, 12),
+        count(cells, 12),
+        given(cells, 13),
+        count(cells, 13),
+        given(cells, 8),
+        count(cells, 8),
+        given(cells, 9),
+        count(cells, 9),
+        out,
+    );
+    put_written(got, written);
+    lay_bytes(got, place(0), out);
 }

@@ -56,5 +56,9 @@ fn on_builds<'a, 'b, 'c, 'd>(
         builds::import_source(a, b, cells, got);
         return true;
     }
+    if equal(word, b"reasons") {
+        builds::explain(a, b, cells, got);
+        return true;
+    }
     false
 }

@@ -1,4 +1,4 @@
-// Records of worked cases, for the programs that run them: crates/cases/data/README.md says how one is read.
+// Records of worked cases, for the programs that run them.
 pub mod file;
 pub mod prepare;
 pub mod record;

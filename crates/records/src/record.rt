@@ -1,4 +1,4 @@
-// A record, read from its line byte by byte: ID | CALL | INPUT | ANSWER. data/README.md says what the words mean.
+// A record, read from its line byte by byte: ID | CALL | INPUT | ANSWER. crates/cases/data/README.md says what its words mean.
 use crate::file::read_file;
 use crate::prepare::give_manifest;
 use crate::prepare::give_module;
