@@ -8,17 +8,15 @@ use crate::lists::lay_exports;
 use crate::lists::lay_needs;
 use crate::lists::list_exports;
 use crate::lists::list_needs;
-use differences::check_exports;
-use imports::check_imports;
+use differences::check_both;
 use refusal::Answer;
 use refusal::Refusal;
 ghost use mathlib.Core.Path.{_≡_};
 ghost use mathlib.Core.List.{[]};
 ghost use lib.ListN.{length};
-ghost use Rattle.refusal.specs.Said.{saidAnswer};
 ghost use Rattle.table.specs.Table.{laid, capacityOf};
-ghost use Rattle.differences.specs.Compared.{given, viewed, lists, roomed, tablesTested, compared, Compares};
-ghost use Rattle.compat.specs.Answer.{saidCompared, bothTested, Good};
+ghost use Rattle.differences.specs.Compared.{given, viewed, Good, lists, roomed, compared, Compares};
+ghost use Rattle.compat.specs.Answer.{saidCompared};
 
 // How long the two lists are, and whether no export was removed and no capability added.
 pub enum Compared {
@@ -28,44 +26,6 @@ pub enum Compared {
         compatible: bool,
     },
     Refused(Refusal),
-}
-
-// 15 for tables 2 and 3 of a module.
-fn check_tables(file: &[u8], imports: &[usize], m: usize, exports: &[usize], n: usize) -> Answer
-    ensures { λ r. ⌜ saidAnswer r ≡ tablesTested (given (now (file .entry)) (now (imports .entry)) m (now (exports .entry)) n) ⌝ }
-{
-    match check_imports(file.len(), imports, m) {
-        Answer::Refused(r) => Answer::Refused(r),
-        Answer::Accepted => check_exports(file.len(), exports, n),
-    }
-}
-
-// 14 for either file, then 15 for the baseline's tables and for the candidate's.
-fn check_both(
-    baseline: &[u8],
-    bi: &[usize],
-    nbi: usize,
-    be: &[usize],
-    nbe: usize,
-    candidate: &[u8],
-    ci: &[usize],
-    nci: usize,
-    ce: &[usize],
-    nce: usize,
-) -> Answer
-    ensures { λ r. ⌜ saidAnswer r ≡ bothTested (given (now (baseline .entry)) (now (bi .entry)) nbi (now (be .entry)) nbe)
-        (given (now (candidate .entry)) (now (ci .entry)) nci (now (ce .entry)) nce) ⌝ }
-{
-    if baseline.len() > 16777216 {
-        return Answer::Refused(Refusal::TooLong);
-    }
-    if candidate.len() > 16777216 {
-        return Answer::Refused(Refusal::TooLong);
-    }
-    match check_tables(baseline, bi, nbi, be, nbe) {
-        Answer::Refused(r) => Answer::Refused(r),
-        Answer::Accepted => check_tables(candidate, ci, nci, ce, nce),
-    }
 }
 
 // The lists of tables that passed, into tables 8 and 9, which are zero.

@@ -39,7 +39,7 @@ module _ (n : ℕ) (exports : List ℕ) (i : ℕ) where
   export-good e h = rw (← e, h)
 
 -- ---- tables that pass
-never-false : true ≡ false → ⊥
+pub never-false : true ≡ false → ⊥
 never-false e = let z : _≡_ {A = ℕ} 0 1 = cc in omega arith
 
 first-all : (bad : ℕ → Bool) (k i j : ℕ) → firstFrom bad i k ≡ accepted tt → i ≤ j → j < i + k → bad j ≡ false
@@ -56,7 +56,8 @@ first-all bad (suc k) i j e h l = by (bad i) refl e (λ q m. first-all bad k (i 
         here true d = rest r (omega (arith, ltb-true i j d))
         here false d = let same : j ≡ i = omega (arith, ltb-false i j d) in rw same q
 
-tested-all : (room n : ℕ) (bad : ℕ → Bool) → tested room n bad ≡ accepted tt → (n ≤ room) × ((j : ℕ) → j < n → bad j ≡ false)
+-- the count is within the capacity, and no row is bad
+pub tested-all : (room n : ℕ) (bad : ℕ → Bool) → tested room n bad ≡ accepted tt → (n ≤ room) × ((j : ℕ) → j < n → bad j ≡ false)
 unfolding tested
 tested-all room n bad e = by (ltb room n) refl e
   where

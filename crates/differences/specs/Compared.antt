@@ -47,6 +47,18 @@ tablesTested g =
     follow (importsTested (length (g .file)) (g .imports) (g .importCount))
     (λ u. exportsTested (length (g .file)) (g .exports) (g .exportCount))
 
+-- 14, of either file; 15, the baseline's tables and then the candidate's
+unfoldable pub bothTested : Given → Given → Said (Unit {0})
+bothTested b c =
+    pick (ltb 16777216 (length (b .file))) (refused 14 0)
+    (pick (ltb 16777216 (length (c .file))) (refused 14 0)
+    (follow (tablesTested b) (λ u. tablesTested c)))
+
+-- tables that passed
+pub record Good (g : Given) : Type 0 where
+  pub imports-good : importsTested (length (g .file)) (g .imports) (g .importCount) ≡ accepted tt
+  pub exports-good : exportsTested (length (g .file)) (g .exports) (g .exportCount) ≡ accepted tt
+
 pub record Lists : Type 0 where
   pub exports : List (Entry Export)
   pub needs : List (Entry Need)

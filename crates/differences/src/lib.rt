@@ -1,4 +1,5 @@
 // compat.rs: what changed from a baseline to a candidate, and what both hand in.
+use imports::check_imports;
 use refusal::Answer;
 use refusal::Refusal;
 use refusal::Slug;
@@ -7,7 +8,7 @@ ghost use mathlib.Core.Path.{_≡_};
 ghost use Rattle.refusal.specs.Said.{saidAnswer};
 ghost use Rattle.refusal.specs.Slug.{slugOf};
 ghost use Rattle.differences.specs.Rank.{rankOf, changeWord};
-ghost use Rattle.differences.specs.Compared.{changeNumber, exportFits, exportsTested};
+ghost use Rattle.differences.specs.Compared.{changeNumber, exportFits, exportsTested, given, tablesTested, bothTested};
 
 pub enum Change {
     // in the baseline, and not in the candidate
@@ -74,4 +75,42 @@ pub fn check_exports(length: usize, exports: &[usize], n: usize) -> Answer
         i += 1;
     }
     Answer::Accepted
+}
+
+// 15 for tables 2 and 3 of a module.
+pub fn check_tables(file: &[u8], imports: &[usize], m: usize, exports: &[usize], n: usize) -> Answer
+    ensures { λ r. ⌜ saidAnswer r ≡ tablesTested (given (now (file .entry)) (now (imports .entry)) m (now (exports .entry)) n) ⌝ }
+{
+    match check_imports(file.len(), imports, m) {
+        Answer::Refused(r) => Answer::Refused(r),
+        Answer::Accepted => check_exports(file.len(), exports, n),
+    }
+}
+
+// 14 for either file, then 15 for the baseline's tables and for the candidate's.
+pub fn check_both(
+    baseline: &[u8],
+    bi: &[usize],
+    nbi: usize,
+    be: &[usize],
+    nbe: usize,
+    candidate: &[u8],
+    ci: &[usize],
+    nci: usize,
+    ce: &[usize],
+    nce: usize,
+) -> Answer
+    ensures { λ r. ⌜ saidAnswer r ≡ bothTested (given (now (baseline .entry)) (now (bi .entry)) nbi (now (be .entry)) nbe)
+        (given (now (candidate .entry)) (now (ci .entry)) nci (now (ce .entry)) nce) ⌝ }
+{
+    if baseline.len() > 16777216 {
+        return Answer::Refused(Refusal::TooLong);
+    }
+    if candidate.len() > 16777216 {
+        return Answer::Refused(Refusal::TooLong);
+    }
+    match check_tables(baseline, bi, nbi, be, nbe) {
+        Answer::Refused(r) => Answer::Refused(r),
+        Answer::Accepted => check_tables(candidate, ci, nci, ce, nce),
+    }
 }

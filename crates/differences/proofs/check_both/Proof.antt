@@ -1,10 +1,10 @@
--- `compat::check_both` meets its contract. Assumes nothing.
+-- `differences::check_both` meets its contract. Assumes nothing.
 use mathlib.Core.Path.{sym, _∙_, ap}
 use borrow.Author.Needs.{needs}
 use Rattle.refusal.specs.Said.{saidAnswer}
-use Rattle.compat.proofs.Answering.{first-long, second-long, first-bad, second-next}
-use Rattle.compat.proofs.check_both.Statement.{statement}
-use Rattle.compat.proofs.check_both.Tie as tie
+use Rattle.differences.proofs.Both.{first-long, second-long, first-bad, second-next}
+use Rattle.differences.proofs.check_both.Statement.{statement}
+use Rattle.differences.proofs.check_both.Tie as tie
 
 returns : tie.Need-returns
 returns c = first-long _ _ (c .if1 .taken)

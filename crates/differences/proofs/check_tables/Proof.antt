@@ -1,10 +1,10 @@
--- `compat::check_tables` meets its contract. Assumes nothing.
+-- `differences::check_tables` meets its contract. Assumes nothing.
 use mathlib.Core.Path.{sym, _∙_, ap}
 use borrow.Author.Needs.{needs}
 use Rattle.refusal.specs.Said.{saidAnswer}
-use Rattle.compat.proofs.Answering.{tables-bad, tables-next}
-use Rattle.compat.proofs.check_tables.Statement.{statement}
-use Rattle.compat.proofs.check_tables.Tie as tie
+use Rattle.differences.proofs.Both.{tables-bad, tables-next}
+use Rattle.differences.proofs.check_tables.Statement.{statement}
+use Rattle.differences.proofs.check_tables.Tie as tie
 
 returns : tie.Need-returns
 returns c = let r = c .before in tables-bad _ (sym (r .before .before .check-imports .ensures) ∙ ap saidAnswer (r .r .given .1))

@@ -1,0 +1,78 @@
+-- What tables that passed say, and the answer of the whole. Assumes nothing.
+use mathlib.Core.Path.{_≡_, refl, sym, _∙_, ap}
+use mathlib.Core.Bool.{Bool, true, false}
+use mathlib.Core.List.{List}
+use Prim.Native.Nat.{ℕ, _≤_, _<_}
+use native.Mathlib.Omega.{arith}
+use borrow.Author.Tests.{ltb-true, eq-eqb}
+use lib.Dec.{eqb, ltb}
+use lib.ListN.{length}
+use Rattle.refusal.specs.Pick.{pick}
+use Rattle.refusal.specs.Said.{accepted, refusedBy, saidAnswer, follow}
+use Rattle.refusal.specs.declared.Answer.{Answer}
+use Rattle.refusal.specs.declared.Refusal.{Refusal}
+use Rattle.refusal.specs.declared.Written.{Written}
+use Rattle.refusal.specs.declared.Written.the-variants.{Refused}
+use Rattle.refusal.proofs.Following.{followed}
+use Rattle.table.specs.Table.{cellOf, capacityOf}
+use Rattle.table.proofs.Cells.{capacity-limit}
+use Rattle.differences.specs.Compared.{Given, Good}
+use Rattle.differences.proofs.Tests.{tested-all, never-false, exports-good}
+use Rattle.differences.proofs.Both.{both-good, both-short}
+use Rattle.writing.specs.Writing.{Formed}
+use Rattle.reasons.specs.Reasons.{Diffs, exportDiffFits, exportDiffBad, exportDiffsTested, needDiffBad, needDiffsTested, diffsTested}
+use Rattle.reasons.specs.Reasons.{reasonsTested, reasoned, reasonsOf, KindsFit, Reasons}
+
+-- a removed row that passed points into the baseline's table
+row-in : (nb nc : ℕ) (xd : List ℕ) (i : ℕ) → exportDiffBad nb nc xd i ≡ false → cellOf xd 2 i 0 ≡ 0 → cellOf xd 2 i 1 < nb
+unfolding exportDiffBad exportDiffFits
+row-in nb nc xd i e z =
+    by (ltb (cellOf xd 2 i 1) nb) refl
+    (ap (λ (t : Bool). pick (ltb (cellOf xd 2 i 1) (pick t nb nc)) false true) (sym (eq-eqb (cellOf xd 2 i 0) 0 z)) ∙ e)
+  where
+    by : (t : Bool) → ltb (cellOf xd 2 i 1) nb ≡ t → pick t false true ≡ false → cellOf xd 2 i 1 < nb
+    by true q r = ltb-true (cellOf xd 2 i 1) nb q
+    by false q r = absurd (never-false r)
+
+pub record Fine (b c : Given) (d : Diffs) : Type 0 where
+  pub kinds : KindsFit (b .exports) (d .exports) (d .exportCount)
+  pub files : (length (b .file) ≤ 16777216) × (length (c .file) ≤ 16777216)
+  pub counts : (d .exportCount ≤ 2048) × (d .needCount ≤ 2048)
+
+module _ (b c : Given) (d : Diffs) where
+  fine-of : reasonsTested b c d ≡ accepted tt → Fine b c d
+  unfolding reasonsTested diffsTested exportDiffsTested needDiffsTested
+  fine-of e =
+      let f = followed _ _ e in
+      let g = followed _ _ (f .then) in
+      let x = tested-all (capacityOf (length (d .exports)) 2 2048) (d .exportCount) (exportDiffBad (b .exportCount) (c .exportCount)
+      (d .exports)) (g .first) in
+      let n = tested-all (capacityOf (length (d .needs)) 3 2048) (d .needCount) (needDiffBad (b .importCount) (c .importCount)
+      (d .needs)) (g .then) in
+      let k = exports-good (length (b .file)) (b .exports) (b .exportCount) (both-good b c (f .first) .0 .exports-good) in
+      record {
+        kinds = λ i h z. k .1 (cellOf (d .exports) 2 i 1) (row-in (b .exportCount) (c .exportCount) (d .exports) i (x .1 i h) z);
+        files = both-short b c (f .first);
+        counts = (
+          omega (arith, x .0, capacity-limit (length (d .exports)) 2 2048),
+          omega (arith, n .0, capacity-limit (length (d .needs)) 3 2048),
+        );
+      }
+
+  -- by what the test said
+  module _ {a : Answer} (tested : saidAnswer a ≡ reasonsTested b c d) where
+    pub fine : a ≡ Answer.Accepted → Fine b c d
+    fine e = fine-of (sym tested ∙ ap saidAnswer e)
+
+    pub reasons-refused : (before : List ℕ) {w : Refusal} → a ≡ Answer.Refused w → Reasons b c d before (Refused w) before
+    unfolding reasoned follow
+    reasons-refused before {w} e =
+        let z : reasonsTested b c d ≡ refusedBy w = sym tested ∙ ap saidAnswer e in
+        record { answer = rw z; output = rw z }
+
+    pub reasons-formed : (before : List ℕ) → a ≡ Answer.Accepted → {r : Written} {after : List ℕ}
+        → Formed (reasonsOf b c d) before r after → Reasons b c d before r after
+    unfolding reasoned follow
+    reasons-formed before e f =
+        let z : reasonsTested b c d ≡ accepted tt = sym tested ∙ ap saidAnswer e in
+        rw z f

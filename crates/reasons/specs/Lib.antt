@@ -1,0 +1,2 @@
+-- What the writer of reasons promises.
+pub mod Reasons

@@ -1,0 +1,61 @@
+-- docs/RULES.md, "Policy writer" and "Differences": bytes written into a lent buffer one after the other, or only counted. Assumes nothing.
+use mathlib.Core.Bool.{Bool, true, false}
+use mathlib.Core.Path.{_≡_}
+use mathlib.Core.List.{List, _++_}
+use Prim.Native.Nat.{ℕ, _+_, _≤_, min}
+use lib.Dec.{leb, ltb}
+use lib.ListN.{length, take, drop}
+use Rattle.refusal.specs.Pick.{pick, both}
+use Rattle.refusal.specs.Said.{Said, accepted, refused, saidWritten}
+use Rattle.refusal.specs.declared.Written.{Written}
+
+-- the last number that a place can be
+abbrev pub most : ℕ
+most = 18446744073709551615
+
+-- the place after n bytes from `at` on
+unfoldable pub past : ℕ → ℕ → ℕ
+past at n = min (at + n) most
+
+-- d with w from `at` on
+abbrev pub laid : List ℕ → ℕ → List ℕ → List ℕ
+laid d at w = take at d ++ w ++ drop (at + length w) d
+
+-- d after w was put at `at`: with `go`, and where w fits, w is there; else d is as it was
+unfoldable pub putAt : List ℕ → ℕ → Bool → List ℕ → List ℕ
+putAt d at go w = pick (both go (leb (at + length w) (length d))) (laid d at w) d
+
+-- one call: the buffer was d and is x, and r is the place after w
+pub record Puts (d : List ℕ) (at : ℕ) (go : Bool) (w : List ℕ) (r : ℕ) (x : List ℕ) : Type 0 where
+  pub next-is : r ≡ past at (length w)
+  pub output-is : x ≡ putAt d at go w
+
+-- calls in a row, which together were to write w: without `go` nothing is written, with it w is, if it fits
+pub record Wrote (d : List ℕ) (at : ℕ) (go : Bool) (w : List ℕ) (r : ℕ) (x : List ℕ) : Type 0 where
+  pub next : r ≡ past at (length w)
+  pub long : length x ≡ length d
+  pub kept : go ≡ false → x ≡ d
+  pub left : go ≡ true → at + length w ≤ length d → at + length w ≤ most → x ≡ laid d at w
+
+-- ---- what is written into so much room: 16, with the bytes needed, or these bytes
+unfoldable pub roomFor : List ℕ → ℕ → Said (List ℕ)
+roomFor w room = pick (ltb room (length w)) (refused 16 (length w)) (accepted w)
+
+-- the answer: how many bytes
+abbrev pub counted : Said (List ℕ) → Said ℕ
+counted (accepted w) = accepted (length w)
+counted (refused n p) = refused n p
+
+-- the buffer d after it: the bytes, and what stood past them; all of it after a refusal
+abbrev pub left : List ℕ → Said (List ℕ) → List ℕ
+left d (accepted w) = w ++ drop (length w) d
+left d (refused n p) = d
+
+-- ---- the promise: the answer, and the buffer, which was d and is x
+pub record Told (o : Said (List ℕ)) (d : List ℕ) (r : Written) (x : List ℕ) : Type 0 where
+  pub answer : saidWritten r ≡ counted o
+  pub output : x ≡ left d o
+
+-- for the code: of bytes that are known
+abbrev pub Formed : List ℕ → List ℕ → Written → List ℕ → Type 0
+Formed w d r x = Told (roomFor w (length d)) d r x
