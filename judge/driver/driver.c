@@ -316,10 +316,50 @@ static void source_name(void) {
               (struct given){string[1], length[1], number[3], 0, more, 0, c, NULL}, number[0], number[1]);
 }
 
+/* ---- the cursor's other functions, and words */
+static void u8(void) { unsigned_read(judged_u8(string[0], length[0], number[0])); }
+
+static void u32_le(void) { unsigned_read(judged_u32_le(string[0], length[0], number[0])); }
+
+/* numbers: where the cursor stands, how many bytes */
+static void take_bytes(void) {
+    struct viscrombal_range r = judged_take(string[0], length[0], number[0], number[1]);
+    tell(r.number), tell(r.place), tell(r.from), tell(r.len), tell(r.next);
+}
+
+static void skip(void) {
+    struct judged_skip_told r = judged_skip(string[0], length[0], number[0], number[1]);
+    tell(r.number), tell(r.place), tell(r.next);
+}
+
+static void left(void) {
+    struct judged_left_told r = judged_left(string[0], length[0], number[0]);
+    tell(r.at), tell(r.left), tell(r.none);
+}
+
+/* A word's length, then its bytes. */
+static void tell_word(struct judged_name_told (*byte)(size_t, size_t), size_t of) {
+    size_t len = byte(of, 0).len;
+    tell(len);
+    for (size_t k = 0; k < len; k++)
+        tell(byte(of, k).byte);
+}
+
+static struct judged_name_told kind_word(size_t b, size_t k) { return judged_kind(b, k); }
+
+static struct judged_name_told section_word(size_t id, size_t k) { return judged_section(id, k); }
+
+static void kind(void) { tell(judged_kind_byte(number[0])), tell_word(kind_word, number[0]); }
+
+static void section(void) { tell_word(section_word, number[0]); }
+
+static void change(void) { tell_word(judged_change, number[0]); }
+
 /* In the order of `Call` in src/case.rs. */
 static void (*const calls[])(void) = {
     NULL, uleb128, uleb128_u32, sleb128, name, module, functions, memories, namespaces, policy, token, write_policy, evaluate, import, path,
     rewrite, manifest, requirements, all_imports, all_exports, check, needs, compare, differences, export_name, source_name,
+    u8, u32_le, take_bytes, skip, left, kind, section, change,
 };
 
 /* ---- cases */

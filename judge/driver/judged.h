@@ -58,6 +58,23 @@ struct judged_name_told judged_export_name(const uint8_t *baseline, size_t n, co
                                            const size_t *ce, size_t cells_ce, size_t nbe, size_t nce, size_t change, size_t row, size_t k);
 struct judged_name_told judged_source_name(const uint8_t *baseline, size_t n, const size_t *bi, size_t cells_bi, const uint8_t *candidate, size_t m,
                                            const size_t *ci, size_t cells_ci, size_t nbi, size_t nci, size_t change, size_t row, size_t k);
+struct judged_skip_told {
+    uint32_t number;
+    size_t place, next;
+};
+struct judged_left_told {
+    size_t at, left;
+    bool none;
+};
+struct viscrombal_unsigned judged_u8(const uint8_t *s, size_t length, size_t at);
+struct viscrombal_unsigned judged_u32_le(const uint8_t *s, size_t length, size_t at);
+struct viscrombal_range judged_take(const uint8_t *s, size_t length, size_t at, size_t n);
+struct judged_skip_told judged_skip(const uint8_t *s, size_t length, size_t at, size_t n);
+struct judged_left_told judged_left(const uint8_t *s, size_t length, size_t at);
+struct judged_name_told judged_kind(uint8_t b, size_t k);
+uint8_t judged_kind_byte(uint8_t b);
+struct judged_name_told judged_section(uint8_t id, size_t k);
+struct judged_name_told judged_change(size_t change, size_t k);
 size_t judged_import(const uint8_t *source, size_t n, const uint8_t *field, size_t m);
 size_t judged_path(const uint8_t *path, size_t n);
 

@@ -29,9 +29,17 @@ pub enum Call {
     Differences,
     ExportName,
     SourceName,
+    U8,
+    U32Le,
+    Take,
+    Skip,
+    Left,
+    Kind,
+    Section,
+    ChangeWord,
 }
 
-pub const CALLS: [(Call, &str); 25] = [
+pub const CALLS: [(Call, &str); 33] = [
     (Call::Uleb128, "uleb128"),
     (Call::Uleb128U32, "uleb128_u32"),
     (Call::Sleb128, "sleb128"),
@@ -57,6 +65,14 @@ pub const CALLS: [(Call, &str); 25] = [
     (Call::Differences, "differences"),
     (Call::ExportName, "export_name"),
     (Call::SourceName, "source_name"),
+    (Call::U8, "u8"),
+    (Call::U32Le, "u32_le"),
+    (Call::Take, "take"),
+    (Call::Skip, "skip"),
+    (Call::Left, "left"),
+    (Call::Kind, "kind"),
+    (Call::Section, "section"),
+    (Call::ChangeWord, "change"),
 ];
 
 #[derive(Clone, PartialEq, Eq, Debug)]

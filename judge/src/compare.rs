@@ -149,6 +149,9 @@ pub fn port(baseline: &[u8], candidate: &[u8], t: &[u64]) -> String {
         let mut out = format!("{} {} {}", h[2], h[3], h[4] == 1);
         let mut rest = &t[7..];
         for i in 0..h[2] + h[3] {
+            if rest.len() < 6 {
+                return out + "; and no more rows";
+            }
             let (word, file) = match rest[0] {
                 0 => ("removed", baseline),
                 1 => ("added", candidate),
@@ -171,7 +174,7 @@ pub fn port(baseline: &[u8], candidate: &[u8], t: &[u64]) -> String {
 }
 
 fn name_told(t: &[u64]) -> (String, &[u64]) {
-    let (name, rest) = t[1..].split_at(t[0] as usize);
+    let (name, rest) = t[1..].split_at((t[0] as usize).min(t.len() - 1));
     (hex(&name.iter().map(|b| *b as u8).collect::<Vec<_>>()), rest)
 }
 

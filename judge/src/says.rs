@@ -2,6 +2,7 @@
 //! lent memory, tables that are handed in), docs/RULES.md decides, and this file says what that is.
 use crate::case::{hex, Answer, Call, Case};
 use crate::compare;
+use original::compat::Change;
 use original::error::{Error, ErrorKind};
 use original::leb::Reader;
 use original::policy::{self, Domain, DomainRule, Policy, Requirement};
@@ -47,6 +48,14 @@ pub fn original_says(case: &Case) -> String {
         Call::Differences => compare::tables(s(0), s(1), n),
         Call::ExportName => compare::name(s(0), s(1), n, 4),
         Call::SourceName => compare::name(s(0), s(1), n, 5),
+        Call::U8 => read(s(0), n[0], |r| r.u8().map(|v| v.to_string())),
+        Call::U32Le => read(s(0), n[0], |r| r.u32_le().map(|v| v.to_string())),
+        Call::Take => taken(s(0), n[0], n[1], |r, k| r.take(k).map(hex)),
+        Call::Skip => taken(s(0), n[0], n[1], |r, k| r.skip(k).map(|()| String::new())),
+        Call::Left => left(s(0), n[0]),
+        Call::Kind => format!("{} {}", n[0], hex(kind_of(n[0]).slug().as_bytes())),
+        Call::Section => hex(wasm::section_name(n[0] as u8).as_bytes()),
+        Call::ChangeWord => hex([Change::Removed, Change::Added][(n[0] != 0) as usize].slug().as_bytes()),
     }
 }
 
@@ -68,7 +77,12 @@ pub fn port_says(case: &Case, a: &Answer) -> String {
         Call::Manifest => port_manifest(s(0), t),
         Call::Requirements | Call::Needs => port_requirements(t),
         Call::Compare | Call::Differences => compare::port(s(0), s(1), t),
-        Call::ExportName | Call::SourceName => compare::port_name(t),
+        Call::ExportName | Call::SourceName | Call::Section | Call::ChangeWord => compare::port_name(t),
+        Call::U8 | Call::U32Le => port_read(t, |t| t[2].to_string()),
+        Call::Take => port_read(t, |t| part(s(0), t[2], t[3])),
+        Call::Skip => port_read(t, |_| String::new()),
+        Call::Left => format!("at {} left {} none {}", t[0], t[1], t[2] == 1),
+        Call::Kind => format!("{} {}", t[0], compare::port_name(&t[1..])),
     }
 }
 
@@ -124,6 +138,21 @@ fn read(s: &[u8], at: u64, f: impl Fn(&mut Reader) -> original::error::Result<St
         Ok(v) => format!("{v} next {}", r.position()),
         Err(e) => error_says(&e),
     }
+}
+
+/// So many bytes on: a sum beyond the address range is told where the reader stands, in the original too.
+fn taken(s: &[u8], at: u64, n: u64, f: impl Fn(&mut Reader, usize) -> original::error::Result<String>) -> String {
+    read(s, at, |r| f(r, n as usize))
+}
+
+/// The original's reader cannot stand past the end, where nothing is left.
+fn left(s: &[u8], at: u64) -> String {
+    if at > s.len() as u64 {
+        return format!("at {at} left 0 none true");
+    }
+    let mut r = Reader::new(s);
+    r.skip(at as usize).unwrap();
+    format!("at {} left {} none {}", r.position(), r.remaining(), r.is_empty())
 }
 
 fn port_read(t: &[u64], value: impl Fn(&[u64]) -> String) -> String {

@@ -30,6 +30,9 @@ pub added : (m : ℕ) → (m ≡ 0 → ⊥) → Added ≡ changeAt m
 added zero a = absurd (a refl)
 added (suc m) a = refl
 
+pub name-same : (k : ℕ) {l m : List ℕ} → l ≡ m → nameTold l k ≡ nameTold m k
+name-same k i = ap (λ z. nameTold z k) i
+
 pub name-told : (b bt : List ℕ) (nb : ℕ) (c ct : List ℕ) (nc w : ℕ) (x y : Change) (row k : ℕ) {l : List ℕ} → x ≡ y
     → l ≡ diffBytes b bt nb c ct nc w x row → nameTold l k ≡ nameTold (diffBytes b bt nb c ct nc w y row) k
-name-told b bt nb c ct nc w x y row k i h = ap (λ z. nameTold z k) (h ∙ ap (λ z. diffBytes b bt nb c ct nc w z row) i)
+name-told b bt nb c ct nc w x y row k i h = name-same k (h ∙ ap (λ z. diffBytes b bt nb c ct nc w z row) i)

@@ -7,7 +7,8 @@ use lib.Dec.{ltb}
 use lib.ListN.{length, getD}
 use Rattle.refusal.specs.Pick.{pick}
 use Rattle.refusal.specs.Said.{Said, accepted, refused, follow}
-use Rattle.table.specs.Table.{laid, cells}
+use Rattle.table.specs.Table.{laid, cells, rangeOf}
+use Rattle.refusal.specs.declared.Slug.{Slug}
 use Rattle.differences.specs.declared.Change.{Change}
 use Rattle.differences.specs.declared.Change.the-variants.{Removed, Added}
 use Rattle.differences.specs.Compared.{Lists, Verdict, verdictOf, exportCells, needCells, listed}
@@ -33,3 +34,7 @@ changeAt (suc n) = Added
 -- of a name its length and byte k, 0 where it has none
 unfoldable pub nameTold : List ℕ → ℕ → NameTold
 nameTold l k = record { len = length l; byte = pick (ltb k (length l)) (getD l k 0) 0 }
+
+-- of a word, the same
+abbrev pub wordTold : Slug → ℕ → NameTold
+wordTold w k = nameTold (rangeOf (w .bytes) 0 (w .len)) k

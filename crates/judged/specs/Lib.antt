@@ -3,3 +3,4 @@ pub mod Rows
 pub mod Policies
 pub mod Manifests
 pub mod Compares
+pub mod Cursors

@@ -50,7 +50,7 @@ fn compare_of(r: Compared) -> CompareTold
     }
 }
 
-fn change_of(mark: usize) -> Change
+pub(crate) fn change_of(mark: usize) -> Change
     ensures { λ r. ⌜ r ≡ changeAt mark ⌝ }
 {
     match mark {
@@ -59,7 +59,7 @@ fn change_of(mark: usize) -> Change
     }
 }
 
-fn name_of(name: &[u8], k: usize) -> NameTold
+pub(crate) fn name_of(name: &[u8], k: usize) -> NameTold
     ensures { λ r. ⌜ r ≡ nameTold (now (name .entry)) k ⌝ }
 {
     if k < name.len() {

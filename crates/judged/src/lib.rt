@@ -1,5 +1,7 @@
 // What the comparison with the original drives besides the C interface: calls that take tables of any size and policies of any ranges.
 pub mod compares;
+pub mod cursors;
 pub mod manifests;
 pub mod policies;
 pub mod rows;
+pub mod words;

@@ -29,6 +29,24 @@ use Rattle.judged.proofs.compares.judged_export_name.Kinds as export-name-kinds
 use Rattle.judged.proofs.compares.judged_export_name.Reads as export-name-reads
 use Rattle.judged.proofs.compares.judged_source_name.Kinds as source-name-kinds
 use Rattle.judged.proofs.compares.judged_source_name.Reads as source-name-reads
+use Rattle.judged.proofs.cursors.judged_u8.Kinds as u8-kinds
+use Rattle.judged.proofs.cursors.judged_u8.Reads as u8-reads
+use Rattle.judged.proofs.cursors.judged_u32_le.Kinds as u32-le-kinds
+use Rattle.judged.proofs.cursors.judged_u32_le.Reads as u32-le-reads
+use Rattle.judged.proofs.cursors.judged_take.Kinds as take-kinds
+use Rattle.judged.proofs.cursors.judged_take.Reads as take-reads
+use Rattle.judged.proofs.cursors.judged_skip.Kinds as skip-kinds
+use Rattle.judged.proofs.cursors.judged_skip.Reads as skip-reads
+use Rattle.judged.proofs.cursors.judged_left.Kinds as left-kinds
+use Rattle.judged.proofs.cursors.judged_left.Reads as left-reads
+use Rattle.judged.proofs.words.judged_kind.Kinds as kind-kinds
+use Rattle.judged.proofs.words.judged_kind.Reads as kind-reads
+use Rattle.judged.proofs.words.judged_kind_byte.Kinds as kind-byte-kinds
+use Rattle.judged.proofs.words.judged_kind_byte.Reads as kind-byte-reads
+use Rattle.judged.proofs.words.judged_section.Kinds as section-kinds
+use Rattle.judged.proofs.words.judged_section.Reads as section-reads
+use Rattle.judged.proofs.words.judged_change.Kinds as change-kinds
+use Rattle.judged.proofs.words.judged_change.Reads as change-reads
 use Rattle.judged.proofs.policies.judged_token.Kinds as token-kinds
 use Rattle.judged.proofs.policies.judged_token.Reads as token-reads
 use Rattle.judged.proofs.policies.judged_write.Kinds as write-kinds
@@ -160,3 +178,30 @@ export-name-decides κs a x y s t p q = p ∙ sym q
 
 pub source-name-decides : Decides source-name-kinds.ps source-name-kinds.r source-name-reads.Post
 source-name-decides κs a x y s t p q = p ∙ sym q
+
+pub u8-decides : Decides u8-kinds.ps u8-kinds.r u8-reads.Post
+u8-decides κs a x y s t p q = p ∙ sym q
+
+pub u32-le-decides : Decides u32-le-kinds.ps u32-le-kinds.r u32-le-reads.Post
+u32-le-decides κs a x y s t p q = p ∙ sym q
+
+pub take-decides : Decides take-kinds.ps take-kinds.r take-reads.Post
+take-decides κs a x y s t p q = p ∙ sym q
+
+pub skip-decides : Decides skip-kinds.ps skip-kinds.r skip-reads.Post
+skip-decides κs a x y s t p q = p ∙ sym q
+
+pub left-decides : Decides left-kinds.ps left-kinds.r left-reads.Post
+left-decides κs a x y s t p q = p ∙ sym q
+
+pub kind-decides : Decides kind-kinds.ps kind-kinds.r kind-reads.Post
+kind-decides κs a x y s t p q = p ∙ sym q
+
+pub kind-byte-decides : Decides kind-byte-kinds.ps kind-byte-kinds.r kind-byte-reads.Post
+kind-byte-decides κs a x y s t p q = p ∙ sym q
+
+pub section-decides : Decides section-kinds.ps section-kinds.r section-reads.Post
+section-decides κs a x y s t p q = p ∙ sym q
+
+pub change-decides : Decides change-kinds.ps change-kinds.r change-reads.Post
+change-decides κs a x y s t p q = p ∙ sym q

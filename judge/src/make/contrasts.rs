@@ -167,9 +167,9 @@ pub fn seeded(court: &mut Court, r: &mut Random) {
 
 // ---- fixed
 
-/// Rows of table 3 for the names at these offsets of a file, one byte each, of this kind.
-fn letters(at: impl Iterator<Item = u64>, kind: u64) -> Vec<u64> {
-    at.flat_map(|i| [i, 1, kind, 0]).collect()
+/// Functions that are exported by the names at these offsets of a file, one byte each.
+fn letters(at: impl Iterator<Item = u64>) -> Vec<u64> {
+    at.flat_map(|i| [i, 1, 0, 0]).collect()
 }
 
 /// Functions from the modules at these offsets.
@@ -195,7 +195,7 @@ fn rooms(court: &mut Court) {
         t
     };
     for (m, n) in (0..=4).flat_map(|m| (0..=4).map(move |n| (m, n))) {
-        let gone = roomy(Tables::of(sources(0..n), letters((0..m).rev(), 0)));
+        let gone = roomy(Tables::of(sources(0..n), letters((0..m).rev())));
         let none = roomy(Tables::default());
         for (x, y) in (0..=9).flat_map(|x| (0..=10).map(move |y| (x, y))) {
             tables(court, [x, y], &gone, &none, file, file);
@@ -206,7 +206,7 @@ fn rooms(court: &mut Court) {
 
 /// One name with every kind, in falling order, against none, against every other one, and against the same in rising order.
 fn kinds(court: &mut Court) {
-    let falling = letters(std::iter::repeat_n(0, 256), 0).chunks_exact(4).zip((0..256).rev()).flat_map(|(_, k)| [0, 1, k, 0]).collect::<Vec<_>>();
+    let falling: Vec<u64> = (0..256).rev().flat_map(|kind| [0, 1, kind, 0]).collect();
     let all = Tables::of(Vec::new(), falling.clone());
     let half = Tables::of(Vec::new(), falling.chunks_exact(8).flat_map(|r| r[..4].to_vec()).collect());
     let rising = Tables::of(Vec::new(), falling.chunks_exact(4).rev().flatten().copied().collect());
@@ -223,7 +223,7 @@ fn kinds(court: &mut Court) {
     }
     for a in KINDS {
         for b in KINDS {
-            let one = |k: u8| Tables::of(Vec::new(), vec![0, 1, k as u64, 0]);
+            let one = |k: u8| Tables::of(vec![0, 1, 0, 0, k as u64], vec![0, 1, k as u64, 0]);
             tables(court, [4, 3], &one(a), &one(b), b"a", b"a");
         }
     }
@@ -234,9 +234,18 @@ fn repeats(court: &mut Court) {
     let lists: Vec<Vec<u64>> = (0..=3u32).flat_map(|n| (0..1 << n).map(move |k| (0..n).map(|i| (k >> i & 1) as u64).collect())).collect();
     for a in &lists {
         for b in &lists {
-            let of = |l: &[u64]| Tables::of(sources(l.iter().copied()), letters(l.iter().copied(), 0));
+            let of = |l: &[u64]| Tables::of(sources(l.iter().copied()), letters(l.iter().copied()));
             tables(court, FULL, &of(a), &of(b), b"ab", b"ab");
             tables(court, [8, 6], &of(a), &of(b), b"ab", b"bc");
+        }
+    }
+    // names that are alike but for zero bytes, or in all but their last byte
+    let zeros = b"\0\0a\0\0b";
+    let ranges = (0..6).flat_map(|from| (0..=6 - from).map(move |len| [from, len])).collect::<Vec<[u64; 2]>>();
+    for a in &ranges {
+        for b in &ranges {
+            let of = |r: &[u64; 2]| Tables::of(vec![r[0], r[1], 0, 0, 0], vec![r[0], r[1], 0, 0]);
+            tables(court, [4, 6], &of(a), &of(b), zeros, zeros);
         }
     }
     // one source with fields of every domain, and one domain with several sources
@@ -252,26 +261,25 @@ fn repeats(court: &mut Court) {
 
 /// 14, then 15 in each of the four tables (a count, a range, a kind), then 13 of table 8, then of table 9: every two of them at once.
 fn order(court: &mut Court) {
-    let good = || Tables::of(sources(0..2), letters(0..2, 0));
+    let good = || Tables::of(sources(0..2), letters(0..2));
     let none = Tables::default;
-    type Fault = (usize, fn(&mut Tables));
-    let faults: [Fault; 7] = [
-        (0, |t| t.counts[0] = 3),
-        (0, |t| t.imports[5] = 9),
-        (0, |t| t.imports[2] = 9),
-        (0, |t| t.imports[4] = 256),
-        (1, |t| t.counts[1] = 3),
-        (1, |t| t.exports[1] = 9),
-        (1, |t| t.exports[6] = 256),
+    let faults: [fn(&mut Tables); 7] = [
+        |t| t.counts[0] = 3,
+        |t| t.imports[5] = 9,
+        |t| t.imports[2] = 9,
+        |t| t.imports[4] = 256,
+        |t| t.counts[1] = 3,
+        |t| t.exports[1] = 9,
+        |t| t.exports[6] = 256,
     ];
     for cells in [[4, 6], [0, 6], [4, 0], [0, 0]] {
         tables(court, cells, &good(), &none(), b"ab", b"");
-        for (_, first) in faults {
+        for first in faults {
             let mut b = good();
             first(&mut b);
             tables(court, cells, &b, &good(), b"ab", b"cd");
             tables(court, cells, &good(), &b, b"ab", b"cd");
-            for (_, second) in faults {
+            for second in faults {
                 let mut c = good();
                 second(&mut c);
                 tables(court, cells, &b, &c, b"ab", b"cd");

@@ -1,4 +1,4 @@
-//! leb.rs: numbers and names.
+//! leb.rs: numbers and names; and the words for kinds, sections and changes.
 use super::every;
 use crate::case::{Call, Case};
 use crate::random::Random;
@@ -23,7 +23,39 @@ fn name(court: &mut Court, bytes: &[u8]) {
     court.hear(Case::new(Call::Name, &[0], &[&s]));
 }
 
+/// A byte, four bytes, what is left; and so many bytes.
+fn others(court: &mut Court, s: &[u8], at: u64, n: u64) {
+    for call in [Call::U8, Call::U32Le, Call::Left] {
+        court.hear(Case::new(call, &[at], &[s]));
+    }
+    for call in [Call::Take, Call::Skip] {
+        court.hear(Case::new(call, &[at, n], &[s]));
+    }
+}
+
 pub fn fixed(court: &mut Court) {
+    for length in 0..=3 {
+        every(&EDGES, length, |s| others(court, s, 0, length as u64));
+    }
+    for byte in 0..=255 {
+        for at in 0..4 {
+            let mut s = [0x12, 0x34, 0x56, 0x78];
+            s[at] = byte;
+            others(court, &s, 0, 4);
+            court.hear(Case::new(Call::U8, &[at as u64], &[&s]));
+        }
+        court.hear(Case::new(Call::Kind, &[byte as u64], &[]));
+        court.hear(Case::new(Call::Section, &[byte as u64], &[]));
+    }
+    let ends = [0, 1, 2, 3, 4, 5, 6, 7, 8, u64::MAX - 6, u64::MAX - 1, u64::MAX];
+    for length in 0..=6 {
+        for (at, n) in ends.iter().flat_map(|at| ends.map(|n| (*at, n))) {
+            others(court, &b"abcdef"[..length], at, n);
+        }
+    }
+    for change in [0, 1, 2, u64::MAX] {
+        court.hear(Case::new(Call::ChangeWord, &[change], &[]));
+    }
     let all: Vec<u8> = (0..=255).collect();
     for length in 0..=2 {
         every(&all, length, |s| each(court, s, 0));
@@ -61,6 +93,7 @@ pub fn seeded(court: &mut Court, r: &mut Random) {
         let s: Vec<u8> = (0..r.below(14)).map(|_| if r.one_in(4) { r.byte() } else { EDGES[r.below(EDGES.len())] | 0x80 }).collect();
         let at = if r.one_in(8) { r.below(20) } else { r.below(3) };
         each(court, &s, at as u64);
+        others(court, &s, at as u64, r.below(16) as u64);
         let long = r.below(4);
         let mut bytes: Vec<u8> = (0..r.below(3)).map(|_| b'a').collect();
         bytes.extend((0..1 + long).map(|_| UTF8[r.below(UTF8.len())]));

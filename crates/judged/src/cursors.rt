@@ -1,0 +1,151 @@
+// leb.rs: the cursor's functions that the C interface does not hand out.
+use capi::cursor::Range;
+use capi::cursor::Unsigned;
+use leb::ByteRead;
+use leb::Cursor;
+use leb::PartRead;
+use leb::Skipped;
+use leb::U32Read;
+ghost use mathlib.Core.Path.{_≡_};
+ghost use Prim.Native.Nat.{_-_};
+ghost use lib.Dec.{leb};
+ghost use lib.ListN.{length};
+ghost use Rattle.leb.specs.Answers.{heard, saidByte, saidU32, saidPart, saidSkip};
+ghost use Rattle.leb.specs.Reads.{byteAt, fixedAt, takeAt, skipAt};
+ghost use Rattle.capi.specs.Reading.{unsignedOf, rangeOf};
+ghost use Rattle.judged.specs.Cursors.{skipTold, leftTold};
+
+#[repr(C)]
+pub struct SkipTold {
+    pub number: u32,
+    pub place: usize,
+    pub next: usize,
+}
+
+// Where the cursor stands, how many bytes are left, and whether none is.
+#[repr(C)]
+pub struct LeftTold {
+    pub at: usize,
+    pub left: usize,
+    pub none: bool,
+}
+
+fn byte_of(r: ByteRead) -> Unsigned
+    ensures { λ x. ⌜ x ≡ unsignedOf (heard (saidByte r)) ⌝ }
+{
+    match r {
+        ByteRead::Read(value, next) => Unsigned {
+            number: 0,
+            place: 0,
+            value: value as u64,
+            next: next.at,
+        },
+        ByteRead::Refused(why, _) => Unsigned {
+            number: refusal::number(why),
+            place: refusal::place(why),
+            value: 0,
+            next: 0,
+        },
+    }
+}
+
+fn fixed_of(r: U32Read) -> Unsigned
+    ensures { λ x. ⌜ x ≡ unsignedOf (heard (saidU32 r)) ⌝ }
+{
+    match r {
+        U32Read::Read(value, next) => Unsigned {
+            number: 0,
+            place: 0,
+            value: value as u64,
+            next: next.at,
+        },
+        U32Read::Refused(why, _) => Unsigned {
+            number: refusal::number(why),
+            place: refusal::place(why),
+            value: 0,
+            next: 0,
+        },
+    }
+}
+
+fn part_of(r: PartRead) -> Range
+    ensures { λ x. ⌜ x ≡ rangeOf (heard (saidPart r)) ⌝ }
+{
+    match r {
+        PartRead::Read(part, next) => Range {
+            number: 0,
+            place: 0,
+            from: part.from,
+            len: part.len,
+            next: next.at,
+        },
+        PartRead::Refused(why, _) => Range {
+            number: refusal::number(why),
+            place: refusal::place(why),
+            from: 0,
+            len: 0,
+            next: 0,
+        },
+    }
+}
+
+fn skip_of(r: Skipped) -> SkipTold
+    ensures { λ x. ⌜ x ≡ skipTold (heard (saidSkip r)) ⌝ }
+{
+    match r {
+        Skipped::To(next) => SkipTold {
+            number: 0,
+            place: 0,
+            next: next.at,
+        },
+        Skipped::Refused(why, _) => SkipTold {
+            number: refusal::number(why),
+            place: refusal::place(why),
+            next: 0,
+        },
+    }
+}
+
+#[no_mangle]
+pub extern "C" fn judged_u8(s: &[u8], at: usize) -> Unsigned
+    ensures { λ r. ⌜ r ≡ unsignedOf (byteAt (now (s .entry)) at) ⌝ }
+{
+    let c = Cursor { at };
+    byte_of(c.u8(s))
+}
+
+#[no_mangle]
+pub extern "C" fn judged_u32_le(s: &[u8], at: usize) -> Unsigned
+    ensures { λ r. ⌜ r ≡ unsignedOf (fixedAt (now (s .entry)) at) ⌝ }
+{
+    let c = Cursor { at };
+    fixed_of(c.u32_le(s))
+}
+
+#[no_mangle]
+pub extern "C" fn judged_take(s: &[u8], at: usize, n: usize) -> Range
+    ensures { λ r. ⌜ r ≡ rangeOf (takeAt (now (s .entry)) at n) ⌝ }
+{
+    let c = Cursor { at };
+    part_of(c.take(s, n))
+}
+
+#[no_mangle]
+pub extern "C" fn judged_skip(s: &[u8], at: usize, n: usize) -> SkipTold
+    ensures { λ r. ⌜ r ≡ skipTold (skipAt (now (s .entry)) at n) ⌝ }
+{
+    let c = Cursor { at };
+    skip_of(c.skip(s, n))
+}
+
+#[no_mangle]
+pub extern "C" fn judged_left(s: &[u8], at: usize) -> LeftTold
+    ensures { λ r. ⌜ r ≡ leftTold at (length (now (s .entry)) - at) (leb (length (now (s .entry))) at) ⌝ }
+{
+    let c = Cursor { at };
+    LeftTold {
+        at: c.position(),
+        left: c.remaining(s),
+        none: c.is_empty(s),
+    }
+}
