@@ -277,6 +277,18 @@ fn names_cannot_forge_a_line() {
 }
 
 #[test]
+fn a_long_list_of_sources_is_cut() {
+    let place = place("sources");
+    let sources: Vec<String> = (0..1024).map(|n| format!("m{n:04}")).collect();
+    let imports: Vec<_> = sources.iter().map(|source| (source, "f")).collect();
+    let files = [write(&place, "many.wasm", &module(&imports, &[("", 0); 0], &[""; 0]))];
+    let ran = check(&files, &of_sample("portal.policy"), &[]);
+    assert_eq!((ran.status, ran.out.matches("unknown is not allowed: imports f from m").count()), (1, 8), "{}", ran.out);
+    assert!(ran.out.contains("many.wasm: and 1,016 more\n") && ran.out.contains("  1,024 !  not compliant\n"), "{}", ran.out);
+    assert_eq!(check(&files, &of_sample("portal.policy"), &["--json"]).out.matches("\"source\":\"m").count(), 1024);
+}
+
+#[test]
 fn what_a_comparison_prints() {
     let (one, two, three) = (of_sample("contours-1.wasm"), of_sample("contours-2.wasm"), of_sample("contours-3.wasm"));
     let ran = compare(&one, &two, &[]);

@@ -11,6 +11,9 @@ use crate::json::{self, Object};
 use crate::work::{self, Progress};
 use crate::{show, Status};
 
+/// How many sources of domains that are not allowed are shown of a file.
+const SHOWN: usize = 8;
+
 /// A verdict, and for the domains that are not allowed which imports need them.
 pub struct Checked {
     bytes: usize,
@@ -119,7 +122,7 @@ fn report(modules: &[PathBuf], answers: &[Result<Checked, Trouble>]) -> String {
 }
 
 impl Checked {
-    pub fn words(&self) -> &'static str {
+    fn words(&self) -> &'static str {
         if self.verdict.is_compliant() {
             "compliant"
         } else {
@@ -137,17 +140,21 @@ impl Checked {
         [path, show::count(self.bytes)].into_iter().chain(domains).chain([self.words().into()]).collect()
     }
 
-    /// A line for each source of a domain that is not allowed.
-    pub fn why(&self, path: &str) -> String {
+    /// A line for each source of a domain that is not allowed, of the first ones.
+    fn why(&self, path: &str) -> String {
         let line = |need: &Need| {
             let (source, detail) = (show::name(&need.source), show::name(&need.detail));
             format!("{path}: {} is not allowed: imports {detail} from {source}\n", need.domain)
         };
-        self.needs.iter().map(line).collect()
+        let first: String = self.needs.iter().take(SHOWN).map(line).collect();
+        match self.needs.len().saturating_sub(SHOWN) {
+            0 => first,
+            more => format!("{first}{path}: and {} more\n", show::count(more)),
+        }
     }
 
     /// The same as fields of an object.
-    pub fn tell(&self, object: Object) -> Object {
+    fn tell(&self, object: Object) -> Object {
         let domain = |verdict: &DomainVerdict| {
             let object = Object::default().str("domain", verdict.domain.slug()).raw("required", verdict.required);
             object.raw("allowed", verdict.allowed).raw("many", verdict.many).done()
