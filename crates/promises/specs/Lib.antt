@@ -17,9 +17,11 @@ pub mod OfChecking
 pub mod OfInterfaces
 pub mod OfDifferences
 pub mod OfCompat
+pub mod OfReasons
 pub mod OfParts
 pub mod Examples
 pub mod Rejected
+pub mod RejectedReasons
 pub mod OfCapi
 pub mod OfJudged
 pub mod Unclassified

@@ -10,6 +10,10 @@ use Rattle.differences.proofs.kind_rank.Kinds as kind-rank-kinds
 use Rattle.differences.proofs.kind_rank.Reads as kind-rank
 use Rattle.differences.proofs.check_exports.Kinds as check-exports-kinds
 use Rattle.differences.proofs.check_exports.Reads as check-exports
+use Rattle.differences.proofs.check_tables.Kinds as check-tables-kinds
+use Rattle.differences.proofs.check_tables.Reads as check-tables
+use Rattle.differences.proofs.check_both.Kinds as check-both-kinds
+use Rattle.differences.proofs.check_both.Reads as check-both
 
 pub change-number-decides : Decides change-number-kinds.ps change-number-kinds.r change-number.Post
 change-number-decides κs a x y s t p q = p ∙ sym q
@@ -22,3 +26,9 @@ kind-rank-decides κs a x y s t p q = p ∙ sym q
 
 pub check-exports-decides : Decides check-exports-kinds.ps check-exports-kinds.r check-exports.Post
 check-exports-decides κs a x y s t p q = answer-known x y (p ∙ sym q)
+
+pub check-tables-decides : Decides check-tables-kinds.ps check-tables-kinds.r check-tables.Post
+check-tables-decides κs a x y s t p q = answer-known x y (p ∙ sym q)
+
+pub check-both-decides : Decides check-both-kinds.ps check-both-kinds.r check-both.Post
+check-both-decides κs a x y s t p q = answer-known x y (p ∙ sym q)
