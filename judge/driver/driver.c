@@ -251,13 +251,25 @@ static size_t zeros_from(const size_t *t, size_t used, size_t cells) {
     return used;
 }
 
-static void compared(struct given b, struct given c, size_t room8, size_t room9) {
+/* The lent bytes, each a mark before the call, are told whole. */
+static struct viscrombal_written reasoned(struct given b, struct given c, const size_t *xd, size_t cells8, size_t n8, const size_t *cd, size_t cells9,
+                                          size_t n9, size_t room) {
+    output = memset(malloc(room + 1), MARK, room), output_length = room;
+    return judged_reasons(b.file, b.length, b.imports, b.cells2, b.exports, b.cells3, c.file, c.length, c.imports, c.cells2, c.exports, c.cells3, xd,
+                          cells8, cd, cells9, output, room, b.n2, b.n3, c.n2, c.n3, n8, n9);
+}
+
+static void compared(struct given b, struct given c, size_t room8, size_t room9, size_t room) {
     size_t *xd = lend(room8), *cd = lend(room9);
     struct judged_compare_told r =
         judged_compare(b.file, b.length, b.imports, b.cells2, b.exports, b.cells3, c.file, c.length, c.imports, c.cells2, c.exports, c.cells3, xd,
                        room8, cd, room9, b.n2, b.n3, c.n2, c.n3);
     tell(r.number), tell(r.place), tell(r.exports), tell(r.capabilities), tell(r.compatible);
     tell(zeros_from(xd, r.exports * 2, room8)), tell(zeros_from(cd, r.capabilities * 3, room9));
+    struct viscrombal_written w = {0};
+    if (r.number == 0)
+        w = reasoned(b, c, xd, room8, r.exports, cd, room9, r.capabilities, room);
+    tell(w.number), tell(w.place), tell(w.bytes);
     for (size_t i = 0; i < r.exports && i < room8 / 2; i++) {
         size_t change = xd[2 * i], row = xd[2 * i + 1];
         struct given g = change ? c : b;
@@ -274,7 +286,7 @@ static void compared(struct given b, struct given c, size_t room8, size_t room9)
     free(xd), free(cd);
 }
 
-/* numbers: the cells of tables 8 and 9. Both modules are read into tables at their limits first. */
+/* numbers: the cells of tables 8 and 9, the room for reasons. Both modules are read into tables at their limits first. */
 static void compare(void) {
     static size_t sections[1280], names[12288], imports[2][5120], exports[2][4096];
     struct given g[2];
@@ -286,7 +298,7 @@ static void compare(void) {
         }
         g[i] = (struct given){string[i], length[i], m.imports, m.exports, 5120, 4096, imports[i], exports[i]};
     }
-    compared(g[0], g[1], number[0], number[1]);
+    compared(g[0], g[1], number[0], number[1], number[2]);
 }
 
 /* numbers from n on: the stated counts of tables 2 and 3 of both modules, how many cells the first three have, then the cells of the four */
@@ -296,11 +308,20 @@ static void handed(const size_t *n, size_t numbers, struct given g[2]) {
     g[1] = (struct given){string[1], length[1], n[2], n[3], n[6], numbers - (d - n), c, d};
 }
 
-/* numbers: the cells of tables 8 and 9, then both modules' tables */
+/* numbers: the cells of tables 8 and 9, the room for reasons, then both modules' tables */
 static void differences(void) {
     struct given g[2];
-    handed(number + 2, given - 2, g);
-    compared(g[0], g[1], number[0], number[1]);
+    handed(number + 3, given - 3, g);
+    compared(g[0], g[1], number[0], number[1], number[2]);
+}
+
+/* numbers: the room, the stated counts of tables 8 and 9, how many cells they have, their cells, then both modules' tables */
+static void reasons(void) {
+    struct given g[2];
+    const size_t *xd = number + 5, *cd = xd + number[3], *rest = cd + number[4];
+    handed(rest, given - (rest - number), g);
+    struct viscrombal_written w = reasoned(g[0], g[1], xd, number[3], number[1], cd, number[4], number[2], number[0]);
+    tell(w.number), tell(w.place), tell(w.bytes);
 }
 
 /* numbers: the change, the row, both counts, how many cells the baseline's table has, then the cells of both */
@@ -359,7 +380,7 @@ static void change(void) { tell_word(judged_change, number[0]); }
 static void (*const calls[])(void) = {
     NULL, uleb128, uleb128_u32, sleb128, name, module, functions, memories, namespaces, policy, token, write_policy, evaluate, import, path,
     rewrite, manifest, requirements, all_imports, all_exports, check, needs, compare, differences, export_name, source_name,
-    u8, u32_le, take_bytes, skip, left, kind, section, change,
+    u8, u32_le, take_bytes, skip, left, kind, section, change, reasons,
 };
 
 /* ---- cases */

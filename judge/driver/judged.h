@@ -54,6 +54,10 @@ struct judged_name_told {
 struct judged_compare_told judged_compare(const uint8_t *baseline, size_t n, const size_t *bi, size_t cells_bi, const size_t *be, size_t cells_be,
                                           const uint8_t *candidate, size_t m, const size_t *ci, size_t cells_ci, const size_t *ce, size_t cells_ce,
                                           size_t *xd, size_t cells_xd, size_t *cd, size_t cells_cd, size_t nbi, size_t nbe, size_t nci, size_t nce);
+struct viscrombal_written judged_reasons(const uint8_t *baseline, size_t n, const size_t *bi, size_t cells_bi, const size_t *be, size_t cells_be,
+                                         const uint8_t *candidate, size_t m, const size_t *ci, size_t cells_ci, const size_t *ce, size_t cells_ce,
+                                         const size_t *xd, size_t cells_xd, const size_t *cd, size_t cells_cd, uint8_t *out, size_t room, size_t nbi,
+                                         size_t nbe, size_t nci, size_t nce, size_t nxd, size_t ncd);
 struct judged_name_told judged_export_name(const uint8_t *baseline, size_t n, const size_t *be, size_t cells_be, const uint8_t *candidate, size_t m,
                                            const size_t *ce, size_t cells_ce, size_t nbe, size_t nce, size_t change, size_t row, size_t k);
 struct judged_name_told judged_source_name(const uint8_t *baseline, size_t n, const size_t *bi, size_t cells_bi, const uint8_t *candidate, size_t m,

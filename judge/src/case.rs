@@ -37,9 +37,10 @@ pub enum Call {
     Kind,
     Section,
     ChangeWord,
+    Reasons,
 }
 
-pub const CALLS: [(Call, &str); 33] = [
+pub const CALLS: [(Call, &str); 34] = [
     (Call::Uleb128, "uleb128"),
     (Call::Uleb128U32, "uleb128_u32"),
     (Call::Sleb128, "sleb128"),
@@ -73,6 +74,7 @@ pub const CALLS: [(Call, &str); 33] = [
     (Call::Kind, "kind"),
     (Call::Section, "section"),
     (Call::ChangeWord, "change"),
+    (Call::Reasons, "reasons"),
 ];
 
 #[derive(Clone, PartialEq, Eq, Debug)]

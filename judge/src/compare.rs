@@ -2,8 +2,9 @@
 //! docs/RULES.md says which a difference is, the next of those that are alike for an export, the lowest for a capability.
 use crate::case::hex;
 use crate::limits::module_alone;
-use crate::says::{answered, inside, kind_of, latin, number_of, parse, part, refused, rows_tested, zeros_to, DOMAINS, LONGEST_MODULE};
-use original::compat::{compare_modules, Change, Compatibility};
+use crate::says::{answered, inside, into_room, kind_of, latin, number_of, parse, part, port_written, refused, rows_tested, zeros_to};
+use crate::says::{DOMAINS, LONGEST_MODULE};
+use original::compat::{compare_modules, CapabilityDiff, Change, Compatibility, ExportDiff};
 use original::policy::requirements_from_module;
 use original::wasm::{Export, ExternalKind, Import, Module};
 use std::collections::HashMap;
@@ -11,8 +12,8 @@ use std::collections::HashMap;
 /// The rows of tables 8 and 9.
 const MOST: u64 = 2048;
 
-/// Both modules, read into tables at their limits, and then compared.
-pub fn files(baseline: &[u8], candidate: &[u8], cells: [u64; 2]) -> String {
+/// Both modules, read into tables at their limits, and then compared. Numbers: the cells of tables 8 and 9, and the room for reasons.
+pub fn files(baseline: &[u8], candidate: &[u8], n: &[u64]) -> String {
     for file in [baseline, candidate] {
         let read = if file.len() > LONGEST_MODULE { refused(14, 0) } else { module_alone(file) };
         if read.starts_with("refused") {
@@ -20,7 +21,7 @@ pub fn files(baseline: &[u8], candidate: &[u8], cells: [u64; 2]) -> String {
         }
     }
     let read = |file: &[u8]| parse(file).expect("a module that is read");
-    compared(&read(baseline), &read(candidate), cells, |name| name.as_bytes().to_vec())
+    compared(&read(baseline), &read(candidate), n, |name| name.as_bytes().to_vec())
 }
 
 /// A module's tables handed in: the counts of tables 2 and 3, and their cells.
@@ -75,19 +76,18 @@ pub fn unlatin(name: &str) -> Vec<u8> {
     name.chars().map(|c| c as u8).collect()
 }
 
-/// Numbers: the cells of tables 8 and 9, then both modules' tables.
+/// Numbers: the cells of tables 8 and 9, the room for reasons, then both modules' tables.
 pub fn tables(baseline: &[u8], candidate: &[u8], n: &[u64]) -> String {
-    let (b, c) = handed(baseline, candidate, &n[2..]);
-    let cells = [n[0], n[1]];
+    let (b, c) = handed(baseline, candidate, &n[3..]);
     match both_tested(&b, &c) {
-        Ok((b, c)) => compared(&b, &c, cells, unlatin),
-        Err(why) => why + &zeros_to(&cells),
+        Ok((b, c)) => compared(&b, &c, n, unlatin),
+        Err(why) => why + &zeros_to(&n[..2]),
     }
 }
 
-/// 13 of table 8, then of table 9; else both lists, each difference by its row and its content.
-fn compared(b: &Module, c: &Module, cells: [u64; 2], bytes: fn(&str) -> Vec<u8>) -> String {
-    let zeros = zeros_to(&cells);
+/// 13 of table 8, then of table 9; else both lists, each difference by its row and its content, and the reasons.
+fn compared(b: &Module, c: &Module, cells: &[u64], bytes: fn(&str) -> Vec<u8>) -> String {
+    let zeros = zeros_to(&cells[..2]);
     let d = compare_modules(b, "a", c, "b");
     if d.export_diffs.len() as u64 > (cells[0] / 2).min(MOST) {
         return refused(13, 8) + &zeros;
@@ -95,7 +95,12 @@ fn compared(b: &Module, c: &Module, cells: [u64; 2], bytes: fn(&str) -> Vec<u8>)
     if d.capability_diffs.len() as u64 > (cells[1] / 3).min(MOST) {
         return refused(13, 9) + &zeros;
     }
-    listed(b, c, &d, bytes) + &zeros
+    listed(b, c, &d, bytes) + &zeros + "; " + &into_room(&text_of(&d, bytes), cells[2])
+}
+
+/// A line for each reason.
+fn text_of(d: &Compatibility, bytes: fn(&str) -> Vec<u8>) -> Vec<u8> {
+    d.breaking_reasons().iter().flat_map(|r| bytes(&format!("{r}\n"))).collect()
 }
 
 fn listed(b: &Module, c: &Module, d: &Compatibility, bytes: fn(&str) -> Vec<u8>) -> String {
@@ -140,14 +145,14 @@ fn lowest(m: &Module) -> HashMap<(usize, String), usize> {
 }
 
 /// Of each difference its change and row, then of an export the name's range and the kind, of a capability the domain and the source's
-/// range; then the name that the port hands out for it, its length and bytes.
-pub fn port(baseline: &[u8], candidate: &[u8], t: &[u64]) -> String {
+/// range; then the name that the port hands out for it, its length and bytes. Before them the answer on reasons, whose text is `bytes`.
+pub fn port(baseline: &[u8], candidate: &[u8], t: &[u64], bytes: &[u8]) -> String {
     if t.len() == 2 {
         return answered(t, 2, |_| "accepted".into());
     }
     answered(&t[..5], 5, |h| {
         let mut out = format!("{} {} {}", h[2], h[3], h[4] == 1);
-        let mut rest = &t[7..];
+        let mut rest = &t[10..];
         for i in 0..h[2] + h[3] {
             if rest.len() < 6 {
                 return out + "; and no more rows";
@@ -171,6 +176,7 @@ pub fn port(baseline: &[u8], candidate: &[u8], t: &[u64]) -> String {
         }
         out
     }) + &zeros_to(&t[5..7])
+        + &if t[0] == 0 { "; ".to_string() + &port_written(&t[7..10], bytes) } else { String::new() }
 }
 
 fn name_told(t: &[u64]) -> (String, &[u64]) {
@@ -188,4 +194,38 @@ pub fn name(baseline: &[u8], candidate: &[u8], n: &[u64], width: usize) -> Strin
 
 pub fn port_name(t: &[u64]) -> String {
     name_told(t).0
+}
+
+/// Numbers: the room, the counts of tables 8 and 9, how many cells they have, their cells, then both modules' tables.
+pub fn reasons(baseline: &[u8], candidate: &[u8], n: &[u64]) -> String {
+    let (exports, rest) = n[5..].split_at(n[3] as usize);
+    let (needs, rest) = rest.split_at(n[4] as usize);
+    let (b, c) = handed(baseline, candidate, rest);
+    let side = |change: u64, k: usize| if change == 0 { b.counts[k] } else { c.counts[k] };
+    let tested = both_tested(&b, &c).and_then(|both| {
+        rows_tested(exports, 2, MOST, n[1], |r| r[1] >= side(r[0], 1))?;
+        rows_tested(needs, 3, MOST, n[2], |r| r[1] > 6 || r[2] >= side(r[0], 0))?;
+        Ok(both)
+    });
+    let (first, second) = match tested {
+        Ok(both) => both,
+        Err(why) => return why + "; the rest untouched",
+    };
+    let of = |change: u64| if change == 0 { (Change::Removed, &first) } else { (Change::Added, &second) };
+    let export_diffs = exports.chunks_exact(2).take(n[1] as usize).map(|r| {
+        let (change, m) = of(r[0]);
+        let e = &m.exports[r[1] as usize];
+        ExportDiff { change, name: e.field.clone(), kind: e.kind.slug() }
+    });
+    let capability_diffs = needs.chunks_exact(3).take(n[2] as usize).map(|r| {
+        let (change, m) = of(r[0]);
+        CapabilityDiff { change, domain: DOMAINS[r[1] as usize], source: m.imports[r[2] as usize].module.clone() }
+    });
+    let d = Compatibility {
+        baseline_name: String::new(),
+        candidate_name: String::new(),
+        export_diffs: export_diffs.collect(),
+        capability_diffs: capability_diffs.collect(),
+    };
+    into_room(&text_of(&d, unlatin), n[0])
 }

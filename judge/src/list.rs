@@ -1,9 +1,11 @@
-//! The fixed list: cases on which both agree, as records of the program that runs worked cases (its data folder says how a record is read).
+//! The fixed list: cases on which both agree, as records of the programs that run worked cases (their data folders say how a record is read).
 use crate::case::{hex, Answer, Call, Case};
 use std::collections::HashMap;
 
 /// A few cases of every kind of answer, so that a short list has them all.
 pub struct List {
+    /// For the program `comparisons`, which has manifests and comparisons; else for `cases`.
+    comparisons: bool,
     seen: HashMap<String, u32>,
     bytes: HashMap<u32, usize>,
     pub records: Vec<String>,
@@ -14,11 +16,14 @@ const EACH: u32 = 2;
 const MOST_BYTES: usize = 20_000;
 
 impl List {
-    pub fn new() -> List {
-        List { seen: HashMap::new(), bytes: HashMap::new(), records: Vec::new() }
+    pub fn new(comparisons: bool) -> List {
+        List { comparisons, seen: HashMap::new(), bytes: HashMap::new(), records: Vec::new() }
     }
 
     pub fn add(&mut self, case: &Case, a: &Answer) {
+        if self.comparisons != matches!(case.call, Call::Manifest | Call::Compare) {
+            return;
+        }
         let Some((input, answer)) = record(case, a) else { return };
         let kind = format!("{:?} {}", case.call, kind_of(case.call, &answer));
         let seen = self.seen.entry(kind).or_insert(0);
@@ -41,6 +46,8 @@ fn kind_of(call: Call, answer: &str) -> String {
     let words: Vec<&str> = answer.split(' ').collect();
     match call {
         Call::Module => format!("{} {:?}", words[3], &words[6..10.min(words.len())]),
+        Call::Manifest => format!("{} {} {}", words[1], words[4], words[5]),
+        Call::Compare => words[1..4].join(" "),
         Call::Policy => words.iter().enumerate().filter(|(i, _)| [2, 5].contains(i) || i % 4 == 3).map(|(_, w)| *w).collect(),
         _ => format!("{}", words.get(1).unwrap_or(&"")),
     }
@@ -50,6 +57,33 @@ fn numbers(n: &[u64]) -> String {
     n.iter().map(|n| n.to_string()).collect::<Vec<_>>().join(" ")
 }
 
+/// The cells of tables as told, each after its word.
+fn tables(mut t: &[u64], words: &[&str]) -> String {
+    let mut out = String::new();
+    for word in words {
+        let cells = t[0] as usize;
+        if cells > 0 {
+            out += &format!(" {word} {}", numbers(&t[1..1 + cells]));
+        }
+        t = &t[2 + cells..];
+    }
+    out
+}
+
+/// Tables 8 and 9 of what `compare::port` reads.
+fn differences(t: &[u64]) -> String {
+    let mut lists = [String::new(), String::new()];
+    let mut rest = &t[10..];
+    for i in 0..t[2] + t[3] {
+        let (row, later) = rest.split_at(6 + rest[5] as usize);
+        let cells = if i < t[2] { vec![row[0], row[1]] } else { vec![row[0], row[4], row[1]] };
+        lists[(i >= t[2]) as usize] += &format!(" {}", numbers(&cells));
+        rest = later;
+    }
+    let [x, y] = lists;
+    [("T8", x), ("T9", y)].iter().filter(|l| !l.1.is_empty()).map(|(word, cells)| format!(" {word}{cells}")).collect()
+}
+
 fn record(case: &Case, a: &Answer) -> Option<(String, String)> {
     let (n, t) = (&case.numbers, &a.numbers);
     let s = |i: usize| hex(&case.strings[i]);
@@ -57,15 +91,7 @@ fn record(case: &Case, a: &Answer) -> Option<(String, String)> {
     match case.call {
         Call::Module => {
             let input = format!("module | A {} L1 {} L2 {} L3 {} L4 {}", s(0), n[0], n[1], n[2], n[3]);
-            let mut ok = format!("ok {}", numbers(&t[2..11]));
-            let mut rest = &t[11..];
-            for table in 1..=4 {
-                let cells = rest[0] as usize;
-                if cells > 0 {
-                    ok += &format!(" T{table} {}", numbers(&rest[1..1 + cells]));
-                }
-                rest = &rest[2 + cells..];
-            }
+            let ok = format!("ok {}{}", numbers(&t[2..11]), tables(&t[11..], &["T1", "T2", "T3", "T4"]));
             Some((input, refused(ok)))
         }
         Call::Policy => {
@@ -77,6 +103,15 @@ fn record(case: &Case, a: &Answer) -> Option<(String, String)> {
                 }
             }
             Some((format!("policy | A {}", s(0)), refused(ok)))
+        }
+        Call::Manifest => {
+            let ok = format!("ok {}{}", numbers(&t[2..7]), tables(&t[7..], &["T5", "T6"]));
+            Some((format!("manifest | A {} L5 {} L6 {}", s(0), n[0], n[1]), refused(ok)))
+        }
+        Call::Compare if t.len() > 2 => {
+            let input = format!("compare | A {} MODULE B {} MODULE L8 {} L9 {}", s(0), s(1), n[0], n[1]);
+            let ok = if t[0] == 0 { format!("ok {}{}", numbers(&t[2..5]), differences(t)) } else { String::new() };
+            Some((input, refused(ok)))
         }
         Call::Import => Some((format!("import | A {} B {}", s(0), s(1)), format!("ok {}", t[0]))),
         Call::Path => Some((format!("path | A {}", s(0)), format!("ok {}", t[0]))),

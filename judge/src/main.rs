@@ -22,7 +22,7 @@ const USAGE: &str = "usage: judge run [--seed N] [--long SECONDS]     the fixed 
        judge one CALL NUMBERS STRINGS             one case, as a disagreement prints it
        judge strip < FILE.rt                      a file of Rattle as Rust, unproved
        judge apart [policy] < FILE                the original alone on a module or a policy, in this process
-       judge list                                 the fixed list of answers, as records of worked cases
+       judge list [comparisons]                   the fixed list of answers, as records of worked cases
        judge vectors FOLDER                       the modules below a folder
        judge mistakes LIST; judge plant LIST N CRATES    for tools/teeth
 VISCROMBAL_PORT is the command of the port's process.";
@@ -38,7 +38,8 @@ fn main() {
         ["strip"] => strip_input(),
         ["apart"] => apart(|file| says::module_says(&says::parse(file))),
         ["apart", "policy"] => apart(says::policy_alone),
-        ["list"] => fixed_list(),
+        ["list"] => fixed_list(false),
+        ["list", "comparisons"] => fixed_list(true),
         ["vectors", folder] => published(folder),
         _ => {
             eprintln!("{USAGE}");
@@ -100,9 +101,9 @@ fn one(text: &str) -> bool {
 }
 
 /// What the original and the port agreed on, for a program of the repository to replay without Rust.
-fn fixed_list() -> bool {
+fn fixed_list(comparisons: bool) -> bool {
     let mut court = Court::new(false);
-    court.list = Some(list::List::new());
+    court.list = Some(list::List::new(comparisons));
     make::fixed(&mut court);
     for round in 0..20 {
         make::seeded(&mut court, round);

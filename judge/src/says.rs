@@ -44,10 +44,11 @@ pub fn original_says(case: &Case) -> String {
         Call::AllExports => paths(s(0), n, true),
         Call::Check => checked(s(0), s(1)),
         Call::Needs => needs(s(0), n),
-        Call::Compare => compare::files(s(0), s(1), [n[0], n[1]]),
+        Call::Compare => compare::files(s(0), s(1), n),
         Call::Differences => compare::tables(s(0), s(1), n),
         Call::ExportName => compare::name(s(0), s(1), n, 4),
         Call::SourceName => compare::name(s(0), s(1), n, 5),
+        Call::Reasons => compare::reasons(s(0), s(1), n),
         Call::U8 => read(s(0), n[0], |r| r.u8().map(|v| v.to_string())),
         Call::U32Le => read(s(0), n[0], |r| r.u32_le().map(|v| v.to_string())),
         Call::Take => taken(s(0), n[0], n[1], |r, k| r.take(k).map(hex)),
@@ -76,7 +77,8 @@ pub fn port_says(case: &Case, a: &Answer) -> String {
         Call::Import | Call::Path => t[0].to_string(),
         Call::Manifest => port_manifest(s(0), t),
         Call::Requirements | Call::Needs => port_requirements(t),
-        Call::Compare | Call::Differences => compare::port(s(0), s(1), t),
+        Call::Compare | Call::Differences => compare::port(s(0), s(1), t, &a.bytes),
+        Call::Reasons => port_written(t, &a.bytes),
         Call::ExportName | Call::SourceName | Call::Section | Call::ChangeWord => compare::port_name(t),
         Call::U8 | Call::U32Le => port_read(t, |t| t[2].to_string()),
         Call::Take => port_read(t, |t| part(s(0), t[2], t[3])),
@@ -463,11 +465,11 @@ fn form(name: &str, permit: bool, rules: &[Option<(bool, Vec<&str>)>]) -> String
 }
 
 /// The text in so much room, and what the lent bytes hold after it.
-fn into_room(text: &str, room: u64) -> String {
+pub fn into_room(text: &[u8], room: u64) -> String {
     if text.len() as u64 > room {
         return refused(16, text.len() as u64) + "; the rest untouched";
     }
-    format!("{}: {}; the rest untouched", text.len(), hex(text.as_bytes()))
+    format!("{}: {}; the rest untouched", text.len(), hex(text))
 }
 
 fn written(text: &[u8], cells: &[u64], room: u64) -> String {
@@ -482,7 +484,7 @@ fn written(text: &[u8], cells: &[u64], room: u64) -> String {
     };
     let (named, start, end) = (cells.0[0] != 0, cells.0[1] as usize, (cells.0[1] + cells.0[2]) as usize);
     let name = if named { &s[start..end] } else { "default-deny" };
-    into_room(&form(name, cells.0[3] != 0, &(0..7).map(rule).collect::<Vec<_>>()), room)
+    into_room(form(name, cells.0[3] != 0, &(0..7).map(rule).collect::<Vec<_>>()).as_bytes(), room)
 }
 
 fn rewritten(text: &[u8], room: u64) -> String {
@@ -496,10 +498,10 @@ fn rewritten(text: &[u8], room: u64) -> String {
     if out.len() <= LONGEST_TEXT && Policy::parse(&out).ok() != Some(p) {
         return format!("the original does not read {out:?} back");
     }
-    into_room(&out, room)
+    into_room(out.as_bytes(), room)
 }
 
-fn port_written(t: &[u64], bytes: &[u8]) -> String {
+pub fn port_written(t: &[u64], bytes: &[u8]) -> String {
     let used = if t[0] == 0 { t[2] as usize } else { 0 };
     let rest = if bytes.get(used..).is_some_and(|r| r.iter().all(|b| *b == MARK)) { "untouched" } else { "changed" };
     answered(t, 3, |t| format!("{}: {}", t[2], part(bytes, 0, t[2]))) + "; the rest " + rest

@@ -1,4 +1,6 @@
 // compat.rs with lent tables.
+use capi::policies::WrittenTold;
+use capi::policies::written_of;
 use compat::Compared;
 use differences::Change;
 ghost use mathlib.Core.Path.{_≡_};
@@ -7,7 +9,8 @@ ghost use Rattle.table.specs.Table.{capacityOf};
 ghost use Rattle.differences.specs.Compared.{given, compared};
 ghost use Rattle.compat.specs.Answer.{saidCompared};
 ghost use Rattle.parts.specs.Part.{diffBytes};
-ghost use Rattle.judged.specs.Compares.{compareTold, CompareTells, changeAt, nameTold};
+ghost use Rattle.reasons.specs.Reasons.{diffs, reasoned};
+ghost use Rattle.judged.specs.Compares.{compareTold, CompareTells, ReasonsTell, changeAt, nameTold};
 
 #[repr(C)]
 pub struct CompareTold {
@@ -167,4 +170,46 @@ pub extern "C" fn judged_source_name<'a, 'b, 'c>(
         row,
     );
     name_of(name, k)
+}
+
+// Why the candidate cannot stand in for the baseline, in words.
+#[no_mangle]
+pub extern "C" fn judged_reasons(
+    baseline: &[u8],
+    bi: &[usize],
+    be: &[usize],
+    candidate: &[u8],
+    ci: &[usize],
+    ce: &[usize],
+    xd: &[usize],
+    cd: &[usize],
+    out: &mut [u8],
+    nbi: usize,
+    nbe: usize,
+    nci: usize,
+    nce: usize,
+    nxd: usize,
+    ncd: usize,
+) -> WrittenTold
+    ensures { λ r. ⌜ ReasonsTell (reasoned (given (now (baseline .entry)) (now (bi .entry)) nbi (now (be .entry)) nbe)
+        (given (now (candidate .entry)) (now (ci .entry)) nci (now (ce .entry)) nce)
+        (diffs (now (xd .entry)) nxd (now (cd .entry)) ncd) (length (now (out .entry)))) (now (out .entry)) r (now (out .exit)) ⌝ }
+{
+    written_of(reasons::breaking_reasons(
+        baseline,
+        bi,
+        nbi,
+        be,
+        nbe,
+        candidate,
+        ci,
+        nci,
+        ce,
+        nce,
+        xd,
+        nxd,
+        cd,
+        ncd,
+        out,
+    ))
 }

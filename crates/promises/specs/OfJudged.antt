@@ -25,6 +25,8 @@ use Rattle.judged.proofs.manifests.judged_needs.Kinds as needs-kinds
 use Rattle.judged.proofs.manifests.judged_needs.Reads as needs-reads
 use Rattle.judged.proofs.compares.judged_compare.Kinds as compare-kinds
 use Rattle.judged.proofs.compares.judged_compare.Reads as compare-reads
+use Rattle.judged.proofs.compares.judged_reasons.Kinds as reasons-kinds
+use Rattle.judged.proofs.compares.judged_reasons.Reads as reasons-reads
 use Rattle.judged.proofs.compares.judged_export_name.Kinds as export-name-kinds
 use Rattle.judged.proofs.compares.judged_export_name.Reads as export-name-reads
 use Rattle.judged.proofs.compares.judged_source_name.Kinds as source-name-kinds
@@ -172,6 +174,15 @@ module _ (κs : Lfts 7) (a : Dens κs compare-kinds.ps) (x y : resT compare-kind
 
   pub capability-changes-left : now (s .1 .1 .1 .1 .1 .1 .1 .0) ≡ now (t .1 .1 .1 .1 .1 .1 .1 .0)
   capability-changes-left = p .table9-is ∙ sym (q .table9-is)
+
+pub reasons-decides : Decides reasons-kinds.ps reasons-kinds.r reasons-reads.Post
+reasons-decides κs a x y s t p q = p .answer-is ∙ sym (q .answer-is)
+
+pub reasons-leave : (κs : Lfts 9) (a : Dens κs reasons-kinds.ps) (x y : resT reasons-kinds.r κs .Denot)
+    (s t : AtExit (endedOf 9 reasons-kinds.ps reasons-kinds.r) κs)
+    → reasons-reads.Post κs a x s → reasons-reads.Post κs a y t
+    → now (s .1 .1 .1 .1 .1 .1 .1 .1 .0) ≡ now (t .1 .1 .1 .1 .1 .1 .1 .1 .0)
+reasons-leave κs a x y s t p q = p .output-is ∙ sym (q .output-is)
 
 pub export-name-decides : Decides export-name-kinds.ps export-name-kinds.r export-name-reads.Post
 export-name-decides κs a x y s t p q = p ∙ sym q

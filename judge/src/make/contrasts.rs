@@ -8,6 +8,8 @@ use crate::Court;
 
 /// Cells of tables 8 and 9 at their limits.
 const FULL: [u64; 2] = [2 * 2048, 3 * 2048];
+/// Bytes for reasons.
+const ROOM: u64 = 300;
 const NAMES: [&[u8]; 8] = [b"a", b"b", b"ab", b"", b"wasi:io/x", b"wasi_snapshot_preview1", b"z", "é".as_bytes()];
 const FIELDS: [&[u8]; 5] = [b"fd_write", b"clock_time_get", b"f", b"random_get", b""];
 const KINDS: [u8; 9] = [0, 1, 2, 3, 4, 5, 127, 128, 255];
@@ -51,7 +53,7 @@ fn pair(r: &mut Random) -> (Vec<u8>, Vec<u8>) {
 }
 
 fn files(court: &mut Court, cells: [u64; 2], baseline: &[u8], candidate: &[u8]) {
-    court.hear(Case::new(Call::Compare, &cells, &[baseline, candidate]));
+    court.hear(Case::new(Call::Compare, &[cells[0], cells[1], ROOM], &[baseline, candidate]));
 }
 
 // ---- tables
@@ -78,7 +80,8 @@ fn numbers(first: &[u64], b: &Tables, c: &Tables) -> Vec<u64> {
 }
 
 fn tables(court: &mut Court, cells: [u64; 2], b: &Tables, c: &Tables, baseline: &[u8], candidate: &[u8]) {
-    court.hear(Case::new(Call::Differences, &numbers(&cells, b, c), &[baseline, candidate]));
+    let room = if b.exports.len() + c.imports.len() > 1000 { 65_536 } else { ROOM };
+    court.hear(Case::new(Call::Differences, &numbers(&[cells[0], cells[1], room], b, c), &[baseline, candidate]));
 }
 
 /// Names to point to: words of these files, and odd bytes.
@@ -149,6 +152,20 @@ fn names(court: &mut Court, r: &mut Random) {
     }
 }
 
+/// Rows of tables 8 and 9, in any order, now and then ones that point to nothing.
+fn reasons(court: &mut Court, r: &mut Random) {
+    let tables = FILES.map(|f| some_tables(f, r));
+    let row = |r: &mut Random| if r.one_in(25) { [8, 1024, u64::MAX][r.below(3)] } else { r.below(4) as u64 };
+    let change = |r: &mut Random| if r.one_in(9) { [2, 1 << 32, u64::MAX][r.below(3)] } else { r.below(2) as u64 };
+    let mut exports: Vec<u64> = (0..r.below(4)).flat_map(|_| [change(r), row(r)]).collect();
+    let mut needs: Vec<u64> = (0..r.below(4)).flat_map(|_| [change(r), if r.one_in(30) { 7 } else { r.below(7) as u64 }, row(r)]).collect();
+    let counts = [exports.len() / 2, needs.len() / 3].map(|n| n as u64 + r.one_in(15) as u64);
+    exports.extend((0..r.below(2)).map(|_| 9));
+    needs.extend((0..r.below(3)).map(|_| 9));
+    let first = [&[r.below(160) as u64, counts[0], counts[1], exports.len() as u64, needs.len() as u64], &exports[..], &needs].concat();
+    court.hear(Case::new(Call::Reasons, &numbers(&first, &tables[0], &tables[1]), &FILES));
+}
+
 pub fn seeded(court: &mut Court, r: &mut Random) {
     for _ in 0..500 {
         let (baseline, mut candidate) = pair(r);
@@ -162,6 +179,7 @@ pub fn seeded(court: &mut Court, r: &mut Random) {
         let (b, c) = (some_tables(FILES[0], r), some_tables(candidate, r));
         tables(court, if r.one_in(3) { few(r) } else { FULL }, &b, &c, FILES[0], candidate);
         names(court, r);
+        reasons(court, r);
     }
 }
 
@@ -184,6 +202,7 @@ pub fn fixed(court: &mut Court) {
     order(court);
     limits(court);
     many_names(court);
+    words(court);
 }
 
 /// Tables 8 and 9 of 0 to 3 rows and odd cells, for lists of 0 to 4; the modules' tables have room to spare.
@@ -353,6 +372,53 @@ fn many_names(court: &mut Court) {
                 let first = [change, at, count, count, many.len() as u64];
                 court.hear(Case::new(call, &[&first[..], &many, &many].concat(), &[b"abc", b"xyz"]));
             }
+        }
+    }
+}
+
+/// Reasons: every kind and domain in its words, in as much room as they take, one byte less and more; 15 before 16, and in the tables' order.
+fn words(court: &mut Court) {
+    let file = b"ab";
+    let hear = |court: &mut Court, room: u64, x: &[u64], counts: [u64; 2], y: &[u64], b: &Tables, c: &Tables| {
+        let first = [&[room, counts[0], counts[1], x.len() as u64, y.len() as u64], x, y].concat();
+        court.hear(Case::new(Call::Reasons, &numbers(&first, b, c), &[file, b"xyz"]));
+    };
+    let b = Tables::of(sources(0..2), (0..256).flat_map(|kind| [0, 2, kind, 0]).collect());
+    let c = Tables::of(vec![0, 3, 0, 0, 0, 1, 1, 0, 0, 2], letters(0..2));
+    for kind in 0..256 {
+        hear(court, 40, &[0, kind], [1, 0], &[], &b, &c);
+    }
+    for domain in 0..=7 {
+        for change in [0, 1, 2, u64::MAX] {
+            hear(court, 60, &[], [0, 1], &[change, domain, 1], &b, &c);
+            hear(court, 60, &[change, 0], [1, 0], &[domain; 2], &b, &c);
+        }
+    }
+    for room in 0..=130 {
+        hear(court, room, &[0, 0, 1, 0, 0, 1], [3, 2], &[1, 3, 0, 1, 0, 1, 0, 1, 0], &b, &c);
+        hear(court, room, &[0, 2], [1, 1], &[1, 6, 0], &b, &c);
+    }
+    // rows at the last one, and the one after it
+    for (x, y) in (0..3).flat_map(|x| (0..3).map(move |y| (x, y))) {
+        for change in 0..2 {
+            for room in [0, 200] {
+                hear(court, room, &[change, x], [1, 1], &[change, 0, y], &b, &c);
+                hear(court, room, &[change, 254 + x], [1, 1], &[change, 5 + y, y], &b, &c);
+                hear(court, room, &[change, x], [x, y], &[change, 0, y], &b, &c);
+            }
+        }
+    }
+    // 15 of every table at once
+    for faults in 0..64u64 {
+        let bad = |bit: u64| (faults >> bit & 1) * 9;
+        let module = |k: u64| Tables::of(vec![bad(k), 1, 0, 0, 0], vec![bad(k + 1), 1, 0, 0]);
+        hear(court, bad(0), &[0, bad(4)], [1, 1], &[1, bad(5), 0], &module(0), &module(2));
+    }
+    // tables of the most rows
+    for n in [2047, 2048, 2049u64] {
+        for cells in [n, 2048, 2050] {
+            hear(court, 65_536, &[0, 0].repeat(cells as usize), [n, 0], &[], &b, &c);
+            hear(court, 131_072, &[], [0, n], &[1, 3, 0].repeat(cells as usize), &b, &c);
         }
     }
 }

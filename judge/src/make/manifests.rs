@@ -193,6 +193,14 @@ fn many_paths(court: &mut Court) {
             }
         }
     }
+    // as many worlds as table 5 takes, one less and more
+    for n in 62..=66 {
+        for cells in [n, 64, 66] {
+            let tables = [&[n, 1, 2 * cells], &[0, 1].repeat(cells as usize)[..], &[n.min(64) - 1, 0, 0, 1, 0, 0, 0]].concat();
+            court.hear(Case::new(Call::Needs, &[&[1, 1], &tables[..]].concat(), &[&text]));
+            court.hear(Case::new(Call::AllImports, &[&[1], &tables[..]].concat(), &[&text]));
+        }
+    }
     let long = vec![b'a'; 65_537];
     let texts: [&[u8]; 5] = [b"ab", b"a\xff", &long, &long[1..], b"\xff"];
     for text in texts {
