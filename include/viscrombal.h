@@ -90,6 +90,48 @@ struct viscrombal_evaluation {
     bool compliant;
 };
 
+/* A module: its version, the file's length, the range of its name in the file, and how many rows tables 1 to 4 have; `symbols` are
+ * those of table 4. */
+struct viscrombal_module_read {
+    uint32_t number;
+    size_t place;
+    uint32_t version;
+    size_t length;
+    bool named;
+    size_t start;
+    size_t size;
+    size_t sections;
+    size_t imports;
+    size_t exports;
+    size_t symbols;
+    size_t bytes;
+};
+
+/* A manifest: the range of its package in the text, how many rows tables 5 and 6 have, how many paths are imported and exported. */
+struct viscrombal_manifest_read {
+    uint32_t number;
+    size_t place;
+    bool packaged;
+    size_t start;
+    size_t size;
+    size_t worlds;
+    size_t references;
+    size_t imported;
+    size_t exported;
+    size_t bytes;
+};
+
+/* Two builds: how many rows tables 8 and 9 have, and whether no export was removed and no capability added. No reasons are written: 0. */
+struct viscrombal_comparison {
+    uint32_t number;
+    size_t place;
+    size_t exports;
+    size_t capabilities;
+    bool compatible;
+    size_t reasons;
+    size_t bytes;
+};
+
 /* Reads at offset `at` of the bytes s[0] to s[len - 1]. */
 struct viscrombal_unsigned viscrombal_uleb128(const uint8_t *s, size_t len, size_t at);
 struct viscrombal_unsigned viscrombal_uleb128_u32(const uint8_t *s, size_t len, size_t at);
@@ -108,6 +150,25 @@ struct viscrombal_written viscrombal_rewrite(const uint8_t *text, size_t len, ui
 
 /* The whole check: a module's file held against a policy's text. `compliant` is false after a refusal. */
 struct viscrombal_evaluation viscrombal_check(const uint8_t *file, size_t len, const uint8_t *text, size_t text_len);
+
+/* Lists go to `out`, which must not overlap what is read: cells of eight bytes each, the lowest byte first, one row after another and one
+ * list after another, `bytes` in all. Refused, `out` is untouched (16: its place is the bytes needed); accepted, nothing past the lists.
+ * The tables behind it are at their limits, so that 13 means more than the limits of docs/RULES.md. */
+
+/* A module's file. Rows of tables 1 to 4: 5 cells a section (id, offset, size, name's offset and length), 5 an import (module name's
+ * offset and length, field name's, kind), 4 an export (name's offset and length, kind, index), 3 a function name (index, name's offset
+ * and length). */
+struct viscrombal_module_read viscrombal_module(const uint8_t *file, size_t len, uint8_t *out, size_t room);
+
+/* A manifest's text. Rows of tables 5 and 6: 2 cells a world (name's offset and length), 7 a reference (world, 0 import or 1 export,
+ * path's offset and length, 1 with a signature, its offset and length); then rows of table 6, a cell each: by path the lowest row of each
+ * path that is imported, then of each that is exported. */
+struct viscrombal_manifest_read viscrombal_manifest(const uint8_t *text, size_t len, uint8_t *out, size_t room);
+
+/* Two files. Rows of tables 8 and 9: 2 cells an export (0 removed or 1 added, row of table 3 of the baseline or of the candidate), 3 a
+ * capability (0 removed or 1 added, domain, row of table 2 of the baseline or of the candidate). */
+struct viscrombal_comparison viscrombal_compare(const uint8_t *baseline, size_t len, const uint8_t *candidate, size_t candidate_len,
+                                                uint8_t *out, size_t room);
 
 #ifdef __cplusplus
 }

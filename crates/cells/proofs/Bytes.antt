@@ -3,7 +3,7 @@ use Prim.Native.Nat.{ℕ, zero, suc, _+_, _*_, _/_, _%_, _^_, _<_}
 use native.Mathlib.Nat.{div-add-mod', div-lt-iff-lt-mul, pow-suc}
 use native.Mathlib.Omega.{arith}
 use mathlib.Core.Path.{_≡_, refl, sym, ap, ap₂, _∙_, subst}
-use mathlib.Core.List.{List, [], _∷_, _++_}
+use mathlib.Core.List.{List, [], _∷_, _++_, append-assoc}
 use lib.ListN.{length, take, drop}
 use lib.Seq.{take-at, drop-at}
 use Rattle.table.specs.Table.{cells}
@@ -22,6 +22,12 @@ length-low (suc k) n = ap suc (length-low k (n / 256))
 
 pub length-bytes : (l : List ℕ) → length (bytesOf l) ≡ length l * 8
 length-bytes l = length-cells (lowBytes 8) 8 (length-low 8) l
+
+pub bytes-append : (l m : List ℕ) → bytesOf (l ++ m) ≡ bytesOf l ++ bytesOf m
+unfolding cells
+bytes-append [] m = refl
+bytes-append (x ∷ l) m =
+    ap (λ (s : List ℕ). lowBytes 8 x ++ s) (bytes-append l m) ∙ sym (append-assoc (lowBytes 8 x) (bytesOf l) (bytesOf m))
 
 -- the number that bytes are, the lowest first
 abbrev pub valueOf : List ℕ → ℕ

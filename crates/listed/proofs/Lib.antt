@@ -1,0 +1,6 @@
+-- Laws that the proofs cite.
+pub mod Laying
+pub mod Rows
+pub mod OfModule
+pub mod OfManifest
+pub mod OfComparison

@@ -1,0 +1,158 @@
+-- Two builds that were compared, and the rows of their differences. Assumes nothing.
+use Prim.Native.Nat.{ℕ, _*_, _≤_, _<_}
+use mathlib.Core.Path.{_≡_, refl, sym, ap, _∙_, subst}
+use mathlib.Core.Bool.{Bool}
+use mathlib.Core.List.{List, _++_}
+use lib.ListN.{length, take}
+use borrow.Author.Tests.{lt-ltb, le-ltb}
+use Rattle.refusal.specs.Said.{Said, accepted, refused, refusedBy, follow}
+use Rattle.refusal.specs.declared.Refusal.{Refusal}
+use Rattle.refusal.proofs.Following.{followed, follow-stops, follow-goes}
+use Rattle.table.specs.Table.{laid, cells, capacityOf}
+use Rattle.cells.specs.Cells.{bytesOf}
+use Rattle.wasm.specs.Module.{moduleAt, Lent}
+use Rattle.wasm.specs.declared.Module.{Module}
+use Rattle.checking.specs.Checking.{limits}
+use Rattle.differences.specs.View.{Export, Need}
+use Rattle.differences.specs.Differences.{Entry}
+use Rattle.differences.specs.Compared.{Given, given, Lists, compared, Verdict, verdictOf, exportCells, needCells, listed, Compares}
+use Rattle.compat.specs.Answer.{saidCompared}
+use Rattle.compat.specs.declared.Compared.{Compared}
+use Rattle.rewriting.specs.Writer.{roomFor}
+use Rattle.listed.specs.declared.comparison.ComparisonTold.{ComparisonTold}
+use Rattle.listed.specs.Delivered.{Lays, Delivers}
+use Rattle.listed.specs.Comparisons.{comparisonBy, comparisonBytes, comparisonTold, verdict, Counted, takenBytes, build, against}
+use Rattle.listed.specs.Comparisons.{builds, comparison}
+use Rattle.listed.proofs.Laying.{delivers}
+use Rattle.listed.proofs.Rows.{one-value, first-refused, rows-taken, rows-inside}
+use Rattle.listed.proofs.OfModule.{ModuleFound, many-imports, many-exports}
+
+export-wide : (e : Entry Export) → length (exportCells e) ≡ 2
+export-wide e = refl
+
+need-wide : (e : Entry Need) → length (needCells e) ≡ 3
+need-wide e = refl
+
+-- ---- lists of differences that were made, in tables at the limits
+pub record ListsFound (x : Said Lists) (xd cd : List ℕ) (m n : ℕ) (fine : Bool) : Type 0 where
+  pub what : Lists
+  pub first : x ≡ accepted what
+  pub is : verdict m n fine ≡ verdictOf what
+  pub held8 : xd ≡ laid 4096 (cells exportCells (what .exports))
+  pub held9 : cd ≡ laid 6144 (cells needCells (what .needs))
+
+rooms : (b c : Given) → compared b c (capacityOf 4096 2 2048) (capacityOf 6144 3 2048) ≡ compared b c 2048 2048
+unfolding capacityOf
+rooms b c = refl
+
+module _ (b c : Given) {xd0 xd cd0 cd : List ℕ} (r : Compared) (long8 : length xd0 ≡ 4096) (long9 : length cd0 ≡ 6144)
+    (h : Compares (compared b c (capacityOf (length xd0) 2 2048) (capacityOf (length cd0) 3 2048)) xd0 xd cd0 cd (saidCompared r)) where
+  same : compared b c (capacityOf (length xd0) 2 2048) (capacityOf (length cd0) 3 2048) ≡ compared b c 2048 2048
+  same =
+      ap (λ (n : ℕ). compared b c (capacityOf n 2 2048) (capacityOf (length cd0) 3 2048)) long8
+      ∙ ap (λ (n : ℕ). compared b c (capacityOf 4096 2 2048) (capacityOf n 3 2048)) long9
+      ∙ rooms b c
+
+  answer : saidCompared r ≡ follow (compared b c 2048 2048) (λ l. accepted (verdictOf l))
+  answer = h .answer-is ∙ ap (λ (y : Said Lists). follow y (λ l. accepted (verdictOf l))) same
+
+  pub lists-refused : {why : Refusal} → r ≡ Compared.Refused why → compared b c 2048 2048 ≡ refusedBy why
+  lists-refused e = first-refused (compared b c 2048 2048) verdictOf (sym answer ∙ ap saidCompared e)
+
+  pub lists-found : {m n : ℕ} {fine : Bool} → r ≡ Compared.Lists m n fine → ListsFound (compared b c 2048 2048) xd cd m n fine
+  lists-found {m} {n} {fine} e =
+      let f = followed (compared b c 2048 2048) (λ l. accepted (verdictOf l)) (sym answer ∙ ap saidCompared e) in
+      record {
+        what = f .what;
+        first = f .first;
+        is = one-value (sym (f .then));
+        held8 = h .table8-is
+            ∙ ap (λ (y : Said Lists). laid (length xd0) (cells exportCells (listed y .exports))) (same ∙ f .first)
+            ∙ ap (λ (k : ℕ). laid k (cells exportCells (f .what .exports))) long8;
+        held9 = h .table9-is
+            ∙ ap (λ (y : Said Lists). laid (length cd0) (cells needCells (listed y .needs))) (same ∙ f .first)
+            ∙ ap (λ (k : ℕ). laid k (cells needCells (f .what .needs))) long9;
+      }
+
+module _ {x : Said Lists} {xd cd : List ℕ} {m n : ℕ} {fine : Bool} (q : ListsFound x xd cd m n fine) where
+  many8 : m ≡ length (q .what .exports)
+  unfolding verdictOf
+  many8 = ap (λ (v : Verdict). v .exports) (q .is)
+
+  many9 : n ≡ length (q .what .needs)
+  unfolding verdictOf
+  many9 = ap (λ (v : Verdict). v .capabilities) (q .is)
+
+  pub lists-counted : length xd ≤ 4096 → length cd ≤ 6144 → Counted m n xd cd
+  lists-counted a b =
+      record {
+        exports-in = rows-inside exportCells 2 export-wide 4096 (q .what .exports) (q .held8) many8;
+        needs-in = rows-inside needCells 3 need-wide 6144 (q .what .needs) (q .held9) many9;
+        exports-few = a;
+        needs-few = b;
+      }
+
+  same-bytes : takenBytes m n xd cd ≡ comparisonBytes (q .what)
+  unfolding comparisonBytes
+  same-bytes =
+      ap (λ (l : List ℕ). bytesOf (l ++ take (n * 3) cd)) (rows-taken exportCells 2 export-wide 4096 (q .what .exports) (q .held8) many8)
+      ∙ ap (λ (l : List ℕ). bytesOf (cells exportCells (q .what .exports) ++ l))
+      (rows-taken needCells 3 need-wide 6144 (q .what .needs) (q .held9) many9)
+
+  pub lists-delivered : {d y : List ℕ} {r : ComparisonTold}
+      → Lays (comparisonBy (verdict m n fine)) (roomFor (takenBytes m n xd cd) (length d)) d r y
+      → Delivers comparisonBytes comparisonTold x d r y
+  lists-delivered {d} {y} {r} k =
+      delivers comparisonBytes comparisonTold (comparisonBy (verdict m n fine)) (q .what) (q .first)
+      (ap (λ (v : Verdict). comparisonBy v (accepted (length (comparisonBytes (q .what))))) (q .is)) (λ n p. refl)
+      (subst (λ (w : List ℕ). Lays (comparisonBy (verdict m n fine)) (roomFor w (length d)) d r y) same-bytes k)
+
+-- ---- files that were read
+-- what the read left is the build
+build-is : {file : List ℕ} {l : Lent} {m : Module} (q : ModuleFound file l m)
+    → given file (l .imports) (m .imports) (l .exports) (m .exports) ≡ build file (q .what)
+build-is {file} {l} {m} q =
+    ap (λ (t : List ℕ). given file t (m .imports) (l .exports) (m .exports)) (q .held .imports-are)
+    ∙ ap (λ (k : ℕ). given file (build file (q .what) .imports) k (l .exports) (m .exports)) (many-imports q)
+    ∙ ap (λ (t : List ℕ). given file (build file (q .what) .imports) (build file (q .what) .importCount) t (m .exports))
+    (q .held .exports-are)
+    ∙ ap (λ (k : ℕ). given file (build file (q .what) .imports) (build file (q .what) .importCount) (build file (q .what) .exports) k)
+    (many-exports q)
+
+module _ {d y : List ℕ} {r : ComparisonTold} where
+  so : {x z : Said Lists} → x ≡ z → Delivers comparisonBytes comparisonTold x d r y → Delivers comparisonBytes comparisonTold z d r y
+  so e h = subst (λ (w : Said Lists). Delivers comparisonBytes comparisonTold w d r y) e h
+
+  pub candidate-read : (b : Given) {file : List ℕ} {l : Lent} {m : Module} → ModuleFound file l m
+      → Delivers comparisonBytes comparisonTold
+      (compared b (given file (l .imports) (m .imports) (l .exports) (m .exports)) 2048 2048) d r y
+      → Delivers comparisonBytes comparisonTold (against b file) d r y
+  unfolding against
+  candidate-read b q h = so (follow-goes _ (q .first) (ap (λ (c : Given). compared b c 2048 2048) (build-is q))) h
+
+  pub baseline-read : (candidate : List ℕ) {file : List ℕ} {l : Lent} {m : Module} → ModuleFound file l m
+      → Delivers comparisonBytes comparisonTold (against (given file (l .imports) (m .imports) (l .exports) (m .exports)) candidate) d r y
+      → Delivers comparisonBytes comparisonTold (builds file candidate) d r y
+  unfolding builds
+  baseline-read candidate q h = so (follow-goes _ (q .first) (ap (λ (b : Given). against b candidate) (build-is q))) h
+
+  pub builds-read : (b c : List ℕ) → length b ≤ 16777216 → length c ≤ 16777216
+      → Delivers comparisonBytes comparisonTold (builds b c) d r y → Delivers comparisonBytes comparisonTold (comparison b c) d r y
+  unfolding comparison
+  builds-read b c h k q = rw (le-ltb 16777216 (length b) h, le-ltb 16777216 (length c) k) q
+
+pub candidate-stops : (b : Given) (file : List ℕ) {n p : ℕ} → moduleAt file limits ≡ refused n p → against b file ≡ refused n p
+unfolding against
+candidate-stops b file e = sym (follow-stops _ e)
+
+pub baseline-stops : (file candidate : List ℕ) {n p : ℕ} → moduleAt file limits ≡ refused n p → builds file candidate ≡ refused n p
+unfolding builds
+baseline-stops file candidate e = sym (follow-stops _ e)
+
+pub baseline-long : (b c : List ℕ) → 16777216 < length b → comparison b c ≡ refused 14 0
+unfolding comparison
+baseline-long b c h = rw (lt-ltb 16777216 (length b) h)
+
+pub candidate-long : (b c : List ℕ) → length b ≤ 16777216 → 16777216 < length c → comparison b c ≡ refused 14 0
+unfolding comparison
+candidate-long b c h k = rw (le-ltb 16777216 (length b) h, lt-ltb 16777216 (length c) k)

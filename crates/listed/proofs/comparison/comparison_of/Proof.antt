@@ -1,0 +1,14 @@
+-- `comparison_of` meets its contract. Assumes nothing.
+use borrow.Author.Needs.{needs}
+use Rattle.listed.proofs.comparison.comparison_of.Statement.{statement}
+use Rattle.listed.proofs.comparison.comparison_of.Tie as tie
+
+returns : tie.Need-returns
+returns c = rw (c .before .w .given .1)
+
+returns-2 : tie.Need-returns-2
+returns-2 c = rw (c .before .before .w2 .given .1) (c .no-comparison .ensures)
+
+pub comparison-of-spec : {M : Type 1} → statement M
+comparison-of-spec =
+    tie.close (tie.spec (λ c. search needs) (λ c. search needs) (λ c κs. search needs) returns returns-2)

@@ -1,0 +1,30 @@
+-- `list_against` meets its contract. Assumes nothing.
+use borrow.Author.Needs.{needs}
+use Rattle.listed.specs.Comparisons.{comparisonBytes, comparisonTold}
+use Rattle.listed.proofs.Laying.{delivers-none}
+use Rattle.listed.proofs.OfModule.{module-refused, module-found}
+use Rattle.listed.proofs.OfComparison.{candidate-stops, candidate-read}
+use Rattle.listed.proofs.comparison.list_against.Statement.{statement}
+use Rattle.listed.proofs.comparison.list_against.Tie as tie
+
+returns : tie.Need-returns
+returns c =
+    let w = c .before .before in
+    let q = w .before .before .before .before .before .before in
+    delivers-none comparisonBytes comparisonTold (candidate-stops _ _ (module-refused _ (q .read-module .ensures) (w .why .given .1)))
+    (c .no-comparison .ensures)
+
+returns-2 : tie.Need-returns-2
+returns-2 c =
+    let k = c .before .before in
+    let w = k .before .before .before .before .before in
+    let q = w .before .before .before .before .before .before in
+    candidate-read _ (module-found _ (q .read-module .ensures) (w .m .given .1)) (k .list-differences .ensures)
+
+pub list-against-spec : {M : Type 1} → statement M
+list-against-spec =
+    tie.close
+    (tie.spec
+    (λ c. search needs) (λ c. search needs) (λ c. search needs) (λ c. search needs) (λ c κs. search needs) (λ c. search needs)
+    (λ c κs. search needs) (λ c. search needs) (λ c. search needs) (λ c. search needs) (λ c κs. search needs) returns
+    (λ c. search needs) returns-2)

@@ -1,0 +1,84 @@
+-- docs/RULES.md, "The module": a module's file, told in a struct of numbers, and its rows as bytes. Assumes nothing.
+use Prim.Native.Nat.{ℕ, _*_, _≤_}
+use mathlib.Core.Bool.{false}
+use mathlib.Core.List.{List, _++_}
+use lib.ListN.{length, take}
+use Rattle.refusal.specs.Said.{Said, accepted, refused}
+use Rattle.table.specs.Table.{cells}
+use Rattle.cells.specs.Cells.{bytesOf}
+use Rattle.wasm.specs.Rows.{importCells, exportCells, symbolCells}
+use Rattle.wasm.specs.Module.{Parsed, moduleOf, sectionCells}
+use Rattle.wasm.specs.declared.Module.{Module}
+use Rattle.listed.specs.declared.modules.ModuleTold.{ModuleTold}
+
+-- a refusal: all but number and place is zero
+abbrev pub noModule : ℕ → ℕ → ModuleTold
+noModule n p =
+    record {
+      number = n;
+      place = p;
+      version = 0;
+      length = 0;
+      named = false;
+      start = 0;
+      size = 0;
+      sections = 0;
+      imports = 0;
+      exports = 0;
+      symbols = 0;
+      bytes = 0;
+    }
+
+-- a module of which so many bytes were written
+abbrev pub moduleBy : Module → Said ℕ → ModuleTold
+moduleBy m (accepted n) =
+    record {
+      number = 0;
+      place = 0;
+      version = m .version;
+      length = m .length;
+      named = m .named;
+      start = m .start;
+      size = m .size;
+      sections = m .sections;
+      imports = m .imports;
+      exports = m .exports;
+      symbols = m .symbols;
+      bytes = n;
+    }
+moduleBy m (refused n p) = noModule n p
+
+-- the rows of tables 1 to 4
+unfoldable pub moduleBytes : Parsed → List ℕ
+moduleBytes m =
+    bytesOf (
+    cells sectionCells (m .tables .sections)
+    ++ cells importCells (m .tables .imports)
+    ++ cells exportCells (m .tables .exports)
+    ++ cells symbolCells (m .tables .names .symbols))
+
+-- of a file of n bytes
+abbrev pub moduleTold : ℕ → Said Parsed → ModuleTold
+moduleTold n (accepted m) = moduleBy (moduleOf n m) (accepted (length (moduleBytes m)))
+moduleTold n (refused k p) = noModule k p
+
+-- ---- for the code
+-- the counts are of rows that lie in the tables, which are at the limits
+pub record Counted (m : Module) (sections imports exports names : List ℕ) : Type 0 where
+  pub sections-in : m .sections * 5 ≤ length sections
+  pub imports-in : m .imports * 5 ≤ length imports
+  pub exports-in : m .exports * 4 ≤ length exports
+  pub names-in : m .symbols * 3 ≤ length names
+  pub sections-few : length sections ≤ 1280
+  pub imports-few : length imports ≤ 5120
+  pub exports-few : length exports ≤ 4096
+  pub names-few : length names ≤ 12288
+
+-- the bytes of the counted rows
+abbrev pub takenBytes : Module → List ℕ → List ℕ → List ℕ → List ℕ → List ℕ
+takenBytes m sections imports exports names =
+    bytesOf (
+    take (m .sections * 5) sections
+    ++ take (m .imports * 5) imports
+    ++ take (m .exports * 4) exports
+    ++ take (m .symbols * 3) names)

@@ -1,0 +1,117 @@
+// wasm.rs: a module's file, as the rows of tables 1 to 4.
+use crate::lists::lay_four;
+use refusal::Refusal;
+use refusal::Written;
+use wasm::Module;
+use wasm::ModuleRead;
+ghost use mathlib.Core.Path.{_≡_};
+ghost use lib.ListN.{length};
+ghost use Rattle.refusal.specs.Said.{numberOf, placeOf, saidWritten};
+ghost use Rattle.wasm.specs.Module.{moduleAt};
+ghost use Rattle.checking.specs.Checking.{limits};
+ghost use Rattle.rewriting.specs.Writer.{roomFor};
+ghost use Rattle.listed.specs.Delivered.{Lays, Delivers};
+ghost use Rattle.listed.specs.Modules.{noModule, moduleBy, moduleBytes, moduleTold, Counted, takenBytes};
+
+// Version, file length, the module's name, how many rows the tables have, and how many bytes these are.
+#[repr(C)]
+pub struct ModuleTold {
+    pub number: u32,
+    pub place: usize,
+    pub version: u32,
+    pub length: usize,
+    pub named: bool,
+    pub start: usize,
+    pub size: usize,
+    pub sections: usize,
+    pub imports: usize,
+    pub exports: usize,
+    pub symbols: usize,
+    pub bytes: usize,
+}
+
+fn no_module(why: Refusal) -> ModuleTold
+    ensures { λ r. ⌜ r ≡ noModule (numberOf why) (placeOf why) ⌝ }
+{
+    ModuleTold {
+        number: refusal::number(why),
+        place: refusal::place(why),
+        version: 0,
+        length: 0,
+        named: false,
+        start: 0,
+        size: 0,
+        sections: 0,
+        imports: 0,
+        exports: 0,
+        symbols: 0,
+        bytes: 0,
+    }
+}
+
+fn module_of(m: Module, w: Written) -> ModuleTold
+    ensures { λ r. ⌜ r ≡ moduleBy m (saidWritten w) ⌝ }
+{
+    match w {
+        Written::Bytes(bytes) => ModuleTold {
+            number: 0,
+            place: 0,
+            version: m.version,
+            length: m.length,
+            named: m.named,
+            start: m.start,
+            size: m.size,
+            sections: m.sections,
+            imports: m.imports,
+            exports: m.exports,
+            symbols: m.symbols,
+            bytes,
+        },
+        Written::Refused(why) => no_module(why),
+    }
+}
+
+// The rows that were read, one table after another.
+fn lay_module(
+    m: Module,
+    sections: &[usize],
+    imports: &[usize],
+    exports: &[usize],
+    names: &[usize],
+    out: &mut [u8],
+) -> ModuleTold
+    requires { ⌜ Counted m (now sections) (now imports) (now exports) (now names) ⌝ }
+    ensures { λ r. ⌜ Lays (moduleBy m)
+        (roomFor (takenBytes m (now (sections .entry)) (now (imports .entry)) (now (exports .entry)) (now (names .entry)))
+        (length (now (out .entry)))) (now (out .entry)) r (now (out .exit)) ⌝ }
+{
+    let a = m.sections * 5;
+    let b = m.imports * 5;
+    let c = m.exports * 4;
+    let d = m.symbols * 3;
+    module_of(
+        m,
+        lay_four(
+            &sections[..a],
+            &imports[..b],
+            &exports[..c],
+            &names[..d],
+            out,
+        ),
+    )
+}
+
+// The file is read with tables at the limits: what the reader refuses, then 16.
+pub fn list_module(file: &[u8], out: &mut [u8]) -> ModuleTold
+    ensures { λ r. ⌜ Delivers moduleBytes (moduleTold (length (now (file .entry)))) (moduleAt (now (file .entry)) limits)
+        (now (out .entry)) r (now (out .exit)) ⌝ }
+{
+    let mut sections = [0usize; 1280];
+    let mut imports = [0usize; 5120];
+    let mut exports = [0usize; 4096];
+    let mut names = [0usize; 12288];
+    match wasm::read_module(file, &mut sections, &mut imports, &mut exports, &mut names) {
+        ModuleRead::Refused(why) => no_module(why),
+        ModuleRead::Module(m) => lay_module(m, &sections, &imports, &exports, &names, out),
+    }
+}
