@@ -15,20 +15,22 @@ pub struct Case {
 }
 
 /// Name, rounds for a count of instructions (0: too long to be counted), and how it is made.
-pub const CASES: [(&str, u32, fn() -> Case); 23] = [
+pub const CASES: [(&str, u32, fn() -> Case); 25] = [
     ("module: tiny, tables of its size", 1000, || module(inputs::tiny(), Tables::of([2, 1, 1, 0]))),
     ("module: tiny, tables at the limits", 100, || module(inputs::tiny(), Tables::at_limits())),
-    ("module: a code section of 16 MiB", 100, || module(inputs::code(), Tables::at_limits())),
+    ("module: a code section of 16 MiB, a table of its size", 1000, || module(inputs::code(), Tables::of([1, 0, 0, 0]))),
+    ("module: a code section of 16 MiB, tables at the limits", 100, || module(inputs::code(), Tables::at_limits())),
     ("module: 256 sections", 100, || module(inputs::sections(), Tables::at_limits())),
     ("module: 1,000 imports, 1,000 exports", 20, || module(inputs::surface_1000(), Tables::at_limits())),
     ("module: 4,000 function names", 20, || module(inputs::symbols(), Tables::at_limits())),
+    ("module: 1,000 imports of 16 KiB, mixed UTF-8", 1, || module(inputs::long_names(), Tables::at_limits())),
     ("policy: small", 1000, || policy(inputs::policy())),
     ("policy: 64 KiB", 20, || policy(inputs::long_policy())),
+    ("policy: 64 KiB, 32,760 tokens asked for one by one", 0, || tokens(inputs::token_policy())),
     ("manifest: small", 1000, || manifest(inputs::manifest(), 1, 3)),
     ("manifest: 64 KiB", 20, || manifest(inputs::long_manifest(), 64, 1024)),
     ("check: tiny module, small policy", 100, || check(inputs::tiny(), inputs::policy())),
     ("check: 1,000 imports, policy of 64 KiB", 10, || check(inputs::surface_1000(), inputs::long_policy())),
-    ("policy: 64 KiB, its 6,500 tokens one by one", 1, || tokens(inputs::token_policy())),
     ("UTF-8: 16 MiB of ASCII", 1, || utf8(inputs::text(false))),
     ("UTF-8: 16 MiB, mixed", 1, || utf8(inputs::text(true))),
     ("compare: 1,000 + 1,000, equal", 2, || compare(inputs::build(0), inputs::build(0))),
@@ -231,7 +233,10 @@ fn utf8(s: Vec<u8>) -> Case {
             *cut.last_mut().unwrap() = 0xf0;
             let q = port::name(&cut);
             let good = |s: &[u8]| std::str::from_utf8(&s[start..]).is_ok();
-            [format!("{} {}", good(&s), good(&cut)), format!("{} {}", (p.number, p.from, p.len) == (0, start, s.len() - start), q.number != 4)]
+            [
+                format!("{} {}", good(&s), good(&cut)),
+                format!("{} {}", (p.number, p.from, p.len) == (0, start, s.len() - start), q.number != 4),
+            ]
         }),
         original: Box::new(move || {
             let _ = black_box(std::str::from_utf8(black_box(&a[start..])));

@@ -74,6 +74,14 @@ pub fn surface_1000() -> Vec<u8> {
     surface(&imports, &exports("exported_function", 0, 1000, 1))
 }
 
+/// 1,000 imports from sources of 16 KiB each, in sequences of one to four bytes.
+pub fn long_names() -> Vec<u8> {
+    let source = MIXED.repeat(16_384 / MIXED.len());
+    let file = surface(&vec![(source, "f".into()); 1000], &[]);
+    assert!(file.len() <= LONGEST_FILE);
+    file
+}
+
 /// A name section of 4,000 function names.
 pub fn symbols() -> Vec<u8> {
     let one = |i: usize| [number(i), counted(format!("_ZN4acme5image6resize17h{:016x}E", i * 2_654_435_761).as_bytes())].concat();
@@ -110,18 +118,9 @@ pub fn long_policy() -> Vec<u8> {
     filled(text, "# ")
 }
 
-/// One rule, whose list takes the whole text: 7,000 tokens and more.
+/// One rule, whose list takes the whole text: 32,760 tokens of one byte.
 pub fn token_policy() -> Vec<u8> {
-    let mut text = String::from("allow fs: ");
-    for i in 0.. {
-        let token = format!("/d/{i:04}, ");
-        if text.len() + token.len() > LONGEST_TEXT - 8 {
-            break;
-        }
-        text += &token;
-    }
-    text += "/\n";
-    filled(text, "# ")
+    filled(format!("allow fs:{}\n", ",a".repeat(32_760)), "# ")
 }
 
 pub fn manifest() -> Vec<u8> {
@@ -194,9 +193,11 @@ pub fn hostile_exports(side: usize) -> Vec<u8> {
     file
 }
 
+const MIXED: &str = "a\u{e9}\u{20ac}z\u{1f600}word \u{4e16}\u{754c} ";
+
 /// 16 MiB of text after its length: ASCII alone, or sequences of one to four bytes.
 pub fn text(mixed: bool) -> Vec<u8> {
-    let part = if mixed { "a\u{e9}\u{20ac}z\u{1f600}word \u{4e16}\u{754c} " } else { "The quick brown fox jumps over it\n" };
+    let part = if mixed { MIXED } else { "The quick brown fox jumps over it\n" };
     let mut text = part.repeat(LONGEST_FILE / part.len());
     text += &" ".repeat(LONGEST_FILE - text.len());
     counted(text.as_bytes())

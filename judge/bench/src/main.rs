@@ -69,11 +69,12 @@ fn counted(case: &str, side: &str, rounds: u32) -> Option<f64> {
     Some((of(2 * rounds)? - of(rounds)?) / rounds as f64)
 }
 
-/// A number to three digits, with the unit's letters before it.
+/// A number to three digits, with the unit's letters after it.
 fn short(x: f64, units: [&str; 4]) -> String {
     let power = if x < 1e3 { 0 } else { ((x.log10() / 3.0) as usize).min(3) };
     let x = x / 1e3f64.powi(power as i32);
-    let digits = if x < 10.0 { 2 } else { (x < 100.0) as usize };
+    // three digits that count
+    let digits = (2 - x.max(1e-6).log10().floor() as i32).max(0) as usize;
     format!("{x:.digits$}{}", units[power])
 }
 
