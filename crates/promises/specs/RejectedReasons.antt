@@ -36,7 +36,8 @@ module _ (κs : Lfts 7) (a : Dens κs compare-modules-kinds.ps)
       compared (given (now (a .0)) (now (a .1 .0)) (a .1 .1 .0) (now (a .1 .1 .1 .0)) (a .1 .1 .1 .1 .0))
       (given (now (a .1 .1 .1 .1 .1 .0)) (now (a .1 .1 .1 .1 .1 .1 .0)) (a .1 .1 .1 .1 .1 .1 .1 .0)
       (now (a .1 .1 .1 .1 .1 .1 .1 .1 .0)) (a .1 .1 .1 .1 .1 .1 .1 .1 .1 .0))
-      (capacityOf (length (now (a .1 .1 .1 .1 .1 .1 .1 .1 .1 .1 .0))) 2 2048) (capacityOf (length (now (a .1 .1 .1 .1 .1 .1 .1 .1 .1 .1 .1 .0))) 3 2048)
+      (capacityOf (length (now (a .1 .1 .1 .1 .1 .1 .1 .1 .1 .1 .0))) 2 2048)
+      (capacityOf (length (now (a .1 .1 .1 .1 .1 .1 .1 .1 .1 .1 .1 .0))) 3 2048)
 
   pub always-compatible : (l : Lists) (m n : ℕ) → comparedHere ≡ accepted l → verdictOf l .compatible ≡ false
       → compare-modules.Post κs a (Compared.Lists m n true) s → ⊥
