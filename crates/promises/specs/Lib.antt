@@ -22,4 +22,5 @@ pub mod Examples
 pub mod Rejected
 pub mod OfCapi
 pub mod OfJudged
+pub mod OfListed
 pub mod Unclassified
