@@ -24,4 +24,5 @@ pub mod Rejected
 pub mod RejectedReasons
 pub mod OfCapi
 pub mod OfJudged
+pub mod OfListed
 pub mod Unclassified
