@@ -25,4 +25,5 @@ pub mod RejectedReasons
 pub mod OfCapi
 pub mod OfJudged
 pub mod OfListed
+pub mod OfReport
 pub mod Unclassified

@@ -26,7 +26,8 @@ enough (suc k) zero (suc n) h i = absurd (omega arith)
 enough (suc k) (suc j) n h i = by (ltb n 10) refl (λ l. enough k j (n / 10) (omega arith) (omega arith))
   where
     by : (t : Bool) → ltb n 10 ≡ t → (n / 10 < n → digits k (n / 10) ≡ digits j (n / 10))
-        → pick t ((48 + n) ∷ []) (digits k (n / 10) ++ ((48 + n % 10) ∷ [])) ≡ pick t ((48 + n) ∷ []) (digits j (n / 10) ++ ((48 + n % 10) ∷ []))
+        → pick t ((48 + n) ∷ []) (digits k (n / 10) ++ ((48 + n % 10) ∷ []))
+        ≡ pick t ((48 + n) ∷ []) (digits j (n / 10) ++ ((48 + n % 10) ∷ []))
     by true q ih = refl
     by false q ih = ap (λ (w : List ℕ). w ++ ((48 + n % 10) ∷ [])) (ih (tenth-less n (ltb-false n 10 q)))
 
@@ -40,4 +41,5 @@ unfolding decimalOf digits
 more-digits zero h = absurd (omega arith)
 more-digits (suc n) h =
     let l = tenth-less (suc n) h in
-    rw (le-ltb (suc n) 10 h) (ap (λ (w : List ℕ). w ++ ((48 + suc n % 10) ∷ [])) (enough n (suc n / 10) (suc n / 10) (omega arith) (omega arith)))
+    let e : digits n (suc n / 10) ≡ digits (suc n / 10) (suc n / 10) = enough n (suc n / 10) (suc n / 10) (omega arith) (omega arith) in
+    rw (le-ltb (suc n) 10 h) (ap (λ (w : List ℕ). w ++ ((48 + suc n % 10) ∷ [])) e)

@@ -92,7 +92,8 @@ pub name-room : {d : List ℕ} {at n : ℕ} {x : List ℕ} (s : List ℕ) (i : �
     → n ≤ at + 4 * i
 name-room s i h f = omega (arith, f .next, escaped-long (take i s), length-take-le i s (omega arith))
 
-pub put-all : {d : List ℕ} {at n : ℕ} {x : List ℕ} (s : List ℕ) (i : ℕ) → length s ≤ i → Wrote d at true (take i s) n x → Wrote d at true s n x
+pub put-all : {d : List ℕ} {at n : ℕ} {x : List ℕ} (s : List ℕ) (i : ℕ) → length s ≤ i → Wrote d at true (take i s) n x
+    → Wrote d at true s n x
 put-all s i h f = rw (take-all i s h) at f
 
 pub name-all : {d : List ℕ} {at n : ℕ} {x : List ℕ} (s : List ℕ) (i : ℕ) → length s ≤ i → Wrote d at true (escaped (take i s)) n x

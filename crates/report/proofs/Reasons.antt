@@ -22,7 +22,8 @@ pub head-long : (d : ℕ) → d < 7 → length (headText d) ≤ 37
 unfolding headText
 head-long d h = omega (arith, length-append (slug d) viaW, slug-long d h)
 
-pub removed-is : (name : List ℕ) (k : ExternalKind) (room : ℕ) {t : List ℕ} → t ≡ tailText k → framed removedW name t room ≡ removedIn name k room
+pub removed-is : (name : List ℕ) (k : ExternalKind) (room : ℕ) {t : List ℕ} → t ≡ tailText k
+    → framed removedW name t room ≡ removedIn name k room
 unfolding framed removedIn removedText
 removed-is name k room e = rw (e, le-ltb 16777216 (length (tailText k)) (omega (arith, tail-long k)))
 

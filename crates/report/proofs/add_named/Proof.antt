@@ -13,7 +13,8 @@ returns c =
     let t = p .before .before in
     let v = t .before in
     let a = v .before .args in
-    same (a .l) (then (a .l) _ _ (p .add .ensures) (same (p .add .result) (c .add-slug .ensures) (slug-word (a .d) (s .domain-slug .ensures))))
+    same (a .l)
+    (then (a .l) _ _ (p .add .ensures) (same (p .add .result) (c .add-slug .ensures) (slug-word (a .d) (s .domain-slug .ensures))))
     (named-some (numberOf (a .d)) (a .v) (v .is-violation .ensures) (t .if1 .taken))
 
 returns-2 : tie.Need-returns-2

@@ -15,7 +15,8 @@ returns c =
     let a = s .before in
     whole _
     (then empty _ _ (a .begin .ensures)
-    (then (a .begin .result) _ _ (same (a .begin .result) (b .add-slug .ensures) (slug-word (a .before .before .args .d) (s .domain-slug .ensures)))
+    (then (a .begin .result) _ _
+    (same (a .begin .result) (b .add-slug .ensures) (slug-word (a .before .before .args .d) (s .domain-slug .ensures)))
     (c .add .ensures)))
 
 pub domain-head-spec : {M : Type 1} → statement M

@@ -22,7 +22,8 @@ returns c =
     let a = s .before in
     whole _
     (then empty _ _ (a .begin .ensures)
-    (then (a .begin .result) _ _ (same (a .begin .result) (b .add-slug .ensures) (slug-word (a .before .before .args .d) (s .domain-slug .ensures)))
+    (then (a .begin .result) _ _
+    (same (a .begin .result) (b .add-slug .ensures) (slug-word (a .before .before .args .d) (s .domain-slug .ensures)))
     (then (b .add-slug .result) _ _ (k .add .ensures)
     (then (k .add .result) _ _ (e .add-whether .ensures)
     (then (e .add-whether .result) _ _ (f .add2 .ensures)

@@ -22,7 +22,8 @@ at t = and 0 add-number-kinds.ps (is 0 add-number-kinds.ps μ-add-number t) add-
 abbrev below : ℕ → In 0 add-number-kinds.ps
 below t = and 0 add-number-kinds.ps (falls 0 add-number-kinds.ps _<_ μ-add-number t) add-number.Pre
 
-add-digit-requires : (t : ℕ) → lts.Need-add-digit-requires (add-digit.Asked, add-digit.Learnt, below t, add-number.Post) (at t) add-number.Post
+add-digit-requires : (t : ℕ) → lts.Need-add-digit-requires
+    (add-digit.Asked, add-digit.Learnt, below t, add-number.Post) (at t) add-number.Post
 add-digit-requires t c κs = c .if1 .taken
 
 returns : (t : ℕ) → lts.Need-returns (add-digit.Asked, add-digit.Learnt, below t, add-number.Post) (at t) add-number.Post
@@ -30,12 +31,14 @@ returns t c =
     let s = c .before .before in
     same (s .args .l) (c .add-digit .ensures) (sym (one-digit (s .args .n) (c .before .if1 .taken)))
 
-add-number-requires : (t : ℕ) → lts.Need-add-number-requires (add-digit.Asked, add-digit.Learnt, below t, add-number.Post) (at t) add-number.Post
+add-number-requires : (t : ℕ) → lts.Need-add-number-requires
+    (add-digit.Asked, add-digit.Learnt, below t, add-number.Post) (at t) add-number.Post
 add-number-requires t c κs =
     let s = c .before in
     (subst (λ (m : ℕ). s .args .n / 10 < m) (s .pre .0) (tenth-less (s .args .n) (c .if1 .left)), tt)
 
-add-digit-requires-2 : (t : ℕ) → lts.Need-add-digit-requires-2 (add-digit.Asked, add-digit.Learnt, below t, add-number.Post) (at t) add-number.Post
+add-digit-requires-2 : (t : ℕ) → lts.Need-add-digit-requires-2
+    (add-digit.Asked, add-digit.Learnt, below t, add-number.Post) (at t) add-number.Post
 add-digit-requires-2 t c κs = rest-small (c .before .before .args .n)
 
 returns-2 : (t : ℕ) → lts.Need-returns-2 (add-digit.Asked, add-digit.Learnt, below t, add-number.Post) (at t) add-number.Post

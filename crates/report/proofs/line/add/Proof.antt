@@ -17,8 +17,10 @@ abbrev μ-loop : tie.MeasureT-loop
 
 loop-again : tie.Need-loop-again Inv-loop μ-loop
 loop-again c =
-    let l = c .before .before .before in
-    (refl, l .loop .inv .1 ∙ turn (l .loop .line) (l .before .before .args .bytes .now) (l .loop .i) (c .before .before .loop-test .taken) (c .add-byte .ensures))
+    let t = c .before .before in
+    let l = t .before in
+    let s = l .before .before .args .bytes .now in
+    (refl, l .loop .inv .1 ∙ turn (l .loop .line) s (l .loop .i) (t .loop-test .taken) (c .add-byte .ensures))
 
 returns : tie.Need-returns Inv-loop μ-loop
 returns c =
