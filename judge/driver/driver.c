@@ -376,11 +376,32 @@ static void section(void) { tell_word(section_word, number[0]); }
 
 static void change(void) { tell_word(judged_change, number[0]); }
 
+/* ---- the C interface's lists: numbers: the room; the whole of the lent bytes is told */
+static uint8_t *lent_bytes(size_t room) { return output = memset(malloc(room + 1), MARK, room), output_length = room, output; }
+
+static void c_module(void) {
+    struct viscrombal_module_read r = viscrombal_module(string[0], length[0], lent_bytes(number[0]), number[0]);
+    tell(r.number), tell(r.place), tell(r.version), tell(r.length), tell(r.named), tell(r.start), tell(r.size);
+    tell(r.sections), tell(r.imports), tell(r.exports), tell(r.symbols), tell(r.bytes);
+}
+
+static void c_manifest(void) {
+    struct viscrombal_manifest_read r = viscrombal_manifest(string[0], length[0], lent_bytes(number[0]), number[0]);
+    tell(r.number), tell(r.place), tell(r.packaged), tell(r.start), tell(r.size), tell(r.worlds), tell(r.references);
+    tell(r.imported), tell(r.exported), tell(r.bytes);
+}
+
+static void c_compare(void) {
+    struct viscrombal_comparison r = viscrombal_compare(string[0], length[0], string[1], length[1], lent_bytes(number[0]), number[0]);
+    tell(r.number), tell(r.place), tell(r.exports), tell(r.capabilities), tell(r.compatible), tell(r.reasons), tell(r.bytes);
+}
+
 /* In the order of `Call` in src/case.rs. */
 static void (*const calls[])(void) = {
     NULL, uleb128, uleb128_u32, sleb128, name, module, functions, memories, namespaces, policy, token, write_policy, evaluate, import, path,
     rewrite, manifest, requirements, all_imports, all_exports, check, needs, compare, differences, export_name, source_name,
     u8, u32_le, take_bytes, skip, left, kind, section, change, reasons,
+    c_module, c_manifest, c_compare,
 };
 
 /* ---- cases */

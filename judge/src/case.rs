@@ -38,9 +38,12 @@ pub enum Call {
     Section,
     ChangeWord,
     Reasons,
+    CModule,
+    CManifest,
+    CCompare,
 }
 
-pub const CALLS: [(Call, &str); 34] = [
+pub const CALLS: [(Call, &str); 37] = [
     (Call::Uleb128, "uleb128"),
     (Call::Uleb128U32, "uleb128_u32"),
     (Call::Sleb128, "sleb128"),
@@ -75,6 +78,9 @@ pub const CALLS: [(Call, &str); 34] = [
     (Call::Section, "section"),
     (Call::ChangeWord, "change"),
     (Call::Reasons, "reasons"),
+    (Call::CModule, "c_module"),
+    (Call::CManifest, "c_manifest"),
+    (Call::CCompare, "c_compare"),
 ];
 
 #[derive(Clone, PartialEq, Eq, Debug)]

@@ -99,11 +99,11 @@ fn compared(b: &Module, c: &Module, cells: &[u64], bytes: fn(&str) -> Vec<u8>) -
 }
 
 /// A line for each reason.
-fn text_of(d: &Compatibility, bytes: fn(&str) -> Vec<u8>) -> Vec<u8> {
+pub fn text_of(d: &Compatibility, bytes: fn(&str) -> Vec<u8>) -> Vec<u8> {
     d.breaking_reasons().iter().flat_map(|r| bytes(&format!("{r}\n"))).collect()
 }
 
-fn listed(b: &Module, c: &Module, d: &Compatibility, bytes: fn(&str) -> Vec<u8>) -> String {
+pub fn listed(b: &Module, c: &Module, d: &Compatibility, bytes: fn(&str) -> Vec<u8>) -> String {
     let mut exports = [alike(b), alike(c)];
     let needs = [lowest(b), lowest(c)];
     let mut out = format!("{} {} {}", d.export_diffs.len(), d.capability_diffs.len(), d.is_compatible());

@@ -1,5 +1,6 @@
 //! The comparison of the port with the original: see docs/JUDGE.md.
 mod case;
+mod cells;
 mod compare;
 mod limits;
 mod list;

@@ -1,6 +1,7 @@
 //! What the original says of a case, and what the port's answer says, in the same words. Where the original has nothing to say (limits,
 //! lent memory, tables that are handed in), docs/RULES.md decides, and this file says what that is.
 use crate::case::{hex, Answer, Call, Case};
+use crate::cells;
 use crate::compare;
 use original::compat::Change;
 use original::error::{Error, ErrorKind};
@@ -49,6 +50,9 @@ pub fn original_says(case: &Case) -> String {
         Call::ExportName => compare::name(s(0), s(1), n, 4),
         Call::SourceName => compare::name(s(0), s(1), n, 5),
         Call::Reasons => compare::reasons(s(0), s(1), n),
+        Call::CModule => cells::module(s(0), n[0]),
+        Call::CManifest => cells::manifest(s(0), n[0]),
+        Call::CCompare => cells::compare(s(0), s(1), n[0]),
         Call::U8 => read(s(0), n[0], |r| r.u8().map(|v| v.to_string())),
         Call::U32Le => read(s(0), n[0], |r| r.u32_le().map(|v| v.to_string())),
         Call::Take => taken(s(0), n[0], n[1], |r, k| r.take(k).map(hex)),
@@ -79,6 +83,9 @@ pub fn port_says(case: &Case, a: &Answer) -> String {
         Call::Requirements | Call::Needs => port_requirements(t),
         Call::Compare | Call::Differences => compare::port(s(0), s(1), t, &a.bytes),
         Call::Reasons => port_written(t, &a.bytes),
+        Call::CModule => cells::port_module(s(0), t, &a.bytes),
+        Call::CManifest => cells::port_manifest(s(0), t, &a.bytes),
+        Call::CCompare => cells::port_compare(s(0), s(1), t, &a.bytes),
         Call::ExportName | Call::SourceName | Call::Section | Call::ChangeWord => compare::port_name(t),
         Call::U8 | Call::U32Le => port_read(t, |t| t[2].to_string()),
         Call::Take => port_read(t, |t| part(s(0), t[2], t[3])),
@@ -207,7 +214,7 @@ fn tables<'a>(mut t: &'a [u64], widths: &[usize]) -> (Vec<std::slice::ChunksExac
     (rows, zeros)
 }
 
-fn port_module(s: &[u8], t: &[u64]) -> String {
+pub fn port_module(s: &[u8], t: &[u64]) -> String {
     let (rows, zeros) = tables(&t[11..], &[5, 5, 4, 3]);
     let mut out = answered(&t[..11], 11, |t| {
         let mut out = format!("version {} length {} name ", t[2], t[3]);
@@ -587,7 +594,7 @@ pub fn manifest_says(read: &original::error::Result<Manifest>) -> String {
     out
 }
 
-fn port_manifest(s: &[u8], t: &[u64]) -> String {
+pub fn port_manifest(s: &[u8], t: &[u64]) -> String {
     let (rows, zeros) = tables(&t[7..], &[2, 7]);
     let marked = |mark: u64, from: u64, len: u64| match (mark, from, len) {
         (0, 0, 0) => "none".into(),

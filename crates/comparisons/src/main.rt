@@ -15,6 +15,7 @@ fn main() {
     let mut t = records::tally::none();
     t = run(t, b"manifests.txt", true);
     t = run(t, b"comparisons.txt", true);
+    t = run(t, b"original.txt", true);
     t = run(t, b"wrong.txt", false);
     t.print();
 }

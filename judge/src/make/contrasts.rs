@@ -39,7 +39,7 @@ fn module(imports: &[Vec<u8>], exports: &[Vec<u8>]) -> Vec<u8> {
 }
 
 /// Two modules that share some of their imports and exports.
-fn pair(r: &mut Random) -> (Vec<u8>, Vec<u8>) {
+pub fn pair(r: &mut Random) -> (Vec<u8>, Vec<u8>) {
     let rows = |r: &mut Random, one: fn(&mut Random) -> Vec<u8>| -> Vec<Vec<u8>> { (0..r.below(7)).map(|_| one(r)).collect() };
     let (imports, exports) = (rows(r, import), rows(r, export));
     let other = |r: &mut Random, list: &[Vec<u8>], fresh: Vec<Vec<u8>>| -> Vec<Vec<u8>> {

@@ -59,7 +59,7 @@ fn line(r: &mut Random) -> String {
     out
 }
 
-fn lines(r: &mut Random) -> String {
+pub fn lines(r: &mut Random) -> String {
     let mut out = if r.one_in(4) { String::new() } else { "world w {\n".into() };
     for _ in 0..r.below(9) {
         out += &line(r);
