@@ -37,6 +37,12 @@ pub record Went (s : List ℕ) (at n : ℕ) : Type 0 where
   pub inside : n ≤ length s
   pub same : at + scan seqLen 0 (drop at s) ≡ n + scan seqLen 0 (drop n s)
 
+-- the same where n may be `at` itself
+pub record Ran (s : List ℕ) (at n : ℕ) : Type 0 where
+  pub past : at ≤ n
+  pub inside : n ≤ length s
+  pub same : at + scan seqLen 0 (drop at s) ≡ n + scan seqLen 0 (drop n s)
+
 -- one or more sequences from `at`, or an ill-formed one
 abbrev pub Jumped : List ℕ → ℕ → Seq → Type 0
 Jumped s at (Next n) = Went s at n

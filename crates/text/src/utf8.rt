@@ -1,10 +1,11 @@
 // UTF-8: well-formed byte sequences, by the Unicode Standard's Table 3-7.
 ghost use mathlib.Core.Path.{_≡_};
-ghost use Prim.Native.Nat.{_+_, _<_};
+ghost use mathlib.Core.Bool.{true};
+ghost use Prim.Native.Nat.{_+_, _≤_, _<_};
 ghost use lib.ListN.{length, drop};
 ghost use Rattle.text.specs.Ranges.{_to_};
 ghost use Rattle.text.specs.Utf8.{follow, upTo};
-ghost use Rattle.text.specs.Steps.{ranges, headIn, stepAt, Jumped};
+ghost use Rattle.text.specs.Steps.{ranges, headIn, stepAt, Ran, Jumped};
 
 // What a first byte asks: so many bytes more, the first of them from one byte to another, the others from 80 to BF.
 // More than three: no sequence begins so.
@@ -99,7 +100,36 @@ pub(crate) fn step(s: &[u8], at: usize) -> Seq
     Seq::Next(at + 4)
 }
 
-// Past eight ASCII bytes, each a sequence, or past one sequence.
+// The 32 bytes from `at` on are ASCII. Each is looked at, whatever those before it are, so that many are at once.
+fn plain(s: &[u8], at: usize) -> bool
+    requires { ⌜ at + 32 ≤ length (now s) ⌝ }
+    ensures { λ r. ⌜ (r ≡ true → Ran (now (s .entry)) at (at + 32)) ⌝ }
+{
+    let mut all: u8 = 0;
+    let mut i = 0;
+    while i < 32 {
+        all |= s[at + i];
+        i += 1;
+    }
+    all < 0x80
+}
+
+// Past what is ASCII from `from` on, in steps of 32 bytes.
+fn run(s: &[u8], from: usize) -> usize
+    requires { ⌜ from ≤ length (now s) ⌝ }
+    ensures { λ r. ⌜ Ran (now (s .entry)) from r ⌝ }
+{
+    let mut at = from;
+    while 32 <= s.len() - at {
+        if !plain(s, at) {
+            return at;
+        }
+        at += 32;
+    }
+    at
+}
+
+// Past eight ASCII bytes, each a sequence, and more that follow them, or past one sequence.
 fn jump(s: &[u8], at: usize) -> Seq
     requires { ⌜ at < length (now s) ⌝ }
     ensures { λ r. ⌜ Jumped (now (s .entry)) at r ⌝ }
@@ -109,7 +139,7 @@ fn jump(s: &[u8], at: usize) -> Seq
             let low = s[at + 1] | s[at + 2] | s[at + 3];
             let high = s[at + 4] | s[at + 5] | s[at + 6] | s[at + 7];
             if low | high < 0x80 {
-                return Seq::Next(at + 8);
+                return Seq::Next(run(s, at + 8));
             }
         }
         return Seq::Next(at + 1);
