@@ -9,6 +9,7 @@ use lib.Dec.{eqb, ltb}
 use Rattle.refusal.specs.Pick.{pick, both}
 use Rattle.text.specs.Find.{same}
 use Rattle.text.proofs.FindLaws.{same-is}
+use Rattle.table.specs.Table.{cellOf}
 use Rattle.differences.specs.Numbers.{someFrom}
 use Rattle.compat.specs.declared.keys.Key.{Key}
 use Rattle.compat.specs.declared.marks.Span.{Span}
@@ -87,6 +88,12 @@ others-end nb n i {o} e h = by (ltb i nb) e
     by : (t : Bool) → o ≡ pick t (record { from = nb; to = n }) (record { from = 0; to = nb }) → o .to ≤ n
     by true q = omega (arith, ap (λ (s : Span). s .to) q)
     by false q = omega (arith, ap (λ (s : Span). s .to) q)
+
+-- a row, by the cell that has its print
+pub differ-cell : (first second table : List ℕ) (k : Key) (j : ℕ) {p : ℕ} → Printed first second k → Printed first second (keyIn table j)
+    → p ≡ cellOf table 7 j 6 → (k .print ≡ p → ⊥) → false ≡ meets first second k (keyIn table j)
+unfolding keyIn
+differ-cell first second table k j pk pl e d = differ-print first second k (keyIn table j) pk pl (λ q. d (q ∙ sym e))
 
 module _ (first second table : List ℕ) (i : ℕ) where
   abbrev pub meeting : ℕ → Bool

@@ -29,14 +29,10 @@ fn others(nb: usize, n: usize, i: usize) -> Span
     Span { from: 0, to: nb }
 }
 
-// The second key is wanted, and is the first. Most keys differ in their prints, which cost one comparison.
+// The second key is wanted, and is the first.
 fn same_key<'a>(first: &'a [u8], second: &'a [u8], k: Key, l: Key) -> bool
-    requires { ⌜ (Printed (now first) (now second) k) × (Printed (now first) (now second) l) ⌝ }
     ensures { λ r. ⌜ r ≡ meets (now (first .entry)) (now (second .entry)) k l ⌝ }
 {
-    if k.print != l.print {
-        return false;
-    }
     if l.mark != 1 {
         return false;
     }
@@ -47,6 +43,17 @@ fn same_key<'a>(first: &'a [u8], second: &'a [u8], k: Key, l: Key) -> bool
         return false;
     }
     equal(key_name(first, second, k), key_name(first, second, l))
+}
+
+// Row j is wanted, and its key is k. Most rows differ in their prints, which cost one cell.
+fn same_row<'a, 'b>(first: &'a [u8], second: &'a [u8], plain: &'b [usize], k: Key, j: usize) -> bool
+    requires { ⌜ (Printed (now first) (now second) k) × (Printed (now first) (now second) (keyIn (now plain) j)) ⌝ }
+    ensures { λ r. ⌜ r ≡ meets (now (first .entry)) (now (second .entry)) k (keyIn (now (plain .entry)) j) ⌝ }
+{
+    if k.print != table::cell(plain, 7, j, 6) {
+        return false;
+    }
+    same_key(first, second, k, key_at(plain, j))
 }
 
 // Each row, no longer wanted where a row of the other module meets it: the search ends at the first.
@@ -70,7 +77,7 @@ fn mark_missing<'a, 'b, 'c>(
         let end = span.to;
         let mut j = span.from;
         'search: while j < end {
-            if same_key(first, second, key, key_at(plain, j)) {
+            if same_row(first, second, plain, key, j) {
                 key.mark = 0;
                 break 'search;
             }

@@ -44,22 +44,21 @@ search-holds c = (
   ap (soughtIn _ _ _ _) (c .others .ensures),
 )
 
-same-key-requires : tie.Need-same-key-requires Inv-search μ-search Inv-rows μ-rows
-same-key-requires c κs =
-    let s = c .before .before in
+same-row-requires : tie.Need-same-row-requires Inv-search μ-search Inv-rows μ-rows
+same-row-requires c κs =
+    let s = c .before in
     let r = row s in
     let p = start (r .before) .pre .1 in
-    (printed-as _ _ _ _ (s .search .inv .0) (p _ (r .rows-test .taken)), printed-as _ _ _ _ (c .key-at2 .ensures) (p _ (omega arith)))
+    (printed-as _ _ _ _ (s .search .inv .0) (p _ (r .rows-test .taken)), p _ (omega arith))
 
 search-again : tie.Need-search-again Inv-search μ-search Inv-rows μ-rows
 search-again c =
-    let k = c .before .before in
-    let t = k .before in
+    let t = c .before .before in
     let i = t .before .search .inv in (
       i .0,
       i .1,
       sym (some-miss _ _ _ (t .search-test .taken)
-          (told _ _ _ _ _ (i .0) (k .key-at2 .ensures) (c .before .same-key .ensures) (c .if1 .left))) ∙ i .2,
+          (told _ _ _ _ _ (i .0) refl (c .before .same-row .ensures) (c .if1 .left))) ∙ i .2,
     )
 
 -- where the ways out of the search meet, the key is the row's, wanted only where no row met it
@@ -71,8 +70,8 @@ met c =
     let i = c .before .search .inv in
     ⊎-elim
     (λ w. w .1 ∙ alone-kept _ _ _ _ _ _ (i .0) (sym (i .2) ∙ some-end _ _ _ (w .0 .left)))
-    (λ w. w .4 ∙ alone-met _ _ _ _ _ _ (i .0) (sym (i .2) ∙ some-hit _ _ _ (w .0 .taken)
-    (told _ _ _ _ _ (i .0) (w .1 .ensures) (w .2 .ensures) (w .3 .taken))))
+    (λ w. w .3 ∙ alone-met _ _ _ _ _ _ (i .0) (sym (i .2) ∙ some-hit _ _ _ (w .0 .taken)
+    (told _ _ _ _ _ (i .0) refl (w .1 .ensures) (w .2 .taken))))
     (c .search-test .came)
 
 rows-again : tie.Need-rows-again Inv-search μ-search Inv-rows μ-rows
@@ -97,5 +96,5 @@ mark-missing-spec =
     tie.close
     (tie.spec
     Inv-search μ-search Inv-rows μ-rows rows-holds (λ c κs. search needs) (λ c κs. search needs) search-holds
-    (λ c κs. search needs) same-key-requires (λ c. search needs) (λ c. search needs) search-again (λ c κs. search needs)
+    same-row-requires (λ c. search needs) (λ c. search needs) search-again (λ c κs. search needs)
     (λ c. search needs) (λ c. search needs) rows-again (λ c. search needs) returns)
