@@ -4,7 +4,7 @@ use std::collections::HashMap;
 
 /// A few cases of every kind of answer, so that a short list has them all.
 pub struct List {
-    /// For the program `comparisons`, which has manifests and comparisons; else for `cases`.
+    /// Manifests and comparisons, for original-comparisons.txt; else the rest, for original.txt.
     comparisons: bool,
     seen: HashMap<String, u32>,
     bytes: HashMap<u32, usize>,

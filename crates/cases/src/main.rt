@@ -1,23 +1,35 @@
 // Runs the worked cases in data/ against the port, and prints how many come out as they must. One that does not is named.
+mod builds;
 mod calls;
+mod cells;
+mod file;
+mod manifests;
 mod modules;
 mod policies;
+mod prepare;
+mod record;
+mod tally;
+mod told;
+mod words;
 
 use calls::make_call;
-use fields::agrees;
-use fields::between;
-use records::file::read_list;
-use records::record::read_record;
-use records::tally::Tally;
+use cells::agrees;
+use cells::between;
+use file::read_list;
+use record::read_record;
 use std::num::wrapping_add_usize;
+use tally::Tally;
 
 fn main() {
-    let mut t = records::tally::none();
+    let mut t = tally::none();
     t = run(t, b"modules.txt", true);
     t = run(t, b"policies.txt", true);
     t = run(t, b"samples.txt", true);
     t = run(t, b"layers.txt", true);
+    t = run(t, b"manifests.txt", true);
+    t = run(t, b"comparisons.txt", true);
     t = run(t, b"original.txt", true);
+    t = run(t, b"original-comparisons.txt", true);
     t = run(t, b"wrong.txt", false);
     t.print();
 }
@@ -66,7 +78,7 @@ fn holds(line: &[u8]) -> bool {
     answers(r.called(line), r.first(&bytes), r.second(&bytes), &cells)
 }
 
-fn answers(call: &[u8], a: &[u8], b: &[u8], cells: &[usize]) -> bool {
+fn answers<'a, 'b, 'c>(call: &'b [u8], a: &'a [u8], b: &'a [u8], cells: &'c [usize]) -> bool {
     let mut got = [0usize; 62000];
     if !make_call(call, a, b, cells, &mut got) {
         return false;

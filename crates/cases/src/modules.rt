@@ -1,14 +1,14 @@
 // Calls on modules: what each answers, as cells.
-use fields::answers::put_count;
-use fields::answers::put_refusal;
-use fields::answers::put_slug;
-use fields::bit;
-use fields::cell;
-use fields::count;
-use fields::given;
-use fields::lay;
-use fields::lent;
-use fields::place;
+use crate::cells::bit;
+use crate::cells::cell;
+use crate::cells::count;
+use crate::cells::given;
+use crate::cells::lay;
+use crate::cells::lent;
+use crate::cells::place;
+use crate::told::put_count;
+use crate::told::put_refusal;
+use crate::told::put_slug;
 use kinds::ExternalKind;
 use wasm::Module;
 use wasm::ModuleRead;
