@@ -13,6 +13,17 @@ pub(crate) fn make_call<'a, 'b, 'c, 'd>(
     cells: &'c [usize],
     got: &'d mut [usize],
 ) -> bool {
+    if on_one(word, a, b, cells, got) {
+        return true;
+    }
+    if on_manifest(word, a, cells, got) {
+        return true;
+    }
+    on_builds(word, a, b, cells, got)
+}
+
+// The calls on one module or on a policy.
+fn on_one(word: &[u8], a: &[u8], b: &[u8], cells: &[usize], got: &mut [usize]) -> bool {
     if on_module(word, a, cells, got) {
         return true;
     }
@@ -25,13 +36,7 @@ pub(crate) fn make_call<'a, 'b, 'c, 'd>(
     if on_policy(word, a, cells, got) {
         return true;
     }
-    if on_requirements(word, a, cells, got) {
-        return true;
-    }
-    if on_manifest(word, a, cells, got) {
-        return true;
-    }
-    on_builds(word, a, b, cells, got)
+    on_requirements(word, a, cells, got)
 }
 
 fn on_module(word: &[u8], a: &[u8], cells: &[usize], got: &mut [usize]) -> bool {
