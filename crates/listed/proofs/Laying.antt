@@ -17,7 +17,7 @@ use Rattle.table.proofs.Laws.{length-put}
 use Rattle.cells.specs.Cells.{lowBytes, bytesOf, roomAt, Puts}
 use Rattle.cells.proofs.Bytes.{length-bytes, bytes-append}
 use Rattle.cells.proofs.Putting.{put-none, put-append}
-use Rattle.rewriting.specs.Writer.{roomFor, counted, left, Told, Formed}
+use Rattle.writing.specs.Writing.{roomFor, counted, left, Told, Formed}
 use Rattle.listed.specs.Delivered.{housed, Delivers, Lays}
 
 -- the buffer d is y: the bytes of the cells l at its start, and r is the place after them

@@ -3,4 +3,5 @@ pub mod Laying
 pub mod Rows
 pub mod OfModule
 pub mod OfManifest
+pub mod Explaining
 pub mod OfComparison

@@ -18,12 +18,13 @@ use Rattle.differences.specs.Differences.{Entry}
 use Rattle.differences.specs.Compared.{Given, given, Lists, compared, Verdict, verdictOf, exportCells, needCells, listed, Compares}
 use Rattle.compat.specs.Answer.{saidCompared}
 use Rattle.compat.specs.declared.Compared.{Compared}
-use Rattle.rewriting.specs.Writer.{roomFor}
+use Rattle.writing.specs.Writing.{roomFor}
+use Rattle.reasons.specs.Reasons.{Diffs, diffs, reasonsTested, reasonsOf}
 use Rattle.listed.specs.declared.comparison.ComparisonTold.{ComparisonTold}
 use Rattle.listed.specs.Delivered.{Lays, Delivers}
-use Rattle.listed.specs.Comparisons.{comparisonBy, comparisonBytes, comparisonTold, verdict, Counted, takenBytes, build, against}
-use Rattle.listed.specs.Comparisons.{builds, comparison}
-use Rattle.listed.proofs.Laying.{delivers}
+use Rattle.listed.specs.Comparisons.{Comparison, comparisonBy, comparisonBytes, comparisonTold, verdict, tabled, explained, build}
+use Rattle.listed.specs.Comparisons.{Counted, takenBytes, explainedBytes, Explains, against, builds, comparison}
+use Rattle.listed.proofs.Laying.{delivers, delivers-none}
 use Rattle.listed.proofs.Rows.{one-value, first-refused, rows-taken, rows-inside}
 use Rattle.listed.proofs.OfModule.{ModuleFound, many-imports, many-exports}
 
@@ -92,20 +93,58 @@ module _ {x : Said Lists} {xd cd : List ℕ} {m n : ℕ} {fine : Bool} (q : List
         needs-few = b;
       }
 
-  same-bytes : takenBytes m n xd cd ≡ comparisonBytes (q .what)
-  unfolding comparisonBytes
-  same-bytes =
-      ap (λ (l : List ℕ). bytesOf (l ++ take (n * 3) cd)) (rows-taken exportCells 2 export-wide 4096 (q .what .exports) (q .held8) many8)
-      ∙ ap (λ (l : List ℕ). bytesOf (cells exportCells (q .what .exports) ++ l))
-      (rows-taken needCells 3 need-wide 6144 (q .what .needs) (q .held9) many9)
+  -- the tables are those of the lists
+  same-tables : diffs xd m cd n ≡ tabled (q .what)
+  same-tables =
+      let l = q .what in
+      ap (λ (t : List ℕ). diffs t m cd n) (q .held8)
+      ∙ ap (λ (k : ℕ). diffs (tabled l .exports) k cd n) many8
+      ∙ ap (λ (t : List ℕ). diffs (tabled l .exports) (length (l .exports)) t n) (q .held9)
+      ∙ ap (λ (k : ℕ). diffs (tabled l .exports) (length (l .exports)) (tabled l .needs) k) many9
 
-  pub lists-delivered : {d y : List ℕ} {r : ComparisonTold}
-      → Lays (comparisonBy (verdict m n fine)) (roomFor (takenBytes m n xd cd) (length d)) d r y
-      → Delivers comparisonBytes comparisonTold x d r y
-  lists-delivered {d} {y} {r} k =
-      delivers comparisonBytes comparisonTold (comparisonBy (verdict m n fine)) (q .what) (q .first)
-      (ap (λ (v : Verdict). comparisonBy v (accepted (length (comparisonBytes (q .what))))) (q .is)) (λ n p. refl)
-      (subst (λ (w : List ℕ). Lays (comparisonBy (verdict m n fine)) (roomFor w (length d)) d r y) same-bytes k)
+same-bytes : (l : Lists) → takenBytes (tabled l) ≡ bytesOf (cells exportCells (l .exports) ++ cells needCells (l .needs))
+same-bytes l =
+    ap (λ (k : List ℕ). bytesOf (k ++ take (length (l .needs) * 3) (tabled l .needs)))
+    (rows-taken exportCells 2 export-wide 4096 (l .exports) refl refl)
+    ∙ ap (λ (k : List ℕ). bytesOf (cells exportCells (l .exports) ++ k)) (rows-taken needCells 3 need-wide 6144 (l .needs) refl refl)
+
+pub explained-none : (b c : Given) {n p : ℕ} → compared b c 2048 2048 ≡ refused n p → explained b c ≡ refused n p
+unfolding explained
+explained-none b c e = sym (follow-stops _ e)
+
+-- lists that were made, and what is told of their tables
+module _ (b c : Given) (l : Lists) (first : compared b c 2048 2048 ≡ accepted l) {d y : List ℕ} {r : ComparisonTold}
+    (k : Explains b c (tabled l) (verdictOf l .compatible) d r y) where
+  abbrev text : List ℕ
+  text = reasonsOf b c (tabled l)
+
+  abbrev by-lists : Said ℕ → ComparisonTold
+  by-lists = comparisonBy (verdictOf l) (length text)
+
+  lists-told : Delivers comparisonBytes comparisonTold (explained b c) d r y
+  unfolding explained explainedBytes comparisonBytes verdictOf
+  lists-told = by (reasonsTested b c (tabled l)) refl
+    where
+      by : (t : Said (Unit {0})) → reasonsTested b c (tabled l) ≡ t → Delivers comparisonBytes comparisonTold (explained b c) d r y
+      by (accepted u) e =
+          let o : explainedBytes b c (tabled l) (length d) ≡ roomFor (takenBytes (tabled l) ++ text) (length d) =
+          sym (follow-goes _ e refl) in
+          delivers comparisonBytes comparisonTold by-lists (record { lists = l; reasons = text })
+          (sym (follow-goes _ first (follow-goes _ e refl))) refl (λ n p. refl)
+          (rw (← same-bytes l) (subst (λ (z : Said (List ℕ)). Lays by-lists z d r y) o k))
+      by (refused n p) e =
+          let o : explainedBytes b c (tabled l) (length d) ≡ refused n p = sym (follow-stops _ e) in
+          let h : Lays by-lists (refused n p) d r y = subst (λ (z : Said (List ℕ)). Lays by-lists z d r y) o k in
+          subst (λ (z : List ℕ). Delivers comparisonBytes comparisonTold (explained b c) d r z) (sym (h .output-is))
+          (delivers-none comparisonBytes comparisonTold (sym (follow-goes _ first (follow-stops _ e))) (h .answer-is))
+
+pub lists-delivered : (b c : Given) {xd cd : List ℕ} {m n : ℕ} {fine : Bool} (q : ListsFound (compared b c 2048 2048) xd cd m n fine)
+    {d y : List ℕ} {r : ComparisonTold} → Explains b c (diffs xd m cd n) fine d r y
+    → Delivers comparisonBytes comparisonTold (explained b c) d r y
+lists-delivered b c {xd} {cd} {m} {n} {fine} q {d} {y} {r} k =
+    lists-told b c (q .what) (q .first)
+    (subst (λ (t : Bool). Explains b c (tabled (q .what)) t d r y) (ap (λ (v : Verdict). v .compatible) (q .is))
+    (subst (λ (t : Diffs). Explains b c t fine d r y) (same-tables q) k))
 
 -- ---- files that were read
 -- what the read left is the build
@@ -120,15 +159,15 @@ build-is {file} {l} {m} q =
     (many-exports q)
 
 module _ {d y : List ℕ} {r : ComparisonTold} where
-  so : {x z : Said Lists} → x ≡ z → Delivers comparisonBytes comparisonTold x d r y → Delivers comparisonBytes comparisonTold z d r y
-  so e h = subst (λ (w : Said Lists). Delivers comparisonBytes comparisonTold w d r y) e h
+  so : {x z : Said Comparison} → x ≡ z → Delivers comparisonBytes comparisonTold x d r y → Delivers comparisonBytes comparisonTold z d r y
+  so e h = subst (λ (w : Said Comparison). Delivers comparisonBytes comparisonTold w d r y) e h
 
   pub candidate-read : (b : Given) {file : List ℕ} {l : Lent} {m : Module} → ModuleFound file l m
       → Delivers comparisonBytes comparisonTold
-      (compared b (given file (l .imports) (m .imports) (l .exports) (m .exports)) 2048 2048) d r y
+      (explained b (given file (l .imports) (m .imports) (l .exports) (m .exports))) d r y
       → Delivers comparisonBytes comparisonTold (against b file) d r y
   unfolding against
-  candidate-read b q h = so (follow-goes _ (q .first) (ap (λ (c : Given). compared b c 2048 2048) (build-is q))) h
+  candidate-read b q h = so (follow-goes _ (q .first) (ap (λ (c : Given). explained b c) (build-is q))) h
 
   pub baseline-read : (candidate : List ℕ) {file : List ℕ} {l : Lent} {m : Module} → ModuleFound file l m
       → Delivers comparisonBytes comparisonTold (against (given file (l .imports) (m .imports) (l .exports) (m .exports)) candidate) d r y

@@ -18,7 +18,7 @@ use Rattle.wit.specs.Manifest.{Lent, Holds, heldOf, ManifestIs}
 use Rattle.wit.specs.declared.Manifest.{Manifest}
 use Rattle.wit.specs.declared.ManifestRead.{ManifestRead}
 use Rattle.references.specs.Queries.{pathsOf}
-use Rattle.rewriting.specs.Writer.{roomFor}
+use Rattle.writing.specs.Writing.{roomFor}
 use Rattle.listed.specs.declared.manifests.ManifestTold.{ManifestTold}
 use Rattle.listed.specs.Delivered.{Lays, Delivers}
 use Rattle.listed.specs.Manifests.{Listing, laidBytes, manifestBytes, manifestBy, manifestTold, pathsListed, limits, manifestListed}

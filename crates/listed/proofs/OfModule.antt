@@ -13,7 +13,7 @@ use Rattle.wasm.specs.declared.Module.{Module}
 use Rattle.wasm.specs.declared.ModuleRead.{ModuleRead}
 use Rattle.wasm.specs.Custom.{namedOf}
 use Rattle.checking.specs.Checking.{limits}
-use Rattle.rewriting.specs.Writer.{roomFor}
+use Rattle.writing.specs.Writing.{roomFor}
 use Rattle.listed.specs.declared.modules.ModuleTold.{ModuleTold}
 use Rattle.listed.specs.Delivered.{Lays, Delivers}
 use Rattle.listed.specs.Modules.{moduleBy, moduleBytes, moduleTold, takenBytes, Counted}

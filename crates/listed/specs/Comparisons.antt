@@ -1,4 +1,5 @@
--- docs/RULES.md, "Differences": two builds, told in a struct of numbers, and the rows of their differences as bytes. Assumes nothing.
+-- docs/RULES.md, "Differences": two builds, told in a struct of numbers, with the rows of their differences and the reasons as bytes.
+-- Assumes nothing.
 use Prim.Native.Nat.{ℕ, _*_, _≤_}
 use mathlib.Core.Bool.{Bool, false}
 use mathlib.Core.List.{List, _++_}
@@ -12,6 +13,9 @@ use Rattle.wasm.specs.Rows as rows
 use Rattle.wasm.specs.Module.{Parsed, moduleAt}
 use Rattle.checking.specs.Checking.{limits}
 use Rattle.differences.specs.Compared.{Given, given, Lists, compared, Verdict, verdictOf, exportCells, needCells}
+use Rattle.writing.specs.Writing.{roomFor}
+use Rattle.reasons.specs.Reasons.{Diffs, diffs, reasonsTested, reasonsOf}
+use Rattle.listed.specs.Delivered.{Lays}
 use Rattle.listed.specs.declared.comparison.ComparisonTold.{ComparisonTold}
 
 -- a refusal: all but number and place is zero
@@ -30,27 +34,43 @@ noComparison n p =
 abbrev pub verdict : ℕ → ℕ → Bool → Verdict
 verdict m n fine = record { exports = m; capabilities = n; compatible = fine }
 
--- a verdict with lists of which so many bytes were written
-abbrev pub comparisonBy : Verdict → Said ℕ → ComparisonTold
-comparisonBy v (accepted n) =
+-- a verdict with lists and reasons: the reasons are so many bytes, of so many that were written
+abbrev pub comparisonBy : Verdict → ℕ → Said ℕ → ComparisonTold
+comparisonBy v k (accepted n) =
     record {
       number = 0;
       place = 0;
       exports = v .exports;
       capabilities = v .capabilities;
       compatible = v .compatible;
-      reasons = 0;
+      reasons = k;
       bytes = n;
     }
-comparisonBy v (refused n p) = noComparison n p
+comparisonBy v k (refused n p) = noComparison n p
 
--- the rows of tables 8 and 9
-unfoldable pub comparisonBytes : Lists → List ℕ
-comparisonBytes l = bytesOf (cells exportCells (l .exports) ++ cells needCells (l .needs))
+-- what is told of two builds: the two lists, and the text of the reasons
+pub record Comparison : Type 0 where
+  pub lists : Lists
+  pub reasons : List ℕ
 
-abbrev pub comparisonTold : Said Lists → ComparisonTold
-comparisonTold (accepted l) = comparisonBy (verdictOf l) (accepted (length (comparisonBytes l)))
+-- the rows of tables 8 and 9, then the reasons
+unfoldable pub comparisonBytes : Comparison → List ℕ
+comparisonBytes v = bytesOf (cells exportCells (v .lists .exports) ++ cells needCells (v .lists .needs)) ++ v .reasons
+
+abbrev pub comparisonTold : Said Comparison → ComparisonTold
+comparisonTold (accepted v) = comparisonBy (verdictOf (v .lists)) (length (v .reasons)) (accepted (length (comparisonBytes v)))
 comparisonTold (refused n p) = noComparison n p
+
+-- the lists in tables at the limits
+abbrev pub tabled : Lists → Diffs
+tabled l =
+    diffs (laid 4096 (cells exportCells (l .exports))) (length (l .exports)) (laid 6144 (cells needCells (l .needs))) (length (l .needs))
+
+-- two modules that were read: their lists, and the reasons that their rows give
+unfoldable pub explained : Given → Given → Said Comparison
+explained b c =
+    follow (compared b c 2048 2048) (λ l.
+    follow (reasonsTested b c (tabled l)) (λ u. accepted (record { lists = l; reasons = reasonsOf b c (tabled l) })))
 
 -- what a read leaves of a module, in tables at the limits
 abbrev pub build : List ℕ → Parsed → Given
@@ -58,15 +78,15 @@ build file m =
     given file (laid 5120 (cells rows.importCells (m .tables .imports))) (length (m .tables .imports))
     (laid 4096 (cells rows.exportCells (m .tables .exports))) (length (m .tables .exports))
 
--- a module that was read against a candidate's file, with tables of differences at the limits
-unfoldable pub against : Given → List ℕ → Said Lists
-against b candidate = follow (moduleAt candidate limits) (λ m. compared b (build candidate m) 2048 2048)
+-- a module that was read against a candidate's file
+unfoldable pub against : Given → List ℕ → Said Comparison
+against b candidate = follow (moduleAt candidate limits) (λ m. explained b (build candidate m))
 
-unfoldable pub builds : List ℕ → List ℕ → Said Lists
+unfoldable pub builds : List ℕ → List ℕ → Said Comparison
 builds baseline candidate = follow (moduleAt baseline limits) (λ m. against (build baseline m) candidate)
 
 -- 14 of either file, the baseline's refusals, the candidate's
-unfoldable pub comparison : List ℕ → List ℕ → Said Lists
+unfoldable pub comparison : List ℕ → List ℕ → Said Comparison
 comparison baseline candidate =
     pick (ltb 16777216 (length baseline)) (refused 14 0)
     (pick (ltb 16777216 (length candidate)) (refused 14 0) (builds baseline candidate))
@@ -80,5 +100,15 @@ pub record Counted (m n : ℕ) (xd cd : List ℕ) : Type 0 where
   pub needs-few : length cd ≤ 6144
 
 -- the bytes of the counted rows
-abbrev pub takenBytes : ℕ → ℕ → List ℕ → List ℕ → List ℕ
-takenBytes m n xd cd = bytesOf (take (m * 2) xd ++ take (n * 3) cd)
+abbrev pub takenBytes : Diffs → List ℕ
+takenBytes d = bytesOf (take (d .exportCount * 2) (d .exports) ++ take (d .needCount * 3) (d .needs))
+
+-- then the reasons that the rows give, into so much room
+unfoldable pub explainedBytes : Given → Given → Diffs → ℕ → Said (List ℕ)
+explainedBytes b c d room = follow (reasonsTested b c d) (λ u. roomFor (takenBytes d ++ reasonsOf b c d) room)
+
+-- the promise of it: the answer, and the buffer, which was before and is after
+abbrev pub Explains : Given → Given → Diffs → Bool → List ℕ → ComparisonTold → List ℕ → Type 0
+Explains b c d fine before r after =
+    Lays (comparisonBy (verdict (d .exportCount) (d .needCount) fine) (length (reasonsOf b c d))) (explainedBytes b c d (length before))
+    before r after

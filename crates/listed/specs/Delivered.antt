@@ -5,7 +5,7 @@ use mathlib.Core.Path.{_≡_}
 use mathlib.Core.List.{List}
 use lib.ListN.{length}
 use Rattle.refusal.specs.Said.{Said, accepted, follow}
-use Rattle.rewriting.specs.Writer.{roomFor, counted, left}
+use Rattle.writing.specs.Writing.{roomFor, counted, left}
 
 -- x, whose value's bytes have to go into so much room: 16, with the bytes needed
 unfoldable pub housed : {A : Type 0} → (A → List ℕ) → ℕ → Said A → Said A

@@ -1,20 +1,20 @@
-// compat.rs: two builds, as the rows of tables 8 and 9.
+// compat.rs: two builds, as the rows of tables 8 and 9 and the reasons why one cannot stand in for the other.
 use crate::lists::lay_two;
 use compat::Compared;
 use compat::compare_modules;
+use reasons::reasons_from;
 use refusal::Refusal;
 use refusal::Written;
 use wasm::ModuleRead;
 ghost use mathlib.Core.Path.{_≡_};
-ghost use lib.ListN.{length};
-ghost use Rattle.refusal.specs.Said.{numberOf, placeOf, saidWritten};
-ghost use Rattle.differences.specs.Compared.{given, compared};
-ghost use Rattle.rewriting.specs.Writer.{roomFor};
-ghost use Rattle.listed.specs.Delivered.{Lays, Delivers};
-ghost use Rattle.listed.specs.Comparisons.{noComparison, comparisonBy, comparisonBytes, comparisonTold, verdict};
-ghost use Rattle.listed.specs.Comparisons.{Counted, takenBytes, against, builds, comparison};
+ghost use Rattle.refusal.specs.Said.{numberOf, placeOf};
+ghost use Rattle.differences.specs.Compared.{given};
+ghost use Rattle.reasons.specs.Reasons.{diffs};
+ghost use Rattle.listed.specs.Delivered.{Delivers};
+ghost use Rattle.listed.specs.Comparisons.{noComparison, comparisonBytes, comparisonTold, Counted, Explains, explained, against};
+ghost use Rattle.listed.specs.Comparisons.{builds, comparison};
 
-// How long the lists of differences are, whether nothing is broken, and how many bytes were written; no reasons are written yet.
+// How long the lists of differences are, whether nothing is broken, how many bytes the reasons are, and how many were written in all.
 #[repr(C)]
 pub struct ComparisonTold {
     pub number: u32,
@@ -40,50 +40,65 @@ fn no_comparison(why: Refusal) -> ComparisonTold
     }
 }
 
-fn comparison_of(
+// The rows of the differences, one table after another, then the reasons: these first, as they can refuse.
+fn lay_comparison<'a, 'b, 'c, 'd, 'e, 'f, 'g, 'h>(
+    baseline: &'a [u8],
+    bi: &'b [usize],
+    nbi: usize,
+    be: &'c [usize],
+    nbe: usize,
+    candidate: &'a [u8],
+    ci: &'d [usize],
+    nci: usize,
+    ce: &'e [usize],
+    nce: usize,
+    xd: &'f [usize],
     exports: usize,
+    cd: &'g [usize],
     capabilities: usize,
     compatible: bool,
-    w: Written,
-) -> ComparisonTold
-    ensures { λ r. ⌜ r ≡ comparisonBy (verdict exports capabilities compatible) (saidWritten w) ⌝ }
-{
-    match w {
-        Written::Bytes(bytes) => ComparisonTold {
-            number: 0,
-            place: 0,
-            exports,
-            capabilities,
-            compatible,
-            reasons: 0,
-            bytes,
-        },
-        Written::Refused(why) => no_comparison(why),
-    }
-}
-
-// The rows of the differences, one table after another.
-fn lay_comparison(
-    exports: usize,
-    capabilities: usize,
-    compatible: bool,
-    xd: &[usize],
-    cd: &[usize],
-    out: &mut [u8],
+    out: &'h mut [u8],
 ) -> ComparisonTold
     requires { ⌜ Counted exports capabilities (now xd) (now cd) ⌝ }
-    ensures { λ r. ⌜ Lays (comparisonBy (verdict exports capabilities compatible))
-        (roomFor (takenBytes exports capabilities (now (xd .entry)) (now (cd .entry))) (length (now (out .entry))))
-        (now (out .entry)) r (now (out .exit)) ⌝ }
+    ensures { λ r. ⌜ Explains (given (now (baseline .entry)) (now (bi .entry)) nbi (now (be .entry)) nbe)
+        (given (now (candidate .entry)) (now (ci .entry)) nci (now (ce .entry)) nce)
+        (diffs (now (xd .entry)) exports (now (cd .entry)) capabilities) compatible (now (out .entry)) r (now (out .exit)) ⌝ }
 {
     let a = exports * 2;
     let b = capabilities * 3;
-    comparison_of(
+    let first = (a + b) * 8;
+    match reasons_from(
+        baseline,
+        bi,
+        nbi,
+        be,
+        nbe,
+        candidate,
+        ci,
+        nci,
+        ce,
+        nce,
+        xd,
         exports,
+        cd,
         capabilities,
-        compatible,
-        lay_two(&xd[..a], &cd[..b], out),
-    )
+        out,
+        first as u32,
+    ) {
+        Written::Refused(why) => no_comparison(why),
+        Written::Bytes(bytes) => {
+            lay_two(&xd[..a], &cd[..b], out);
+            ComparisonTold {
+                number: 0,
+                place: 0,
+                exports,
+                capabilities,
+                compatible,
+                reasons: bytes - first,
+                bytes,
+            }
+        }
+    }
 }
 
 // The differences of two modules that were read, in tables at the limits.
@@ -101,8 +116,8 @@ fn list_differences<'a, 'b, 'c, 'd, 'e, 'f>(
     out: &'f mut [u8],
 ) -> ComparisonTold
     ensures { λ r. ⌜ Delivers comparisonBytes comparisonTold
-        (compared (given (now (baseline .entry)) (now (bi .entry)) nbi (now (be .entry)) nbe)
-        (given (now (candidate .entry)) (now (ci .entry)) nci (now (ce .entry)) nce) 2048 2048)
+        (explained (given (now (baseline .entry)) (now (bi .entry)) nbi (now (be .entry)) nbe)
+        (given (now (candidate .entry)) (now (ci .entry)) nci (now (ce .entry)) nce))
         (now (out .entry)) r (now (out .exit)) ⌝ }
 {
     let mut xd = [0usize; 4096];
@@ -126,7 +141,24 @@ fn list_differences<'a, 'b, 'c, 'd, 'e, 'f>(
             exports,
             capabilities,
             compatible,
-        } => lay_comparison(exports, capabilities, compatible, &xd, &cd, out),
+        } => lay_comparison(
+            baseline,
+            bi,
+            nbi,
+            be,
+            nbe,
+            candidate,
+            ci,
+            nci,
+            ce,
+            nce,
+            &xd,
+            exports,
+            &cd,
+            capabilities,
+            compatible,
+            out,
+        ),
     }
 }
 

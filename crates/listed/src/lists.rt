@@ -6,7 +6,7 @@ ghost use Prim.Native.Nat.{_+_, _≤_};
 ghost use mathlib.Core.List.{_++_};
 ghost use lib.ListN.{length};
 ghost use Rattle.cells.specs.Cells.{bytesOf};
-ghost use Rattle.rewriting.specs.Writer.{Formed};
+ghost use Rattle.writing.specs.Writing.{Formed};
 
 // Four lists into the buffer, where it has room for all of them.
 pub(crate) fn lay_four(

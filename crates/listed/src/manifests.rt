@@ -10,7 +10,7 @@ use wit::ManifestRead;
 ghost use mathlib.Core.Path.{_≡_};
 ghost use lib.ListN.{length};
 ghost use Rattle.refusal.specs.Said.{numberOf, placeOf, saidWritten};
-ghost use Rattle.rewriting.specs.Writer.{roomFor};
+ghost use Rattle.writing.specs.Writing.{roomFor};
 ghost use Rattle.listed.specs.Delivered.{Lays, Delivers};
 ghost use Rattle.listed.specs.Manifests.{noManifest, manifestBy, manifestBytes, manifestTold, worldsIn, referencesIn};
 ghost use Rattle.listed.specs.Manifests.{Counted, Short, laidBytes, pathsListed, manifestListed};

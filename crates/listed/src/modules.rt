@@ -9,7 +9,7 @@ ghost use lib.ListN.{length};
 ghost use Rattle.refusal.specs.Said.{numberOf, placeOf, saidWritten};
 ghost use Rattle.wasm.specs.Module.{moduleAt};
 ghost use Rattle.checking.specs.Checking.{limits};
-ghost use Rattle.rewriting.specs.Writer.{roomFor};
+ghost use Rattle.writing.specs.Writing.{roomFor};
 ghost use Rattle.listed.specs.Delivered.{Lays, Delivers};
 ghost use Rattle.listed.specs.Modules.{noModule, moduleBy, moduleBytes, moduleTold, Counted, takenBytes};
 

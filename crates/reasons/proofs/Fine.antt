@@ -2,13 +2,13 @@
 use mathlib.Core.Path.{_≡_, refl, sym, _∙_, ap}
 use mathlib.Core.Bool.{Bool, true, false}
 use mathlib.Core.List.{List}
-use Prim.Native.Nat.{ℕ, _≤_, _<_}
+use Prim.Native.Nat.{ℕ, _+_, _≤_, _<_}
 use native.Mathlib.Omega.{arith}
 use borrow.Author.Tests.{ltb-true, eq-eqb}
 use lib.Dec.{eqb, ltb}
 use lib.ListN.{length}
 use Rattle.refusal.specs.Pick.{pick}
-use Rattle.refusal.specs.Said.{accepted, refusedBy, saidAnswer, follow}
+use Rattle.refusal.specs.Said.{Said, accepted, refused, refusedBy, saidAnswer, follow}
 use Rattle.refusal.specs.declared.Answer.{Answer}
 use Rattle.refusal.specs.declared.Refusal.{Refusal}
 use Rattle.refusal.specs.declared.Written.{Written}
@@ -19,9 +19,11 @@ use Rattle.table.proofs.Cells.{capacity-limit}
 use Rattle.differences.specs.Compared.{Given, Good}
 use Rattle.differences.proofs.Tests.{tested-all, never-false, exports-good}
 use Rattle.differences.proofs.Both.{both-good, both-short}
-use Rattle.writing.specs.Writing.{Formed}
+use Rattle.writing.specs.Writing.{most, roomFor, Told, roomFrom, ToldFrom, FormedFrom}
+use Rattle.writing.proofs.Laws.{formed-first, formed-long}
 use Rattle.reasons.specs.Reasons.{Diffs, exportDiffFits, exportDiffBad, exportDiffsTested, needDiffBad, needDiffsTested, diffsTested}
-use Rattle.reasons.specs.Reasons.{reasonsTested, reasoned, reasonsOf, KindsFit, Reasons}
+use Rattle.reasons.specs.Reasons.{reasonsTested, reasoned, reasonsOf, KindsFit, Reasons, reasonedFrom, ReasonsFrom}
+use Rattle.reasons.proofs.Lines.{reasons-few}
 
 -- a removed row that passed points into the baseline's table
 row-in : (nb nc : ℕ) (xd : List ℕ) (i : ℕ) → exportDiffBad nb nc xd i ≡ false → cellOf xd 2 i 0 ≡ 0 → cellOf xd 2 i 1 < nb
@@ -64,15 +66,44 @@ module _ (b c : Given) (d : Diffs) where
     pub fine : a ≡ Answer.Accepted → Fine b c d
     fine e = fine-of (sym tested ∙ ap saidAnswer e)
 
-    pub reasons-refused : (before : List ℕ) {w : Refusal} → a ≡ Answer.Refused w → Reasons b c d before (Refused w) before
-    unfolding reasoned follow
-    reasons-refused before {w} e =
+    pub reasons-refused : (at : ℕ) (before : List ℕ) {w : Refusal} → a ≡ Answer.Refused w → ReasonsFrom at b c d before (Refused w) before
+    unfolding reasonedFrom follow
+    reasons-refused at before {w} e =
         let z : reasonsTested b c d ≡ refusedBy w = sym tested ∙ ap saidAnswer e in
         record { answer = rw z; output = rw z }
 
-    pub reasons-formed : (before : List ℕ) → a ≡ Answer.Accepted → {r : Written} {after : List ℕ}
-        → Formed (reasonsOf b c d) before r after → Reasons b c d before r after
-    unfolding reasoned follow
-    reasons-formed before e f =
+    pub reasons-formed : (at : ℕ) (before : List ℕ) → a ≡ Answer.Accepted → {r : Written} {after : List ℕ}
+        → FormedFrom at (reasonsOf b c d) before r after → ReasonsFrom at b c d before r after
+    unfolding reasonedFrom follow
+    reasons-formed at before e f =
         let z : reasonsTested b c d ≡ accepted tt = sym tested ∙ ap saidAnswer e in
         rw z f
+
+  -- from the start of the buffer on
+  pub reasons-first : (before : List ℕ) {r : Written} {after : List ℕ} → ReasonsFrom 0 b c d before r after → Reasons b c d before r after
+  unfolding reasoned reasonedFrom follow
+  reasons-first before {r} {after} f = by (reasonsTested b c d) f
+    where
+      by : (t : Said (Unit {0})) → ToldFrom 0 (follow t (λ u. roomFrom 0 (reasonsOf b c d) (length before))) before r after
+          → Told (follow t (λ u. roomFor (reasonsOf b c d) (length before))) before r after
+      by (accepted u) g = formed-first (reasonsOf b c d) before g
+      by (refused n p) g = record { answer = g .answer; output = g .output }
+
+  -- the buffer keeps its length
+  pub reasons-long : (at : ℕ) (before : List ℕ) {r : Written} {after : List ℕ} → ReasonsFrom at b c d before r after
+      → length after ≡ length before
+  unfolding reasonedFrom follow
+  reasons-long at before {r} {after} f = by (reasonsTested b c d) f
+    where
+      by : (t : Said (Unit {0})) → ToldFrom at (follow t (λ u. roomFrom at (reasonsOf b c d) (length before))) before r after
+          → length after ≡ length before
+      by (accepted u) g = formed-long (reasonsOf b c d) before at g
+      by (refused n p) g = ap length (g .output)
+
+  -- what was tested can be counted, after four thousand million other bytes as well
+  pub reasons-short : reasonsTested b c d ≡ accepted tt → {at : ℕ} → at ≤ 4294967295 → at + length (reasonsOf b c d) ≤ most
+  unfolding reasonsOf
+  reasons-short e h =
+      let z = fine-of e in
+      reasons-few (b .file) (b .exports) (c .file) (c .imports) (d .exports) (d .needs) (d .exportCount) (d .needCount)
+      (z .files .0) (z .files .1) (z .counts .0) (z .counts .1) h

@@ -146,10 +146,10 @@ module _ (file rows table : List ℕ) (i : ℕ) where
             slug-long (cellOf table 3 i 1),
           )
 
--- all of them can be counted
+-- all of them can be counted, after four thousand million other bytes as well
 pub reasons-few : (b be c ci xd cd : List ℕ) (n m : ℕ) → length b ≤ 16777216 → length c ≤ 16777216 → n ≤ 2048 → m ≤ 2048
-    → length (exportReasons b be xd n ++ needReasons c ci cd m) ≤ most
-reasons-few b be c ci xd cd n m h k l o =
+    → {at : ℕ} → at ≤ 4294967295 → at + length (exportReasons b be xd n ++ needReasons c ci cd m) ≤ most
+reasons-few b be c ci xd cd n m h k l o p =
     omega (
       arith,
       length-append (exportReasons b be xd n) (needReasons c ci cd m),

@@ -16,7 +16,7 @@ use Rattle.domains.specs.Domain.{slug}
 use Rattle.differences.specs.View.{Export, exportAt}
 use Rattle.differences.specs.Differences.{slugOf}
 use Rattle.differences.specs.Compared.{Given, bothTested}
-use Rattle.writing.specs.Writing.{roomFor, Told}
+use Rattle.writing.specs.Writing.{roomFor, Told, roomFrom, ToldFrom}
 
 -- ---- the lines
 -- `export removed: `
@@ -120,6 +120,13 @@ reasoned b c d room = follow (reasonsTested b c d) (λ u. roomFor (reasonsOf b c
 -- the promise: the answer, and the buffer, which was before and is after
 abbrev pub Reasons : Given → Given → Diffs → List ℕ → Written → List ℕ → Type 0
 Reasons b c d before r after = Told (reasoned b c d (length before)) before r after
+
+-- the same after the first `at` bytes of the buffer
+unfoldable pub reasonedFrom : ℕ → Given → Given → Diffs → ℕ → Said (List ℕ)
+reasonedFrom at b c d room = follow (reasonsTested b c d) (λ u. roomFrom at (reasonsOf b c d) room)
+
+abbrev pub ReasonsFrom : ℕ → Given → Given → Diffs → List ℕ → Written → List ℕ → Type 0
+ReasonsFrom at b c d before r after = ToldFrom at (reasonedFrom at b c d (length before)) before r after
 
 -- ---- for the code: the kind of a removed export is a byte
 abbrev pub KindFits : List ℕ → List ℕ → ℕ → Type 0

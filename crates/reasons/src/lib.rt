@@ -19,10 +19,10 @@ ghost use Rattle.sorting.specs.Keys.{nameAt};
 ghost use Rattle.differences.specs.View.{exportAt};
 ghost use Rattle.differences.specs.Differences.{slugOf};
 ghost use Rattle.differences.specs.Compared.{given};
-ghost use Rattle.writing.specs.Writing.{Wrote, Formed};
+ghost use Rattle.writing.specs.Writing.{Wrote, FormedFrom};
 ghost use Rattle.reasons.specs.Reasons.{exportReason, needReason, diffs, exportReasons, needReasons, KindsFit};
 ghost use Rattle.reasons.specs.Reasons.{exportDiffFits, needDiffFits, exportDiffsTested, needDiffsTested};
-ghost use Rattle.reasons.specs.Reasons.{diffsTested, reasonsTested, exportRow, needRow, KindFits, Reasons};
+ghost use Rattle.reasons.specs.Reasons.{diffsTested, reasonsTested, exportRow, needRow, KindFits, Reasons, ReasonsFrom};
 
 // The count of the table that a row with this change points into: 0 is removed, any other number added.
 fn side(change: usize, b: usize, c: usize) -> usize
@@ -280,17 +280,18 @@ fn put_reasons(
     cd: &[usize],
     ncd: usize,
     out: &mut [u8],
+    at: usize,
     go: bool,
 ) -> usize
     requires { ⌜ KindsFit (now be) (now xd) nxd ⌝ }
-    ensures { λ r. ⌜ Wrote (now (out .entry)) 0 go (exportReasons (now (baseline .entry)) (now (be .entry)) (now (xd .entry)) nxd
+    ensures { λ r. ⌜ Wrote (now (out .entry)) at go (exportReasons (now (baseline .entry)) (now (be .entry)) (now (xd .entry)) nxd
         ++ needReasons (now (candidate .entry)) (now (ci .entry)) (now (cd .entry)) ncd) r (now (out .exit)) ⌝ }
 {
-    let m = put_exports(baseline, be, xd, nxd, out, 0, go);
+    let m = put_exports(baseline, be, xd, nxd, out, at, go);
     put_needs(candidate, ci, cd, ncd, out, m, go)
 }
 
-// The lines of tables that passed into the buffer, where it has room for all of them.
+// The lines of tables that passed into the buffer from `at` on, where it has room for all of them.
 fn write_reasons(
     baseline: &[u8],
     be: &[usize],
@@ -301,22 +302,93 @@ fn write_reasons(
     cd: &[usize],
     ncd: usize,
     out: &mut [u8],
+    at: u32,
 ) -> Written
     requires { ⌜ KindsFit (now be) (now xd) nxd ⌝ }
     requires { ⌜ (length (now baseline) ≤ 16777216) × (length (now candidate) ≤ 16777216) × (nxd ≤ 2048) × (ncd ≤ 2048) ⌝ }
-    ensures { λ r. ⌜ Formed (exportReasons (now (baseline .entry)) (now (be .entry)) (now (xd .entry)) nxd
+    ensures { λ r. ⌜ FormedFrom at (exportReasons (now (baseline .entry)) (now (be .entry)) (now (xd .entry)) nxd
         ++ needReasons (now (candidate .entry)) (now (ci .entry)) (now (cd .entry)) ncd) (now (out .entry)) r (now (out .exit)) ⌝ }
 {
-    let needed = put_reasons(baseline, be, candidate, ci, xd, nxd, cd, ncd, out, false);
+    let from = at as usize;
+    let needed = put_reasons(
+        baseline,
+        be,
+        candidate,
+        ci,
+        xd,
+        nxd,
+        cd,
+        ncd,
+        out,
+        from,
+        false,
+    );
     if out.len() < needed {
         return Written::Refused(Refusal::NoRoom(needed));
     }
-    let n = put_reasons(baseline, be, candidate, ci, xd, nxd, cd, ncd, out, true);
-    Written::Bytes(n)
+    let end = put_reasons(
+        baseline,
+        be,
+        candidate,
+        ci,
+        xd,
+        nxd,
+        cd,
+        ncd,
+        out,
+        from,
+        true,
+    );
+    Written::Bytes(end)
 }
 
 // Why the candidate cannot stand in for the baseline: a line for each removed export of table 8, then for each added capability of
-// table 9. 14, 15, and 16 last. Refused, nothing is touched; accepted, nothing past the text.
+// table 9, after the first `at` bytes of the buffer, and the place after them. 14, 15, and 16 last. Refused, nothing is touched;
+// accepted, nothing but the text.
+pub fn reasons_from(
+    baseline: &[u8],
+    bi: &[usize],
+    nbi: usize,
+    be: &[usize],
+    nbe: usize,
+    candidate: &[u8],
+    ci: &[usize],
+    nci: usize,
+    ce: &[usize],
+    nce: usize,
+    xd: &[usize],
+    nxd: usize,
+    cd: &[usize],
+    ncd: usize,
+    out: &mut [u8],
+    at: u32,
+) -> Written
+    ensures { λ r. ⌜ ReasonsFrom at (given (now (baseline .entry)) (now (bi .entry)) nbi (now (be .entry)) nbe)
+        (given (now (candidate .entry)) (now (ci .entry)) nci (now (ce .entry)) nce)
+        (diffs (now (xd .entry)) nxd (now (cd .entry)) ncd) (now (out .entry)) r (now (out .exit)) ⌝ }
+{
+    match check_reasons(
+        baseline,
+        bi,
+        nbi,
+        be,
+        nbe,
+        candidate,
+        ci,
+        nci,
+        ce,
+        nce,
+        xd,
+        nxd,
+        cd,
+        ncd,
+    ) {
+        Answer::Refused(r) => Written::Refused(r),
+        Answer::Accepted => write_reasons(baseline, be, candidate, ci, xd, nxd, cd, ncd, out, at),
+    }
+}
+
+// The same from the start of the buffer on, and how many bytes they are.
 pub fn breaking_reasons(
     baseline: &[u8],
     bi: &[usize],
@@ -338,7 +410,7 @@ pub fn breaking_reasons(
         (given (now (candidate .entry)) (now (ci .entry)) nci (now (ce .entry)) nce)
         (diffs (now (xd .entry)) nxd (now (cd .entry)) ncd) (now (out .entry)) r (now (out .exit)) ⌝ }
 {
-    match check_reasons(
+    reasons_from(
         baseline,
         bi,
         nbi,
@@ -353,8 +425,7 @@ pub fn breaking_reasons(
         nxd,
         cd,
         ncd,
-    ) {
-        Answer::Refused(r) => Written::Refused(r),
-        Answer::Accepted => write_reasons(baseline, be, candidate, ci, xd, nxd, cd, ncd, out),
-    }
+        out,
+        0,
+    )
 }

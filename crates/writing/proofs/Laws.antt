@@ -4,7 +4,7 @@ use mathlib.Core.Bool.{Bool, true, false, false≢true}
 use mathlib.Core.List.{List, [], _∷_, _++_, append-nil, append-assoc}
 use Prim.Native.Nat.{ℕ, _+_, _≤_, _<_}
 use native.Mathlib.Omega.{arith}
-use native.Mathlib.Nat.{add-zero}
+use native.Mathlib.Nat.{add-zero, zero-add}
 use lib.ListN.{length, take, drop, length-append, length-drop, take-append-drop}
 use lib.Seq.{length-take-le, take-length, take-at, drop-at, drop-drop, paste}
 use lib.Dec.{ltb, leb}
@@ -14,7 +14,7 @@ use Rattle.refusal.specs.Said.{refused, accepted}
 use Rattle.refusal.specs.declared.Written.{Written}
 use Rattle.refusal.specs.declared.Written.the-variants.{Bytes, Refused}
 use Rattle.refusal.specs.declared.Refusal.the-variants.{NoRoom}
-use Rattle.writing.specs.Writing.{most, past, laid, putAt, Puts, Wrote, roomFor, left, Formed}
+use Rattle.writing.specs.Writing.{most, past, laid, putAt, Puts, Wrote, roomFor, Formed, roomFrom, leftFrom, FormedFrom}
 
 laid-none : (d : List ℕ) (at : ℕ) → laid d at [] ≡ d
 laid-none d at = rw (append-nil (take at d), add-zero at) (take-append-drop at d)
@@ -110,30 +110,42 @@ module _ (d : List ℕ) (at : ℕ) (go : Bool) (w : List ℕ) where
       }
 
 -- ---- the writer's answers
-module _ (w d : List ℕ) {m : ℕ} {x : List ℕ} (counted : Wrote d 0 false w m x) (few : length w ≤ most) where
-  pub form-full : length d < m → Formed w d (Refused (NoRoom m)) x
-  unfolding roomFor past
+module _ (w d : List ℕ) (at : ℕ) {m : ℕ} {x : List ℕ} (counted : Wrote d at false w m x) (few : at + length w ≤ most) where
+  pub form-full : length d < m → FormedFrom at w d (Refused (NoRoom m)) x
+  unfolding roomFrom past
   form-full h =
-      let z : m ≡ length w = omega (arith, counted .next) in
-      let t = lt-ltb (length d) (length w) (omega arith) in
+      let z : m ≡ at + length w = omega (arith, counted .next) in
+      let t = lt-ltb (length d) (at + length w) (omega arith) in
       record { answer = rw (t, z); output = counted .kept refl ∙ rw t }
 
-  pub form-done : m ≤ length d → {j : ℕ} {y : List ℕ} → Wrote x 0 true w j y → Formed w d (Bytes j) y
-  unfolding roomFor past
+  pub form-done : m ≤ length d → {j : ℕ} {y : List ℕ} → Wrote x at true w j y → FormedFrom at w d (Bytes j) y
+  unfolding roomFrom past
   form-done h {j} {y} v =
-      let z : j ≡ length w = omega (arith, v .next) in
-      let t = le-ltb (length d) (length w) (omega (arith, counted .next)) in
+      let z : j ≡ at + length w = omega (arith, v .next) in
+      let t = le-ltb (length d) (at + length w) (omega (arith, counted .next)) in
       let b : x ≡ d = counted .kept refl in
-      let a : y ≡ laid x 0 w = v .left refl (omega (arith, counted .long, counted .next)) (omega arith) in
-      let i : 0 + length w ≡ length w = omega arith in
-      let c : laid x 0 w ≡ w ++ drop (length w) d = rw (b, i) in
-      record { answer = rw (t, z); output = a ∙ c ∙ rw t }
+      let a : y ≡ laid x at w = v .left refl (omega (arith, counted .long, counted .next)) (omega arith) in
+      record { answer = rw (t, z); output = a ∙ rw (b, t) }
 
 -- the buffer keeps its length
-pub formed-long : (w d : List ℕ) {r : Written} {x : List ℕ} → Formed w d r x → length x ≡ length d
-unfolding roomFor
-formed-long w d f = ap length (f .output) ∙ by (ltb (length d) (length w)) refl
+pub formed-long : (w d : List ℕ) (at : ℕ) {r : Written} {x : List ℕ} → FormedFrom at w d r x → length x ≡ length d
+unfolding roomFrom
+formed-long w d at f = ap length (f .output) ∙ by (ltb (length d) (at + length w)) refl
   where
-    by : (t : Bool) → ltb (length d) (length w) ≡ t → length (left d (pick t (refused 16 (length w)) (accepted w))) ≡ length d
+    by : (t : Bool) → ltb (length d) (at + length w) ≡ t
+        → length (leftFrom at d (pick t (refused 16 (at + length w)) (accepted w))) ≡ length d
     by true q = refl
-    by false q = omega (arith, length-append w (drop (length w) d), length-drop (length w) d, ltb-false (length d) (length w) q)
+    by false q = laid-long d at w [] (ltb-false (length d) (at + length w) q)
+
+-- from the start of the buffer on
+pub formed-first : (w d : List ℕ) {r : Written} {x : List ℕ} → FormedFrom 0 w d r x → Formed w d r x
+unfolding roomFrom roomFor
+formed-first w d {r} {x} f = by (ltb (length d) (length w)) refl
+  where
+    by : (t : Bool) → ltb (length d) (length w) ≡ t → Formed w d r x
+    by true q = record { answer = f .answer ∙ rw (zero-add (length w), q); output = f .output ∙ rw (zero-add (length w), q) }
+    by false q =
+        record {
+          answer = f .answer ∙ rw (zero-add (length w), q) (ap accepted (zero-add (length w)));
+          output = f .output ∙ rw (zero-add (length w), q) (ap (λ (k : ℕ). w ++ drop k d) (zero-add (length w)));
+        }

@@ -59,3 +59,23 @@ pub record Told (o : Said (List ℕ)) (d : List ℕ) (r : Written) (x : List ℕ
 -- for the code: of bytes that are known
 abbrev pub Formed : List ℕ → List ℕ → Written → List ℕ → Type 0
 Formed w d r x = Told (roomFor w (length d)) d r x
+
+-- ---- the same after the first `at` bytes of the buffer, which stay: 16, with the bytes needed for both
+unfoldable pub roomFrom : ℕ → List ℕ → ℕ → Said (List ℕ)
+roomFrom at w room = pick (ltb room (at + length w)) (refused 16 (at + length w)) (accepted w)
+
+-- the answer: the place after the bytes
+abbrev pub countedFrom : ℕ → Said (List ℕ) → Said ℕ
+countedFrom at (accepted w) = accepted (at + length w)
+countedFrom at (refused n p) = refused n p
+
+abbrev pub leftFrom : ℕ → List ℕ → Said (List ℕ) → List ℕ
+leftFrom at d (accepted w) = laid d at w
+leftFrom at d (refused n p) = d
+
+pub record ToldFrom (at : ℕ) (o : Said (List ℕ)) (d : List ℕ) (r : Written) (x : List ℕ) : Type 0 where
+  pub answer : saidWritten r ≡ countedFrom at o
+  pub output : x ≡ leftFrom at d o
+
+abbrev pub FormedFrom : ℕ → List ℕ → List ℕ → Written → List ℕ → Type 0
+FormedFrom at w d r x = ToldFrom at (roomFrom at w (length d)) d r x

@@ -1,5 +1,5 @@
 -- `reasons::write_reasons` meets its contract. Assumes nothing.
-use Prim.Native.Nat.{_≤_}
+use Prim.Native.Nat.{_+_, _≤_}
 use native.Mathlib.Omega.{arith}
 use borrow.Author.Needs.{needs}
 use mathlib.Core.List.{_++_}
@@ -14,9 +14,9 @@ use Rattle.reasons.proofs.write_reasons.Tie as tie
 abbrev start : tie.After-put-reasons → tie.Start
 start g = g .before .before .before .before .before .before .before .before .before
 
-few : (s : tie.Start) → length (exportReasons (s .args .baseline .now) (s .args .be .now) (s .args .xd .now) (s .args .nxd)
+few : (s : tie.Start) → s .args .at + length (exportReasons (s .args .baseline .now) (s .args .be .now) (s .args .xd .now) (s .args .nxd)
     ++ needReasons (s .args .candidate .now) (s .args .ci .now) (s .args .cd .now) (s .args .ncd)) ≤ most
-few s = let p = s .pre .1 in reasons-few _ _ _ _ _ _ _ _ (p .0) (p .1) (p .2) (p .3)
+few s = let p = s .pre .1 in reasons-few _ _ _ _ _ _ _ _ (p .0) (p .1) (p .2) (p .3) (omega arith)
 
 put-reasons-requires : tie.Need-put-reasons-requires
 put-reasons-requires c κs = c .before .before .before .before .before .before .before .before .pre .0
@@ -24,7 +24,7 @@ put-reasons-requires c κs = c .before .before .before .before .before .before .
 returns : tie.Need-returns
 returns c =
     let g = c .before .before .before in
-    form-full _ _ (g .put-reasons .ensures) (few (start g)) (omega (arith, g .put-reasons .ensures .long))
+    form-full _ _ _ (g .put-reasons .ensures) (few (start g)) (omega (arith, g .put-reasons .ensures .long))
 
 put-reasons-requires-2 : tie.Need-put-reasons-requires-2
 put-reasons-requires-2 c κs = start (c .before .before .before .before) .pre .0
@@ -33,7 +33,7 @@ returns-2 : tie.Need-returns-2
 returns-2 c =
     let h = c .before .before in
     let g = h .before .before .before .before .before in
-    form-done _ _ (g .put-reasons .ensures) (few (start g)) (omega (arith, g .put-reasons .ensures .long)) (h .put-reasons2 .ensures)
+    form-done _ _ _ (g .put-reasons .ensures) (few (start g)) (omega (arith, g .put-reasons .ensures .long)) (h .put-reasons2 .ensures)
 
 pub write-reasons-spec : {M : Type 1} → statement M
 write-reasons-spec =

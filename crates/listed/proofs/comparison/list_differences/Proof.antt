@@ -4,7 +4,7 @@ use mathlib.Core.Path.{refl}
 use borrow.Author.Needs.{needs}
 use Rattle.listed.specs.Comparisons.{comparisonBytes, comparisonTold}
 use Rattle.listed.proofs.Laying.{delivers-none}
-use Rattle.listed.proofs.OfComparison.{lists-refused, lists-found, lists-counted, lists-delivered}
+use Rattle.listed.proofs.OfComparison.{explained-none, lists-refused, lists-found, lists-counted, lists-delivered}
 use Rattle.listed.proofs.comparison.list_differences.Statement.{statement}
 use Rattle.listed.proofs.comparison.list_differences.Tie as tie
 
@@ -18,7 +18,8 @@ returns : tie.Need-returns
 returns c =
     let w = c .before .before in
     let q = w .before .before .before .before in
-    delivers-none comparisonBytes comparisonTold (lists-refused _ _ _ refl refl (q .compare-modules .ensures) (w .why .given .1))
+    delivers-none comparisonBytes comparisonTold
+    (explained-none _ _ (lists-refused _ _ _ refl refl (q .compare-modules .ensures) (w .why .given .1)))
     (c .no-comparison .ensures)
 
 returns-2 : tie.Need-returns-2
@@ -26,7 +27,7 @@ returns-2 c =
     let k = c .before .before in
     let w = k .before .before .before .before .before in
     let q = w .before .before .before .before in
-    lists-delivered (lists-found _ _ _ refl refl (q .compare-modules .ensures) (w .exports .given .1)) (k .lay-comparison .ensures)
+    lists-delivered _ _ (lists-found _ _ _ refl refl (q .compare-modules .ensures) (w .exports .given .1)) (k .lay-comparison .ensures)
 
 pub list-differences-spec : {M : Type 1} → statement M
 list-differences-spec =
