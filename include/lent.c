@@ -103,9 +103,10 @@ static void manifests(void) {
 /* ---- two builds: an export is gone, a capability is new */
 static const uint8_t older[] = {0x00, 0x61, 0x73, 0x6d, 1, 0, 0, 0, 7, 5, 1, 1, 'e', 0, 3};
 static const uint64_t build_cells[] = {0, 0, 1, 6, 0};
+static const char build_reasons[] = "export removed: e (func)\nnew capability required: unknown via m\n";
 
 static void comparisons(void) {
-    size_t needed = sizeof build_cells;
+    size_t lists = sizeof build_cells, reasons = sizeof build_reasons - 1, needed = lists + reasons;
     for (size_t room = 0; room < needed + 3; room++) {
         lend();
         struct viscrombal_comparison r = viscrombal_compare(older, sizeof older, file, sizeof file, out, room);
@@ -115,16 +116,17 @@ static void comparisons(void) {
                    "comparison: 16 with the bytes needed, the rest zero");
             expect(untouched_past(0), "comparison: refused, untouched");
         } else {
-            expect(r.number == 0 && r.place == 0 && r.exports == 1 && r.capabilities == 1 && !r.compatible && r.reasons == 0 &&
+            expect(r.number == 0 && r.place == 0 && r.exports == 1 && r.capabilities == 1 && !r.compatible && r.reasons == reasons &&
                        r.bytes == needed,
                    "comparison: counts");
-            expect(cells_are(build_cells, needed / 8), "comparison: cells");
-            expect(untouched_past(needed), "comparison: nothing past the lists");
+            expect(cells_are(build_cells, lists / 8), "comparison: cells");
+            expect(memcmp(out + lists, build_reasons, reasons) == 0, "comparison: the reasons after the lists");
+            expect(untouched_past(needed), "comparison: nothing past the reasons");
         }
     }
     lend();
     struct viscrombal_comparison r = viscrombal_compare(older, sizeof older, older, sizeof older, out, MOST);
-    expect(r.number == 0 && r.exports == 0 && r.capabilities == 0 && r.compatible && r.bytes == 0 && untouched_past(0),
+    expect(r.number == 0 && r.exports == 0 && r.capabilities == 0 && r.compatible && r.reasons == 0 && r.bytes == 0 && untouched_past(0),
            "comparison: a build with itself");
     lend();
     r = viscrombal_compare(older, sizeof older, file, 7, out, MOST);

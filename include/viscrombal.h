@@ -121,7 +121,8 @@ struct viscrombal_manifest_read {
     size_t bytes;
 };
 
-/* Two builds: how many rows tables 8 and 9 have, and whether no export was removed and no capability added. No reasons are written: 0. */
+/* Two builds: how many rows tables 8 and 9 have, whether no export was removed and no capability added, and how many of the bytes are the
+ * reasons. */
 struct viscrombal_comparison {
     uint32_t number;
     size_t place;
@@ -166,7 +167,8 @@ struct viscrombal_module_read viscrombal_module(const uint8_t *file, size_t len,
 struct viscrombal_manifest_read viscrombal_manifest(const uint8_t *text, size_t len, uint8_t *out, size_t room);
 
 /* Two files. Rows of tables 8 and 9: 2 cells an export (0 removed or 1 added, row of table 3 of the baseline or of the candidate), 3 a
- * capability (0 removed or 1 added, domain, row of table 2 of the baseline or of the candidate). */
+ * capability (0 removed or 1 added, domain, row of table 2 of the baseline or of the candidate). Then the breaking reasons as text, LF after
+ * each: of every removed export, then of every added capability. */
 struct viscrombal_comparison viscrombal_compare(const uint8_t *baseline, size_t len, const uint8_t *candidate, size_t candidate_len,
                                                 uint8_t *out, size_t room);
 

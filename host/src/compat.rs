@@ -79,7 +79,7 @@ pub struct Compatibility<'a> {
     export_diffs: Vec<ExportDiff<'a>>,
     capability_diffs: Vec<CapabilityDiff<'a>>,
     compatible: bool,
-    reasons: String,
+    reasons: Vec<String>,
 }
 
 /// Compares two modules.
@@ -96,8 +96,25 @@ pub fn compare_modules<'a>(baseline: &Module<'a>, candidate: &Module<'a>) -> Res
         let import = change.side(baseline, candidate).imports().get(row).ok_or(Refusal::STRANGE)?;
         Ok(CapabilityDiff { change, domain: Domain::numbered(domain)?, source: import.module, detail: import.field })
     })?;
-    let reasons = cells.text(told.reasons)?.to_string();
+    let removed = export_diffs.iter().filter(|diff| diff.change == Change::Removed);
+    let removed = removed.map(|diff| "export removed:  ()".len() + diff.name.len() + diff.kind.slug().len());
+    let added = capability_diffs.iter().filter(|diff| diff.change == Change::Added);
+    let added = added.map(|diff| "new capability required:  via ".len() + diff.domain.slug().len() + diff.source.len());
+    let reasons = lines(cells.text(told.reasons)?, removed.chain(added))?;
     Ok(Compatibility { export_diffs, capability_diffs, compatible: told.compatible != 0, reasons })
+}
+
+/// The text cut into lines so long, each with LF after it: a name may have LF in it.
+fn lines(text: &str, lengths: impl Iterator<Item = usize>) -> Result<Vec<String>> {
+    let mut rest = text;
+    let lines: Option<Vec<_>> = lengths
+        .map(|length| {
+            let line = rest.get(..length)?;
+            rest = rest[length..].strip_prefix('\n')?;
+            Some(line.to_string())
+        })
+        .collect();
+    lines.filter(|_| rest.is_empty()).ok_or(Refusal::STRANGE)
 }
 
 impl<'a> Compatibility<'a> {
@@ -116,18 +133,8 @@ impl<'a> Compatibility<'a> {
         &self.capability_diffs
     }
 
-    /// Why the candidate cannot stand in, as the archive writes it: in the original's words, LF after each reason; empty where it is
-    /// an archive that writes none.
-    pub fn reasons(&self) -> &str {
-        &self.reasons
-    }
-
-    /// The same as a list: a name may have LF in it.
+    /// Why the candidate cannot stand in, in the original's words, as the archive writes them.
     pub fn breaking_reasons(&self) -> Vec<String> {
-        let exports = self.export_diffs.iter().filter(|diff| diff.change == Change::Removed);
-        let exports = exports.map(|diff| format!("export removed: {} ({})", diff.name, diff.kind));
-        let needs = self.capability_diffs.iter().filter(|diff| diff.change == Change::Added);
-        let needs = needs.map(|diff| format!("new capability required: {} via {}", diff.domain, diff.source));
-        exports.chain(needs).collect()
+        self.reasons.clone()
     }
 }

@@ -183,10 +183,11 @@ fn both_ways(one: &Module, other: &Module) {
     for answer in [there, back] {
         let reasons = answer.breaking_reasons();
         assert_eq!(answer.is_compatible(), reasons.is_empty());
-        // an archive without crate reasons writes none
-        if !answer.reasons().is_empty() {
-            assert_eq!(answer.reasons(), reasons.iter().map(|reason| format!("{reason}\n")).collect::<String>());
-        }
+        let removed = answer.export_diffs().iter().filter(|d| d.change == Change::Removed);
+        let removed = removed.map(|d| format!("export removed: {} ({})", d.name, d.kind));
+        let added = answer.capability_diffs().iter().filter(|d| d.change == Change::Added);
+        let added = added.map(|d| format!("new capability required: {} via {}", d.domain, d.source));
+        assert_eq!(reasons, removed.chain(added).collect::<Vec<_>>());
     }
 }
 

@@ -27,7 +27,7 @@ pub extern "C" fn viscrombal_manifest(text: &[u8], out: &mut [u8]) -> ManifestTo
     listed::manifests::list_manifest(text, out)
 }
 
-// Two builds: the rows of tables 8 and 9. A row's number is that of the module it came from.
+// Two builds: the rows of tables 8 and 9, whose row numbers are those of the module they came from, then the breaking reasons as text.
 #[no_mangle]
 pub extern "C" fn viscrombal_compare<'a, 'b>(
     baseline: &'a [u8],

@@ -1,15 +1,17 @@
--- No two answers, and no two final contents of the buffer, satisfy the promises of `put`, `put_domain` and `breaking_reasons`.
+-- No two answers, and no two final contents of the buffer, satisfy the promises of `put`, `put_domain` and the writers of reasons.
 -- Assumes nothing.
 use mathlib.Core.Path.{_≡_, sym, _∙_}
 use contract.Lifetimes.{Lfts}
 use borrow.Fn.Kinds.{Dens, resT, endedOf}
 use denote.Triple.Clauses.{AtExit}
 use denote.Ref.{now}
-use Rattle.writing.proofs.Known.{one-answer, one-output}
+use Rattle.writing.proofs.Known.{one-answer, one-output, one-answer-from}
 use Rattle.writing.proofs.put.Kinds as put-kinds
 use Rattle.writing.proofs.put.Reads as put
 use Rattle.writing.proofs.put_domain.Kinds as put-domain-kinds
 use Rattle.writing.proofs.put_domain.Reads as put-domain
+use Rattle.reasons.proofs.reasons_from.Kinds as reasons-from-kinds
+use Rattle.reasons.proofs.reasons_from.Reads as reasons-from
 use Rattle.reasons.proofs.breaking_reasons.Kinds as breaking-reasons-kinds
 use Rattle.reasons.proofs.breaking_reasons.Reads as breaking-reasons
 use Rattle.promises.specs.Decides.{Decides}
@@ -22,6 +24,9 @@ put-domain-decides κs a x y s t p q = p .next-is ∙ sym (q .next-is)
 
 pub breaking-reasons-decides : Decides breaking-reasons-kinds.ps breaking-reasons-kinds.r breaking-reasons.Post
 breaking-reasons-decides κs a x y s t p q = one-answer p q
+
+pub reasons-from-decides : Decides reasons-from-kinds.ps reasons-from-kinds.r reasons-from.Post
+reasons-from-decides κs a x y s t p q = one-answer-from p q
 
 -- every byte of the buffer
 module _ (κs : Lfts 2) (a : Dens κs put-kinds.ps) (x y : resT put-kinds.r κs .Denot)
@@ -40,3 +45,9 @@ module _ (κs : Lfts 9) (a : Dens κs breaking-reasons-kinds.ps) (x y : resT bre
     (q : breaking-reasons.Post κs a y t) where
   pub reasons-left : now (s .1 .1 .1 .1 .1 .1 .1 .1 .1 .1 .1 .1 .1 .1 .0) ≡ now (t .1 .1 .1 .1 .1 .1 .1 .1 .1 .1 .1 .1 .1 .1 .0)
   reasons-left = one-output p q
+
+module _ (κs : Lfts 9) (a : Dens κs reasons-from-kinds.ps) (x y : resT reasons-from-kinds.r κs .Denot)
+    (s t : AtExit (endedOf 9 reasons-from-kinds.ps reasons-from-kinds.r) κs) (p : reasons-from.Post κs a x s)
+    (q : reasons-from.Post κs a y t) where
+  pub reasons-from-left : now (s .1 .1 .1 .1 .1 .1 .1 .1 .1 .1 .1 .1 .1 .1 .0) ≡ now (t .1 .1 .1 .1 .1 .1 .1 .1 .1 .1 .1 .1 .1 .1 .0)
+  reasons-from-left = p .output ∙ sym (q .output)

@@ -9,7 +9,7 @@ use Rattle.refusal.specs.declared.Written.{Written}
 use Rattle.refusal.specs.declared.Written.the-variants.{Bytes}
 use Rattle.refusal.proofs.Known.{written-known}
 use Rattle.refusal.proofs.Following.{never}
-use Rattle.writing.specs.Writing.{Told}
+use Rattle.writing.specs.Writing.{Told, ToldFrom}
 
 module _ {o : Said (List ℕ)} {d : List ℕ} {a b : Written} {x y : List ℕ} (p : Told o d a x) (q : Told o d b y) where
   pub one-answer : a ≡ b
@@ -17,6 +17,10 @@ module _ {o : Said (List ℕ)} {d : List ℕ} {a b : Written} {x y : List ℕ} (
 
   pub one-output : x ≡ y
   one-output = p .output ∙ sym (q .output)
+
+pub one-answer-from : {at : ℕ} {o : Said (List ℕ)} {d : List ℕ} {a b : Written} {x y : List ℕ} → ToldFrom at o d a x → ToldFrom at o d b y
+    → a ≡ b
+one-answer-from {a = a} {b = b} p q = written-known a b (p .answer ∙ sym (q .answer))
 
 -- ---- the bytes that are counted lie in the buffer
 pub written-within : (o : Said (List ℕ)) (d : List ℕ) {a : Written} {n : ℕ} {x : List ℕ} → Told o d a x → a ≡ Bytes n → n ≤ length x

@@ -38,6 +38,9 @@ pub fn seeded(court: &mut Court, seed: u64) {
         let room = |r: &mut Random| if r.one_in(2) { 2000 } else { 8 * r.below(60) as u64 + r.below(2) as u64 };
         court.hear(Case::new(Call::CModule, &[room(r)], &[&file]));
         court.hear(Case::new(Call::CManifest, &[room(r)], &[&text]));
+        let (baseline, candidate) = contrasts::pair(r);
+        let candidate = if r.one_in(9) { &file } else { &candidate };
+        court.hear(Case::new(Call::CCompare, &[room(r)], &[&baseline, candidate]));
     }
     for _ in 0..600 {
         let (mut file, mut text) = (modules::module(r), policies::lines(r).into_bytes());
