@@ -2,6 +2,7 @@
 
 #![allow(dead_code)]
 
+use std::env;
 use std::fs;
 use std::path::PathBuf;
 
@@ -23,6 +24,11 @@ pub fn samples(ending: &str) -> Vec<(String, Vec<u8>)> {
     names.sort();
     assert!(names.len() >= 4, "{names:?}");
     names.into_iter().map(|name| (name.clone(), sample(&name))).collect()
+}
+
+/// Of damaged copies every so many are taken: all, or as few as VISCROMBAL_EVERY says, which it does where an emulator runs the tests.
+pub fn every() -> usize {
+    env::var("VISCROMBAL_EVERY").ok().and_then(|n| n.parse().ok()).unwrap_or(1)
 }
 
 /// Copies cut at every byte, and with every byte changed in four ways.
