@@ -1,9 +1,9 @@
 -- The reasons of lists that were accepted are never refused. Assumes nothing.
-use mathlib.Core.Path.{_≡_, refl, sym, _∙_, ap, subst}
+use mathlib.Core.Path.{_≡_, refl, sym, ap}
 use mathlib.Core.Logic.{inl, inr}
 use mathlib.Core.Bool.{Bool, true, false}
 use mathlib.Core.List.{List, [], map}
-use Prim.Native.Nat.{ℕ, _+_, _≤_, _<_}
+use Prim.Native.Nat.{ℕ, _≤_, _<_}
 use native.Mathlib.Omega.{arith}
 use lib.Dec.{leb, ltb, eqb}
 use lib.ListN.{length, getD}
@@ -18,15 +18,16 @@ use Rattle.sorting.specs.Sort.{_∈_, keep, upFrom}
 use Rattle.sorting.proofs.Sorts.{sort-only, getD-mem}
 use Rattle.sorting.proofs.Ranking.{keep-to, up-to}
 use Rattle.imports.specs.Queries.{kindIs}
-use Rattle.differences.specs.declared.Change.the-variants.{Removed, Added}
+use Rattle.differences.specs.declared.Change.the-variants.{Removed}
 use Rattle.differences.specs.View.{Export, Need, Row, row, exportAt, needAt}
 use Rattle.differences.specs.Differences.{Entry, entry, cmpNeed, needOrder, changes, exportDiff, needDiff}
 use Rattle.differences.specs.Compared.{Given, viewed, tablesTested, bothTested, Lists, lists, roomed, compared}
 use Rattle.differences.specs.Compared.{changeNumber, exportCells, needCells}
 use Rattle.reasons.specs.Reasons.{exportDiffFits, exportDiffBad, needDiffFits, needDiffBad, exportDiffsTested, needDiffsTested}
-use Rattle.reasons.specs.Reasons.{diffsTested, reasonsTested, reasonsOf}
-use Rattle.listed.specs.Comparisons.{Comparison, tabled, explained}
+use Rattle.reasons.specs.Reasons.{diffsTested, reasonsTested}
+use Rattle.listed.specs.Comparisons.{tabled, explained}
 use Rattle.standin.specs.Replacing.{IsChange}
+use Rattle.standin.specs.Builds.{withReasons}
 use Rattle.standin.proofs.Passing.{one-value}
 use Rattle.standin.proofs.Differ.{map-mem, changes-mem}
 use Rattle.standin.proofs.Orders.{of-needs}
@@ -177,14 +178,12 @@ lists-pass b c l e =
     needs-pass (b .importCount) (c .importCount) (l .needs) (rw (m .same) (need-in b c)) (m .few9) in
     sym (follow-goes _ (m .both) (follow-goes _ x (sym n)))
 
-abbrev told : Given → Given → Lists → Comparison
-told b c l = record { lists = l; reasons = reasonsOf b c (tabled l) }
-
-pub explained-lists : (b c : Given) → explained b c ≡ follow (compared b c 2048 2048) (λ l. accepted (told b c l))
+pub explained-lists : (b c : Given) → explained b c ≡ follow (compared b c 2048 2048) (λ l. accepted (withReasons b c l))
 unfolding explained
 explained-lists b c = by (compared b c 2048 2048) refl
   where
     by : (x : Said Lists) → compared b c 2048 2048 ≡ x
-        → follow x (λ l. follow (reasonsTested b c (tabled l)) (λ u. accepted (told b c l))) ≡ follow x (λ l. accepted (told b c l))
+        → follow x (λ l. follow (reasonsTested b c (tabled l)) (λ u. accepted (withReasons b c l)))
+        ≡ follow x (λ l. accepted (withReasons b c l))
     by (accepted l) e = unfold follow in sym (follow-goes _ (lists-pass b c l e) refl)
     by (refused n p) e = unfold follow in refl
