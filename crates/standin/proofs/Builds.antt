@@ -57,7 +57,7 @@ module _ {R : Type 0} (f : R → List ℕ) (w limit n : ℕ) (wide : (r : R) →
       let h = row-starts n w (length rows) (omega (arith, few, min-le-left (n / w) limit)) in
       length-laid n (cells f rows) (omega (arith, length-cells f w wide rows))
 
-  rows-good : (bad : ℕ → Bool) → ((i : ℕ) → i < length rows → bad i ≡ false)
+  pub rows-good : (bad : ℕ → Bool) → ((i : ℕ) → i < length rows → bad i ≡ false)
       → tested (capacityOf (length (laid n (cells f rows))) w limit) (length rows) bad ≡ accepted tt
   rows-good bad good = tested-good (capacityOf (length (laid n (cells f rows))) w limit) (length rows) bad (rw holds-long few) good
 

@@ -59,7 +59,7 @@ import-small m f =
     (pick-small (same unstable m) (judged-small preview f preview-small)
     (pick-small (begins wasi m) (judged-small heads (headOf (pick (begins wasi m) (drop 5 m) m)) heads-small) (omega arith)))
 
-need-small : (file imports : List ℕ) (i : ℕ) → needAt file imports i .domain < 7
+pub need-small : (file imports : List ℕ) (i : ℕ) → needAt file imports i .domain < 7
 unfolding needAt
 need-small file imports i = import-small (nameAt file imports 5 0 1 i) (nameAt file imports 5 2 3 i)
 

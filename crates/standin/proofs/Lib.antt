@@ -7,4 +7,5 @@ pub mod Views
 pub mod Builds
 pub mod Domains
 pub mod Limits
+pub mod Explained
 pub mod Theorems

@@ -16,6 +16,7 @@ use Rattle.sorting.specs.Sort.{keep, upFrom}
 use Rattle.wasm.specs.Shapes.{Import}
 use Rattle.wasm.specs.Rows.{importCells, exportCells, symbolCells}
 use Rattle.wasm.specs.Module.{Parsed, moduleAt, moduleOf, countsOf, sectionCells, tablesOf, Lent, lend, Holds, ModuleIs}
+use Rattle.conform.specs.Claims.{Bytes}
 use Rattle.conform.proofs.Larger.{limits-decide}
 use Rattle.imports.specs.Queries.{kindIs}
 use Rattle.policy.specs.declared.Policy.{Policy}
@@ -67,40 +68,37 @@ module _ (file : List ℕ) (rows : List Import) (n m : ℕ) where
           let e = cell-same j 4 (omega arith) (omega arith) in
           ((λ z. importDomain (rangeOf file (a z) (b z)) (rangeOf file (c z) (d z))), ap (λ (x : ℕ). eqb x 0) e)
 
--- ---- the build, read with tables at the limits
+-- ---- a file, read with tables at the limits
+module _ (file : List ℕ) (m : Parsed) (is : moduleAt file limits ≡ accepted m) where
+  unfoldable pub left : Lent
+  left =
+      lend (laid 1280 (cells sectionCells (m .tables .sections))) (laid 5120 (cells importCells (m .tables .imports)))
+      (laid 4096 (cells exportCells (m .tables .exports))) (laid 12288 (cells symbolCells (m .tables .names .symbols)))
+
+  pub promised : ModuleIs (length file) limits (moduleAt file limits) left (accepted (moduleOf (length file) m))
+  unfolding left tablesOf
+  promised =
+      record {
+        answer-is = follow-goes (λ n. accepted (moduleOf (length file) n)) is refl;
+        tables-are =
+            subst (λ (x : Said Parsed). Holds left limits (tablesOf x)) (sym is)
+            (record { sections-are = refl; imports-are = refl; exports-are = refl; names-are = refl });
+      }
+
+  unfoldable pub whole : Bytes file → Build
+  whole bytes =
+      record { file = file; bytes = bytes; sizes = limits; tables = left; answer = moduleOf (length file) m; promise = promised }
+
+-- ---- so the build is read again
 module _ (b : Build) where
   at-limits : moduleAt (b .file) limits ≡ accepted (read b .what)
   at-limits = limits-decide (b .file) (b .sizes) (read b .what) (read b .first)
 
-  left : Lent
-  left =
-      lend (laid 1280 (cells sectionCells (read b .what .tables .sections))) (laid 5120 (cells importCells (read b .what .tables .imports)))
-      (laid 4096 (cells exportCells (read b .what .tables .exports)))
-      (laid 12288 (cells symbolCells (read b .what .tables .names .symbols)))
-
-  promised : ModuleIs (length (b .file)) limits (moduleAt (b .file) limits) left (accepted (moduleOf (length (b .file)) (read b .what)))
-  unfolding left tablesOf
-  promised =
-      record {
-        answer-is = follow-goes (λ m. accepted (moduleOf (length (b .file)) m)) at-limits refl;
-        tables-are =
-            subst (λ (x : Said Parsed). Holds left limits (tablesOf x)) (sym at-limits)
-            (record { sections-are = refl; imports-are = refl; exports-are = refl; names-are = refl });
-      }
-
   full : Build
-  full =
-      record {
-        file = b .file;
-        bytes = b .bytes;
-        sizes = limits;
-        tables = left;
-        answer = moduleOf (length (b .file)) (read b .what);
-        promise = promised;
-      }
+  full = whole (b .file) (read b .what) at-limits (b .bytes)
 
   same-domains : domains full ≡ domains b
-  unfolding full left parsed functions moduleOf countsOf
+  unfolding full whole left parsed functions moduleOf countsOf
   same-domains =
       let h = holds b .imports-are in
       let k = import-count b in
@@ -116,7 +114,7 @@ module _ (b : Build) where
     text-good = followed (wholeText text) _ is .first
 
     checked-is : checkedOf (b .file) text ≡ weighed (full .file) (full .tables .imports) (full .answer .imports) p
-    unfolding checkedOf readThen heldTo full left moduleOf countsOf follow
+    unfolding checkedOf readThen heldTo full whole left moduleOf countsOf follow
     checked-is = rw (le-ltb 16777216 (length (b .file)) (short b), text-good, at-limits, is)
 
     pub meets-clear : Meets p b → Clear (b .file) text

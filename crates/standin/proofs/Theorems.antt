@@ -12,9 +12,12 @@ use borrow.Author.Tests.{leb-false}
 use Rattle.refusal.specs.Pick.{pick, both}
 use Rattle.refusal.specs.Said.{Said, accepted, refused, follow, saidAnswer}
 use Rattle.refusal.specs.declared.Answer.{Answer}
-use Rattle.refusal.proofs.Following.{never}
+use Rattle.refusal.proofs.Following.{never, follow-goes}
 use Rattle.table.specs.Entries.{finished}
 use Rattle.sorting.specs.Sort.{_∈_}
+use Rattle.wasm.specs.Module.{Parsed, moduleAt, moduleOf, countsOf}
+use Rattle.conform.specs.Claims.{Bytes}
+use Rattle.checking.specs.Checking.{limits}
 use Rattle.policy.specs.declared.Policy.{Policy}
 use Rattle.verdicts.specs.declared.Evaluation.{Evaluation}
 use Rattle.verdicts.specs.Evaluate.{EvaluatedAs, acceptedAs, compliant}
@@ -22,17 +25,19 @@ use Rattle.imports.specs.Queries.{kindIs}
 use Rattle.differences.specs.View.{Need, needAt}
 use Rattle.differences.specs.Differences.{cmpExport, cmpNeed, exportOrder, needOrder, exportDiff, needDiff}
 use Rattle.differences.specs.Compared.{Lists, lists, roomed, compared, Verdict, verdictOf}
+use Rattle.listed.specs.Comparisons.{explained, build, against, builds}
 use Rattle.standin.specs.Passing.{witness}
 use Rattle.standin.specs.Replacing.{turned}
-use Rattle.standin.specs.Builds.{Build, handed, view, domains, pairs, comparison, StandsIn, Chain, last, exchanged, Read, Meets}
-use Rattle.standin.specs.Claims.{Covers, Replacement, Listing, FailSafe}
+use Rattle.standin.specs.Builds.{Build, handed, view, domains, pairs, comparison, StandsIn, Chain, last, exchanged, told, Read, Meets}
+use Rattle.standin.specs.Claims.{Covers, Replacement, Listing, Explanation, FailSafe}
 use Rattle.standin.proofs.Passing.{one-value, allBut, witness-reads, but-denied, but-allowed}
 use Rattle.standin.proofs.Differ.{mem-map, map-mem}
 use Rattle.standin.proofs.Lowest.{Rising, rising-rows, lowest-each}
 use Rattle.standin.proofs.Views.{few-changes, says, exports-exchange, needs-exchange, exports-ascend, needs-ascend, exports-each}
 use Rattle.standin.proofs.Views.{exports-removed, exports-added, needs-removed, needs-added}
 use Rattle.standin.proofs.Builds.{view-exports, view-needs, compared-is}
-use Rattle.standin.proofs.Limits.{clear-reads, meets-clear, clear-meets}
+use Rattle.standin.proofs.Limits.{left, whole, clear-reads, meets-clear, clear-meets}
+use Rattle.standin.proofs.Explained.{lists-pass, explained-lists}
 use Rattle.standin.proofs.Domains.{small, meets-allows, allows-meets}
 
 -- ---- room
@@ -63,14 +68,16 @@ by-lists : (b c : Build) (room8 room9 : ℕ)
     → comparison b c room8 room9 ≡ follow (roomed room8 room9 (lists (view b) (view c))) (λ l. accepted (verdictOf l))
 by-lists b c room8 room9 = ap (λ (x : Said Lists). follow x (λ l. accepted (verdictOf l))) (compared-is b c room8 room9)
 
-answered : (b c : Build) → comparison b c 2048 2048 ≡ accepted (verdictOf (lists (view b) (view c)))
-answered b c = by-lists b c 2048 2048 ∙ by (roomed-as 2048 2048 (lists (view b) (view c)))
+whole-lists : (b c : Build) → compared (handed b) (handed c) 2048 2048 ≡ accepted (lists (view b) (view c))
+whole-lists b c = compared-is b c 2048 2048 ∙ by (roomed-as 2048 2048 (lists (view b) (view c)))
   where
-    by : Roomed 2048 2048 (lists (view b) (view c))
-        → follow (roomed 2048 2048 (lists (view b) (view c))) (λ l. accepted (verdictOf l)) ≡ accepted (verdictOf (lists (view b) (view c)))
-    by (room e) = unfold follow in rw e
+    by : Roomed 2048 2048 (lists (view b) (view c)) → roomed 2048 2048 (lists (view b) (view c)) ≡ accepted (lists (view b) (view c))
+    by (room e) = e
     by (full8 e h) = absurd (omega (arith, few-exports b c))
     by (full9 e h) = absurd (omega (arith, few-needs b c))
+
+answered : (b c : Build) → comparison b c 2048 2048 ≡ accepted (verdictOf (lists (view b) (view c)))
+answered b c = sym (follow-goes _ (whole-lists b c) refl)
 
 otherwise : (b c : Build) (room8 room9 : ℕ)
     → (comparison b c room8 room9 ≡ comparison b c 2048 2048)
@@ -214,6 +221,23 @@ listing =
   where
     rising : (b : Build) → Rising (view b .needs)
     rising b = rising-rows (needAt (b .file) (b .tables .imports)) (kindIs (b .tables .imports) 0) 0 (b .answer .imports)
+
+-- ---- reasons
+files : (b c : List ℕ) → Bytes b → Bytes c
+    → builds b c ≡ follow (moduleAt b limits) (λ m. follow (moduleAt c limits) (λ n. accepted (told (build b m) (build c n))))
+unfolding builds against whole left moduleOf countsOf follow
+files b c bytes more = by (moduleAt b limits) refl (moduleAt c limits) refl
+  where
+    by : (x : Said Parsed) → moduleAt b limits ≡ x → (y : Said Parsed) → moduleAt c limits ≡ y
+        → follow x (λ m. follow y (λ n. explained (build b m) (build c n)))
+        ≡ follow x (λ m. follow y (λ n. accepted (told (build b m) (build c n))))
+    by (accepted m) e (accepted n) q =
+        explained-lists (build b m) (build c n) ∙ sym (follow-goes _ (whole-lists (whole b m e bytes) (whole c n q more)) refl)
+    by (accepted m) e (refused i j) q = refl
+    by (refused i j) e y q = refl
+
+pub explanation : Explanation
+explanation = record { passes = lists-pass; refuses = explained-lists; files = files }
 
 pub failSafe : FailSafe
 unfolding compliant

@@ -15,7 +15,9 @@ use Rattle.verdicts.specs.Evaluate.{Outcome}
 use Rattle.requirements.specs.Requirements.{rowDomain, moduleRows}
 use Rattle.checking.specs.Checking.{checkedOf}
 use Rattle.differences.specs.View.{View, Need, Export}
-use Rattle.differences.specs.Compared.{Given, given, viewed, Lists, compared, Verdict, verdictOf}
+use Rattle.differences.specs.Compared.{Given, given, viewed, Lists, lists, compared, Verdict, verdictOf}
+use Rattle.reasons.specs.Reasons.{reasonsOf}
+use Rattle.listed.specs.Comparisons.{Comparison, tabled}
 use Rattle.standin.specs.Passing.{Passes}
 use Rattle.standin.specs.Replacing.{keys, turned}
 
@@ -69,6 +71,15 @@ last b (c ∷ cs) = last c cs
 -- the lists with the two modules exchanged
 abbrev pub exchanged : Lists → Lists
 exchanged l = record { exports = map turned (l .exports); needs = map turned (l .needs) }
+
+-- ---- explaining
+-- lists of two modules, and the reasons that their rows give
+abbrev pub withReasons : Given → Given → Lists → Comparison
+withReasons b c l = record { lists = l; reasons = reasonsOf b c (tabled l) }
+
+-- the two modules' own lists
+abbrev pub told : Given → Given → Comparison
+told b c = withReasons b c (lists (viewed b) (viewed c))
 
 -- ---- policies
 -- a policy that `read_policy` accepted some text as

@@ -13,10 +13,15 @@ use Rattle.verdicts.specs.Evaluate.{EvaluatedAs, compliant}
 use Rattle.differences.specs.declared.Change.the-variants.{Removed, Added}
 use Rattle.differences.specs.View.{Export, Need}
 use Rattle.differences.specs.Differences.{Entry, exportOrder, needOrder, exportDiff, needDiff}
-use Rattle.differences.specs.Compared.{lists, compared, Verdict, verdictOf}
+use Rattle.differences.specs.Compared.{Given, Lists, lists, compared, Verdict, verdictOf}
+use Rattle.wasm.specs.Module.{moduleAt}
+use Rattle.conform.specs.Claims.{Bytes}
+use Rattle.checking.specs.Checking.{limits}
+use Rattle.reasons.specs.Reasons.{reasonsTested}
+use Rattle.listed.specs.Comparisons.{tabled, explained, build, builds}
 use Rattle.standin.specs.Replacing.{Reports, IsChange, IsLowest}
 use Rattle.standin.specs.Builds.{Build, handed, view, exports, pairs, domains, comparison, StandsIn, Chain, last}
-use Rattle.standin.specs.Builds.{exchanged, Read, Meets, Clear}
+use Rattle.standin.specs.Builds.{exchanged, withReasons, told, Read, Meets, Clear}
 
 -- c has every export of b, by name and kind, and its function imports need no pair of domain and source that those of b do not
 pub record Covers (b c : Build) : Type 0 where
@@ -66,6 +71,16 @@ pub record Listing : Type 0 where
   pub needsEach : (b c : Build) (e : Entry Need)
       → e ∈ needDiff (view b) (view c) ↔ (IsChange e (view b .needs) (view c .needs) × IsLowest e (view b .needs) (view c .needs))
   pub needsAscend : (b c : Build) → Ascending needOrder (needDiff (view b) (view c))
+
+-- The reasons are refused for nothing of their own.
+pub record Explanation : Type 0 where
+  -- Of any two modules that are handed in: tables with the lists of an accepted comparison pass, so 14 and 15 are not given again.
+  pub passes : (b c : Given) (l : Lists) → compared b c 2048 2048 ≡ accepted l → reasonsTested b c (tabled l) ≡ accepted tt
+  -- So lists with their reasons are refused for what the comparison refuses, and for nothing else.
+  pub refuses : (b c : Given) → explained b c ≡ follow (compared b c 2048 2048) (λ l. accepted (withReasons b c l))
+  -- Of two files, after 14 of either: the baseline's refusals, the candidate's, and no other.
+  pub files : (b c : List ℕ) → Bytes b → Bytes c
+      → builds b c ≡ follow (moduleAt b limits) (λ m. follow (moduleAt c limits) (λ n. accepted (told (build b m) (build c n))))
 
 -- A refusal is never a pass.
 pub record FailSafe : Type 0 where
