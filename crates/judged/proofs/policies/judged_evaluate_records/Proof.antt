@@ -20,7 +20,8 @@ use contract.Running.{givenOf, tables, tablesOf}
 use sound.WpLaws.{fmOf, WpFn-mono}
 use types.Kit.{Given, ‵, raw, _⊛_, some, later, ⋆, _$_, _∵_, !, qed, by, move, use0, use1, use2, drop, split, join}
 use types.Kit.{pick, fsplit, fjoin, suffices, frame, await, done}
-use types.Run.{look, init, forget, stop, from, load, and-then, no-more, land, returns, enter, alloc1, alloc0, params1, pass1, pass0, free1, free0}
+use types.Run.{look, init, forget, stop, from, load, and-then, no-more, land, returns}
+use types.Run.{enter, alloc1, alloc0, params1, pass1, pass0, free1, free0}
 use denote.Exit.{yes}
 use denote.RattleType.{owns}
 use denote.Laws.{Is, shows}
