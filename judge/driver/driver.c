@@ -165,6 +165,16 @@ static void evaluate(void) {
     evaluation(judged_evaluate(number + 2, rows, number[0], number + 2 + rows, given - 2 - rows));
 }
 
+/* numbers: as for evaluate; each row in a record */
+static void evaluate_records(void) {
+    size_t rows = number[1];
+    struct judged_requirement *list = malloc(rows * sizeof *list + 1);
+    for (size_t i = 0; i < rows; i++)
+        list[i].domain = number[2 + i], list[i].row = i;
+    evaluation(judged_evaluate_records(list, rows, number[0], number + 2 + rows, given - 2 - rows));
+    free(list);
+}
+
 /* strings: the module, the policy */
 static void check(void) { evaluation(viscrombal_check(string[0], length[0], string[1], length[1])); }
 
@@ -401,7 +411,7 @@ static void (*const calls[])(void) = {
     NULL, uleb128, uleb128_u32, sleb128, name, module, functions, memories, namespaces, policy, token, write_policy, evaluate, import, path,
     rewrite, manifest, requirements, all_imports, all_exports, check, needs, compare, differences, export_name, source_name,
     u8, u32_le, take_bytes, skip, left, kind, section, change, reasons,
-    c_module, c_manifest, c_compare,
+    c_module, c_manifest, c_compare, evaluate_records,
 };
 
 /* ---- cases */

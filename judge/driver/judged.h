@@ -22,6 +22,9 @@ struct judged_manifest_told {
     bool packaged;
     size_t start, size, worlds, references;
 };
+struct judged_requirement {
+    size_t domain, row;
+};
 
 struct judged_module_told judged_module(const uint8_t *file, size_t length, size_t *sections, size_t n1, size_t *imports, size_t n2,
                                         size_t *exports, size_t n3, size_t *names, size_t n4);
@@ -32,6 +35,8 @@ struct judged_count_told judged_namespaces(const uint8_t *file, size_t length, c
 struct viscrombal_token_read judged_token(const uint8_t *text, size_t length, const size_t *policy, size_t cells, size_t domain, size_t from);
 struct viscrombal_written judged_write(const uint8_t *text, size_t length, const size_t *policy, size_t cells, uint8_t *out, size_t room);
 struct viscrombal_evaluation judged_evaluate(const size_t *domains, size_t rows, size_t n, const size_t *policy, size_t cells);
+struct viscrombal_evaluation judged_evaluate_records(const struct judged_requirement *list, size_t rows, size_t n, const size_t *policy,
+                                                     size_t cells);
 struct judged_manifest_told judged_manifest(const uint8_t *text, size_t length, size_t *worlds, size_t n5, size_t *references, size_t n6);
 struct judged_count_told judged_requirements(const uint8_t *file, size_t length, const size_t *imports, size_t cells, size_t *domains,
                                              size_t n1, size_t *rows, size_t n2, size_t n);

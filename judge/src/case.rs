@@ -41,9 +41,10 @@ pub enum Call {
     CModule,
     CManifest,
     CCompare,
+    EvaluateRecords,
 }
 
-pub const CALLS: [(Call, &str); 37] = [
+pub const CALLS: [(Call, &str); 38] = [
     (Call::Uleb128, "uleb128"),
     (Call::Uleb128U32, "uleb128_u32"),
     (Call::Sleb128, "sleb128"),
@@ -81,6 +82,7 @@ pub const CALLS: [(Call, &str); 37] = [
     (Call::CModule, "c_module"),
     (Call::CManifest, "c_manifest"),
     (Call::CCompare, "c_compare"),
+    (Call::EvaluateRecords, "evaluate_records"),
 ];
 
 #[derive(Clone, PartialEq, Eq, Debug)]

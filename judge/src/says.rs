@@ -35,7 +35,7 @@ pub fn original_says(case: &Case) -> String {
         Call::Policy => policy_read(s(0)),
         Call::Token => token(s(0), n),
         Call::Write => written(s(0), &n[1..], n[0]),
-        Call::Evaluate => evaluated(n),
+        Call::Evaluate | Call::EvaluateRecords => evaluated(n),
         Call::Import => classified(s(0), s(1)).to_string(),
         Call::Path => classified_path(s(0)).to_string(),
         Call::Rewrite => rewritten(s(0), n[0]),
@@ -77,7 +77,9 @@ pub fn port_says(case: &Case, a: &Answer) -> String {
         Call::Policy => port_policy(s(0), t),
         Call::Token => answered(t, 6, |t| format!("{} {} {} {}", t[2], t[3], t[4], t[5])),
         Call::Write | Call::Rewrite => port_written(t, &a.bytes),
-        Call::Evaluate | Call::Check => answered(t, 26, |t| format!("{:?} {} {} {}", &t[2..23], t[23], t[24], t[25])),
+        Call::Evaluate | Call::EvaluateRecords | Call::Check => {
+            answered(t, 26, |t| format!("{:?} {} {} {}", &t[2..23], t[23], t[24], t[25]))
+        }
         Call::Import | Call::Path => t[0].to_string(),
         Call::Manifest => port_manifest(s(0), t),
         Call::Requirements | Call::Needs => port_requirements(t),

@@ -10,6 +10,7 @@ ghost use Rattle.evaluation.specs.Evaluate.{numbers};
 ghost use Rattle.evaluation.specs.Tally.{startOf, stepOf, finishOf, Few};
 
 // A domain that is required, and the row that asks for it.
+#[repr(C)]
 pub struct Requirement {
     pub domain: usize,
     pub row: usize,

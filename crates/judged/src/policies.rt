@@ -8,6 +8,7 @@ use capi::policies::written_of;
 use domains::classify::classify_import;
 use domains::classify::classify_path;
 use domains::domain_number;
+use evaluation::Requirement;
 use policy::Policy;
 use policy::Slot;
 use policy::Stance;
@@ -16,6 +17,7 @@ ghost use Prim.Native.Nat.{_≤_};
 ghost use lib.ListN.{length};
 ghost use Rattle.domains.specs.Classify.{importDomain, pathDomain};
 ghost use Rattle.verdicts.specs.Evaluate.{evaluated};
+ghost use Rattle.evaluation.specs.Evaluate.{numbers};
 ghost use Rattle.rewriting.specs.Writer.{written};
 ghost use Rattle.capi.specs.Policies.{tokenTold, tokenAsked, WriteTells};
 ghost use Rattle.capi.specs.Check.{evaluationTold};
@@ -99,6 +101,18 @@ pub extern "C" fn judged_evaluate(domains: &[usize], n: usize, cells: &[usize]) 
 {
     let p = policy_of(cells);
     judged_of(verdicts::evaluate_domains(domains, n, p))
+}
+
+#[no_mangle]
+pub extern "C" fn judged_evaluate_records(
+    list: &[Requirement],
+    n: usize,
+    cells: &[usize],
+) -> EvaluationTold
+    ensures { λ r. ⌜ r ≡ evaluationTold (evaluated (numbers (now (list .entry))) n (policyIn (now (cells .entry)))) ⌝ }
+{
+    let p = policy_of(cells);
+    judged_of(evaluation::evaluate(list, n, p))
 }
 
 #[no_mangle]

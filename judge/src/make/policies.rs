@@ -116,7 +116,14 @@ fn evaluated(court: &mut Court, r: &mut Random) {
     let mut numbers = vec![n as u64, rows.len() as u64];
     numbers.extend(rows);
     numbers.extend(cells("abcdef", r));
-    court.hear(Case::new(Call::Evaluate, &numbers, &[]));
+    both_ways(court, &numbers);
+}
+
+/// Over the domains' numbers, and over records.
+fn both_ways(court: &mut Court, numbers: &[u64]) {
+    for call in [Call::Evaluate, Call::EvaluateRecords] {
+        court.hear(Case::new(call, numbers, &[]));
+    }
 }
 
 const SOURCES: [&str; 24] = [
@@ -215,7 +222,7 @@ fn many_rows(court: &mut Court) {
             let mut numbers = vec![n, rows];
             numbers.extend((0..rows).map(|i| i % 7));
             numbers.extend([0; 25]);
-            court.hear(Case::new(Call::Evaluate, &numbers, &[]));
+            both_ways(court, &numbers);
         }
     }
 }
