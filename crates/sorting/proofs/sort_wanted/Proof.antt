@@ -44,8 +44,8 @@ ordered : (c : tie.At-loop Inv-loop μ-loop) → Ordered (order (start c)) (c .l
 ordered c = filled-ordered (order (start c)) (lawful-rows _ _ _ _) (listed c) _ _ _ (c .loop .inv .2) (c .loop .inv .1)
 
 -- the row of a turn is the one before those that were passed
-row-told : (c : tie.After-is-wanted Inv-loop μ-loop) (i : ℕ) → i + 1 ≡ start (c .before .before) .args .n - c .before .before .loop .passed
-    → c .is-wanted .result ≡ chosen-by (start (c .before .before)) i
+row-told : (c : tie.After-is-wanted Inv-loop μ-loop) (i : ℕ) → let at = c .before .before in
+    i + 1 ≡ start at .args .n - at .loop .passed → c .is-wanted .result ≡ chosen-by (start at) i
 row-told c i e = c .is-wanted .ensures _ _ ∙ ap (chosen-by (start (c .before .before))) (omega arith)
 
 abbrev row : tie.At-loop Inv-loop μ-loop → ℕ
@@ -115,8 +115,9 @@ returns-2 : tie.Need-returns-2 Inv-loop μ-loop
 unfolding wantedRows
 returns-2 c =
     let at = c .before in
+    let s = start at in
     sorts-rows _ _ _ _ _ (at .before .before .before .clear .ensures)
-    (filled-as (order (start at)) (kept-all (chosen-by (start at)) _ (start at .args .n - at .loop .passed) (omega arith)) (at .loop .inv .2))
+    (filled-as (order s) (kept-all (chosen-by s) _ (s .args .n - at .loop .passed) (omega arith)) (at .loop .inv .2))
     (at .loop .inv .1)
 
 pub sort-wanted-spec : {M : Type 1} → statement M
