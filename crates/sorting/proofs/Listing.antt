@@ -122,20 +122,20 @@ filled-as cmp {before = before} {table} {k} e f = subst (λ (t : List ℕ). Fill
 abbrev pub keptFrom : (ℕ → Bool) → ℕ → ℕ → List ℕ
 keptFrom p i n = keep p (upFrom i (n - i))
 
-rows-step : (n i : ℕ) → 0 < i → i ≤ n → upFrom (i - 1) (n - (i - 1)) ≡ (i - 1) ∷ upFrom i (n - i)
-rows-step n i h b =
-    let e : n - (i - 1) ≡ suc (n - i) = omega arith in
-    let d : suc (i - 1) ≡ i = omega arith in
-    ap (upFrom (i - 1)) e ∙ ap (λ (j : ℕ). (i - 1) ∷ upFrom j (n - i)) d
+rows-step : (n i j : ℕ) → j + 1 ≡ i → i ≤ n → upFrom j (n - j) ≡ j ∷ upFrom i (n - i)
+rows-step n i j h b =
+    let e : n - j ≡ suc (n - i) = omega arith in
+    let d : suc j ≡ i = omega arith in
+    ap (upFrom j) e ∙ ap (λ (m : ℕ). j ∷ upFrom m (n - i)) d
 
-pub kept-none : (p : ℕ → Bool) (n : ℕ) → keptFrom p n n ≡ []
-kept-none p n = let e : n - n ≡ 0 = omega arith in ap (λ (m : ℕ). keep p (upFrom n m)) e
+pub kept-none : (p : ℕ → Bool) (n i : ℕ) → n ≤ i → keptFrom p i n ≡ []
+kept-none p n i h = let e : n - i ≡ 0 = omega arith in ap (λ (m : ℕ). keep p (upFrom i m)) e
 
-pub kept-yes : (p : ℕ → Bool) (n i : ℕ) → 0 < i → i ≤ n → p (i - 1) ≡ true → keptFrom p (i - 1) n ≡ (i - 1) ∷ keptFrom p i n
-kept-yes p n i h b t = ap (keep p) (rows-step n i h b) ∙ rw t
+pub kept-yes : (p : ℕ → Bool) (n i j : ℕ) → j + 1 ≡ i → i ≤ n → p j ≡ true → keptFrom p j n ≡ j ∷ keptFrom p i n
+kept-yes p n i j h b t = ap (keep p) (rows-step n i j h b) ∙ rw t
 
-pub kept-no : (p : ℕ → Bool) (n i : ℕ) → 0 < i → i ≤ n → p (i - 1) ≡ false → keptFrom p (i - 1) n ≡ keptFrom p i n
-kept-no p n i h b t = ap (keep p) (rows-step n i h b) ∙ rw t
+pub kept-no : (p : ℕ → Bool) (n i j : ℕ) → j + 1 ≡ i → i ≤ n → p j ≡ false → keptFrom p j n ≡ keptFrom p i n
+kept-no p n i j h b t = ap (keep p) (rows-step n i j h b) ∙ rw t
 
 pub kept-all : (p : ℕ → Bool) (n i : ℕ) → i ≤ 0 → keptFrom p i n ≡ keep p (upFrom 0 n)
 kept-all p n i h =
@@ -149,16 +149,13 @@ pub kept-grows : (cmp : ℕ → ℕ → Order) (p : ℕ → Bool) (n i : ℕ) �
 kept-grows cmp p n zero h = omega (arith, ap (λ (l : List ℕ). length (sort cmp l)) (kept-all p n zero (omega arith)))
 kept-grows cmp p n (suc i) h = by (p i) refl (kept-grows cmp p n i (omega arith))
   where
-    here : suc i - 1 ≡ i
-    here = omega arith
-
     by : (t : Bool) → p i ≡ t → length (sort cmp (keptFrom p i n)) ≤ length (sort cmp (keep p (upFrom 0 n)))
         → length (sort cmp (keptFrom p (suc i) n)) ≤ length (sort cmp (keep p (upFrom 0 n)))
     by true e ih =
-        let q = rw here at (kept-yes p n (suc i) (omega arith) h (rw here e)) in
+        let q = kept-yes p n (suc i) i (omega arith) h e in
         omega (arith, ap (λ (l : List ℕ). length (sort cmp l)) q, put-grows cmp i (sort cmp (keptFrom p (suc i) n)))
     by false e ih =
-        let q = rw here at (kept-no p n (suc i) (omega arith) h (rw here e)) in
+        let q = kept-no p n (suc i) i (omega arith) h e in
         omega (arith, ap (λ (l : List ℕ). length (sort cmp l)) q)
 
 -- ---- the two ends

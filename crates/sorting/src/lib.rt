@@ -112,10 +112,11 @@ fn sort_wanted<'a, 'b, 'c>(
 {
     table::clear(sorted);
     let mut k = 0;
-    let mut i = n;
+    let mut passed = 0;
     // from the last row to the first, so that of rows that tie the lowest stays
-    while 0 < i {
-        i -= 1;
+    while passed < n {
+        passed += 1;
+        let i = n - passed;
         if is_wanted(rows, keys, like, i) {
             let put = insert(first, second, rows, keys, sorted, k, i);
             let Sorted::Rows(more) = put else {

@@ -1,49 +1,68 @@
 -- `classify_import` meets its contract. Assumes nothing.
-use mathlib.Core.Path.{sym, _∙_}
+use mathlib.Core.Path.{_≡_, sym, _∙_}
+use mathlib.Core.Bool.{true, false}
+use mathlib.Core.List.{List}
+use Prim.Native.Nat.{ℕ}
 use borrow.Author.Needs.{needs}
-use Rattle.domains.specs.Classify.{passes, importDomain}
+use Rattle.text.specs.Find.{begins, same}
+use Rattle.domains.specs.Classify.{passes, preview1, unstable, wasi, importDomain}
 use Rattle.domains.proofs.classify.classify_import.Statement.{statement}
 use Rattle.domains.proofs.classify.classify_import.Tie as tie
 
+-- the module name
+abbrev name1 : tie.After-passes → List ℕ
+name1 c = c .before .before .before .before .args .source .now
+
+abbrev name2 : tie.After-passes2 → List ℕ
+name2 c = name1 (c .before .before .before)
+
+abbrev name3 : tie.After-passes3 → List ℕ
+name3 c = name2 (c .before .before .before)
+
+-- what it is known to be, or not to be, after each test
+no1 : (c : tie.Else1) → begins preview1 (name1 (c .before)) ≡ false
+unfolding passes
+no1 c = sym (c .before .passes .ensures) ∙ c .if1 .left
+
+yes1 : (c : tie.Then1) → begins preview1 (name1 (c .before)) ≡ true
+unfolding passes
+yes1 c = sym (c .before .passes .ensures) ∙ c .if1 .taken
+
+yes2 : (c : tie.Then2) → same unstable (name2 (c .before)) ≡ true
+unfolding passes
+yes2 c = sym (c .before .passes2 .ensures) ∙ c .if2 .taken
+
+no2 : (c : tie.Else2) → same unstable (name2 (c .before)) ≡ false
+unfolding passes
+no2 c = sym (c .before .passes2 .ensures) ∙ c .if2 .left
+
+yes3 : (c : tie.Then3) → begins wasi (name3 (c .before)) ≡ true
+unfolding passes
+yes3 c = sym (c .before .passes3 .ensures) ∙ c .if3 .taken
+
+no3 : (c : tie.Else3) → begins wasi (name3 (c .before)) ≡ false
+unfolding passes
+no3 c = sym (c .before .passes3 .ensures) ∙ c .if3 .left
+
 returns : tie.Need-returns
-unfolding passes importDomain
-returns c =
-    let e1 = sym (c .before .before .passes .ensures) ∙ c .before .if1 .taken in
-    rw e1 (c .preview-of .ensures)
+unfolding importDomain
+returns c = rw (yes1 (c .before)) (c .preview-of .ensures)
 
 returns-2 : tie.Need-returns-2
-unfolding passes importDomain
-returns-2 c =
-    let e2 = sym (c .before .before .passes2 .ensures) ∙ c .before .if2 .taken in
-    let e1 = sym (c .before .before .before .before .before .passes .ensures) ∙ c .before .before .before .before .if1 .left in
-    rw (e1, e2) (c .preview-of2 .ensures)
+unfolding importDomain
+returns-2 c = rw (no1 (c .before .before .before .before), yes2 (c .before)) (c .preview-of2 .ensures)
 
 returns-3 : tie.Need-returns-3
-unfolding passes importDomain
+unfolding importDomain
 returns-3 c =
-    let c1 = c .before in
-    let c2 = c1 .before in
-    let c3 = c2 .before .before in
-    let c4 = c3 .before in
-    let c5 = c4 .before .before in
-    let c6 = c5 .before in
-    let e3 = sym (c2 .passes3 .ensures) ∙ c1 .if3 .taken in
-    let e2 = sym (c4 .passes2 .ensures) ∙ c3 .if2 .left in
-    let e1 = sym (c6 .passes .ensures) ∙ c5 .if1 .left in
-    rw (e1, e2, e3) (c .classify-path .ensures)
+    let past = c .before .before .before .before in
+    rw (no1 (past .before .before .before), no2 past, yes3 (c .before)) (c .classify-path .ensures)
 
 returns-4 : tie.Need-returns-4
-unfolding passes importDomain
+unfolding importDomain
 returns-4 c =
-    let c1 = c .before in
-    let c2 = c1 .before .before in
-    let c3 = c2 .before in
-    let c4 = c3 .before .before in
-    let c5 = c4 .before in
-    let e3 = sym (c1 .passes3 .ensures) ∙ c .if3 .left in
-    let e2 = sym (c3 .passes2 .ensures) ∙ c2 .if2 .left in
-    let e1 = sym (c5 .passes .ensures) ∙ c4 .if1 .left in
-    rw (e1, e2, e3)
+    let past = c .before .before .before in
+    rw (no1 (past .before .before .before), no2 past, no3 c)
 
 pub classify-import-spec : {M : Type 1} → statement M
 classify-import-spec =
