@@ -21,7 +21,8 @@ use Rattle.policy.specs.declared.PolicyRead.{PolicyRead}
 use Rattle.verdicts.specs.declared.Evaluation.{Evaluation}
 use Rattle.rewriting.specs.Token as tokens
 use Rattle.rewriting.specs.Token.{Found, nextToken}
-use Rattle.rewriting.specs.Writer.{Writes, Told, counted, left, written}
+use Rattle.writing.specs.Writing.{Told, counted, left}
+use Rattle.rewriting.specs.Writer.{Writes, written}
 use Rattle.capi.specs.declared.policies.WrittenTold.{WrittenTold}
 use Rattle.capi.specs.Check.{judgedAs, evaluationTold}
 use Rattle.capi.specs.Policies.{numberIn, placeIn, shown, policyTold, tokenAsked, writtenTold, WriteTells}

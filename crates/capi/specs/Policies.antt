@@ -13,8 +13,9 @@ use Rattle.policy.specs.declared.Stance.{Stance}
 use Rattle.policy.specs.declared.Stance.the-variants.{None, Allow, Deny}
 use Rattle.policy.specs.declared.Slot.{Slot}
 use Rattle.policy.specs.declared.Policy.{Policy}
+use Rattle.writing.specs.Writing.{counted, left}
 use Rattle.rewriting.specs.Token.{Found, nothing, token, nextToken}
-use Rattle.rewriting.specs.Writer.{counted, left, written}
+use Rattle.rewriting.specs.Writer.{written}
 use Rattle.capi.specs.declared.policies.RuleTold.{RuleTold}
 use Rattle.capi.specs.declared.policies.PolicyTold.{PolicyTold}
 use Rattle.capi.specs.declared.policies.TokenTold.{TokenTold}

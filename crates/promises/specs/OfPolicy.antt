@@ -9,7 +9,8 @@ use Rattle.domains.proofs.DomainLaws.{same-domain}
 use Rattle.domains.proofs.Known.{found-known}
 use Rattle.policy.proofs.Known.{read-known}
 use Rattle.verdicts.proofs.Known.{evaluation-known}
-use Rattle.rewriting.proofs.Known.{one-answer, one-output, token-known}
+use Rattle.writing.proofs.Known.{one-answer, one-output}
+use Rattle.rewriting.proofs.Known.{token-known}
 use Rattle.promises.specs.Decides.{Decides}
 use Rattle.domains.proofs.domain_number.Kinds as domain-number-kinds
 use Rattle.domains.proofs.domain_number.Reads as domain-number

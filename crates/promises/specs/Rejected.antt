@@ -43,7 +43,8 @@ use Rattle.policy.proofs.read_policy.Kinds as read-policy-kinds
 use Rattle.policy.proofs.read_policy.Reads as read-policy
 use Rattle.verdicts.proofs.evaluate_domains.Kinds as evaluate-domains-kinds
 use Rattle.verdicts.proofs.evaluate_domains.Reads as evaluate-domains
-use Rattle.rewriting.specs.Writer.{nameLine, formLines, unlines, form, roomFor, written, counted, left, Told}
+use Rattle.writing.specs.Writing.{roomFor, counted, left, Told}
+use Rattle.rewriting.specs.Writer.{nameLine, formLines, unlines, form, written}
 use Rattle.rewriting.proofs.write_policy.Kinds as write-policy-kinds
 use Rattle.rewriting.proofs.write_policy.Reads as write-policy
 use Rattle.leb.specs.Grammar.{U}

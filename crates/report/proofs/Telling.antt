@@ -18,8 +18,7 @@ use Rattle.verdicts.specs.Evaluate.{violates, compliant}
 use Rattle.domains.specs.declared.Domain.{Domain}
 use Rattle.verdicts.specs.declared.Verdict.{Verdict}
 use Rattle.verdicts.specs.declared.Evaluation.{Evaluation}
-use Rattle.domains.proofs.DomainLaws.{number-small}
-use Rattle.rewriting.proofs.WriteLaws.{slug-long}
+use Rattle.writing.proofs.Words.{slug-long}
 use Rattle.report.specs.declared.line.Line.{Line}
 use Rattle.report.specs.Line.{lineOf}
 use Rattle.report.specs.Words.{notW, violationW, compliantW, notCompliantW, standsW, standsNotW}
@@ -47,7 +46,7 @@ range-padded n w h =
 
 pub slug-word : (d : Domain) {s : Slug} → s ≡ slugOf (slug (numberOf d)) → rangeOf (s .bytes) 0 (s .len) ≡ slug (numberOf d)
 unfolding slugOf
-slug-word d e = rw e (range-padded 10 (slug (numberOf d)) (omega (arith, slug-long (numberOf d) (number-small d))))
+slug-word d e = rw e (range-padded 10 (slug (numberOf d)) (omega (arith, slug-long (numberOf d))))
 
 pub kind-long : (k : ExternalKind) → length (kindWord k) ≤ 10
 kind-long Func = omega arith

@@ -7,7 +7,7 @@ use lib.ListN.{length}
 use Rattle.refusal.specs.Pick.{pick, both, within}
 use Rattle.refusal.specs.Said.{Said, refused}
 use Rattle.kinds.specs.Kinds.{hexOf}
-use Rattle.rewriting.specs.Writer.{roomFor}
+use Rattle.writing.specs.Writing.{roomFor}
 
 -- printable ASCII, but the backslash
 unfoldable pub plain : ℕ → Bool

@@ -12,7 +12,7 @@ use Rattle.domains.specs.Domain.{slug}
 use Rattle.verdicts.specs.Evaluate.{violates, noVerdict, compliant}
 use Rattle.verdicts.specs.declared.Verdict.{Verdict}
 use Rattle.verdicts.specs.declared.Evaluation.{Evaluation}
-use Rattle.rewriting.specs.Writer.{roomFor}
+use Rattle.writing.specs.Writing.{roomFor}
 use Rattle.report.specs.Decimal.{decimalOf}
 use Rattle.report.specs.Escape.{escaped, tooLong}
 use Rattle.report.specs.Words.{refusedW, atW, bytesW, sectionsW, importsW, exportsW, notW, requiredW, allowedW, violationW}

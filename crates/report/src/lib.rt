@@ -21,7 +21,7 @@ use verdicts::is_violation;
 ghost use mathlib.Core.Path.{_≡_};
 ghost use lib.ListN.{length};
 ghost use Rattle.domains.specs.Domain.{numberOf};
-ghost use Rattle.rewriting.specs.Writer.{Told};
+ghost use Rattle.writing.specs.Writing.{Told};
 ghost use Rattle.report.specs.Line.{lineOf, added};
 ghost use Rattle.report.specs.Texts.{refusalText, countsText, whether, markOf, domainText, named, violationsText, complianceText};
 ghost use Rattle.report.specs.Texts.{standText, verdictText, tailText, headText, removedIn, addedIn};

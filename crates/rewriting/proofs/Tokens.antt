@@ -49,11 +49,11 @@ split-commas (x ∷ s) = by (eqb x 44) refl (split-commas s)
     by false q a = record { head = lacks-cons 44 x (split s .head) q (a .head); rest = a .rest }
 
 -- put together again
-unfoldable glue : List (List ℕ) → List ℕ
+unfoldable pub glue : List (List ℕ) → List ℕ
 glue [] = []
 glue (t ∷ ts) = 44 ∷ (t ++ glue ts)
 
-split-glue : (s : List ℕ) → split s .head ++ glue (split s .rest) ≡ s
+pub split-glue : (s : List ℕ) → split s .head ++ glue (split s .rest) ≡ s
 unfolding split glue
 split-glue [] = refl
 split-glue (x ∷ s) = by (eqb x 44) refl (split-glue s)

@@ -1,101 +1,42 @@
--- Bytes written one after the other. Assumes nothing.
+-- The text of a policy, part by part, and how long it is. Assumes nothing.
 use mathlib.Core.Path.{_≡_, refl, sym, ap, _∙_}
-use mathlib.Core.Bool.{Bool, true, false, false≢true}
+use mathlib.Core.Bool.{Bool, true, false}
 use mathlib.Core.List.{List, [], _∷_, _++_, map, append-nil, append-assoc}
 use Prim.Native.Nat.{ℕ, zero, suc, _+_, _*_, _-_, _≤_, _<_}
 use native.Mathlib.Omega.{arith}
-use native.Mathlib.Nat.{add-zero}
-use lib.ListN.{length, take, drop, drop-of-length-le, length-append, length-drop, take-append-drop}
-use lib.Seq.{take-all, length-take-le, take-length, take-at, drop-at, drop-drop, paste, append-snoc}
+use lib.ListN.{length, take, drop, drop-of-length-le, length-append, length-drop, length-take}
+use lib.Seq.{take-all, take-length, append-snoc}
 use lib.Dec.{ltb, leb}
-use borrow.Author.Tests.{ltb-true, ltb-false, leb-true, leb-false, le-leb, lt-leb, lt-ltb, le-ltb}
+use borrow.Author.Tests.{ltb-true, ltb-false, leb-true, leb-false, le-leb, lt-leb}
 use native.Mathlib.Numerals.{add-one}
 use Rattle.refusal.specs.declared.Part.{Part}
-use Rattle.refusal.specs.Said.{refused, accepted, refusedBy, saidAnswer, follow}
-use Rattle.refusal.specs.Slug.{slugOf, padded, wordOf}
-use Rattle.refusal.specs.declared.Slug.{Slug}
+use Rattle.refusal.specs.Said.{accepted, refusedBy, saidAnswer, follow}
 use Rattle.refusal.specs.declared.Answer.{Answer}
 use Rattle.refusal.specs.declared.Refusal.{Refusal}
 use Rattle.refusal.specs.declared.Written.{Written}
-use Rattle.refusal.specs.declared.Written.the-variants.{Bytes, Refused}
-use Rattle.refusal.specs.declared.Refusal.the-variants.{NoRoom}
+use Rattle.refusal.specs.declared.Written.the-variants.{Refused}
 use Rattle.refusal.specs.Pick.{pick}
-use Rattle.text.specs.Trim.{trimmed, trimOf}
+use Rattle.text.specs.Trim.{trimStart, trimEnd, started, trimmed, trimOf}
 use Rattle.text.specs.Find.{indexOf}
 use Rattle.text.proofs.FindLaws.{index-le}
-use Rattle.domains.specs.Domain.{numberOf, found, numbered, nothing, just, slugs, slug}
+use Rattle.domains.specs.Domain.{slug}
 use Rattle.pieces.specs.Piece.{bytesOf, piece, TrimTo, Piece}
 use Rattle.policy.specs.Eight.{slotOf, policyTest}
 use Rattle.policy.specs.declared.Policy.{Policy}
-use Rattle.domains.specs.declared.Domain.{Domain}
-use Rattle.domains.specs.declared.Domain.the-variants.{Filesystem, Environment, Clock, Network, Random, Stdio, Unknown}
-use Rattle.domains.specs.declared.DomainFound.{DomainFound}
 use Rattle.policy.specs.View.{Parts, split, commas, full, tokens, RuleView, silent, ruling, ruleOf, View, range, noName, seven, says}
 use Rattle.policy.specs.Directive.{policyW, defaultW}
 use Rattle.policy.specs.declared.Slot.{Slot}
+use Rattle.policy.specs.declared.Stance.{Stance}
 use Rattle.policy.specs.declared.Stance.the-variants.{None, Allow, Deny}
 use Rattle.pieces.proofs.Pieces.{trim-is, trim-bytes, piece-long, first-piece, beyond-piece}
-use Rattle.rewriting.specs.Writer.{left, roomFor, written, Formed, Writes, form, stanceWord, nameLine, defaultLine, formLines}
+use Rattle.writing.specs.Writing.{most, Wrote, FormedFrom}
+use Rattle.writing.proofs.Laws.{wrote-none, wrote-then, formed-first}
+use Rattle.writing.proofs.Words.{slug-long}
+use Rattle.rewriting.specs.Writer.{written, Writes, form, stanceWord, nameLine, defaultLine, formLines}
 use Rattle.rewriting.specs.Writer.{joined, listPart, ruleLine, ruleLines, unlines}
-use Rattle.rewriting.specs.Writing.{laid, Wrote, separator, tokenForm, marked, ruleText}
+use Rattle.rewriting.specs.Writing.{separator, tokenForm, marked, lineText, ruleText}
 use Rattle.rewriting.proofs.Bytes.{index-split, until-lacks}
-use Rattle.rewriting.proofs.Tokens.{split-one, split-at}
-use Rattle.domains.specs.declared.DomainFound.the-variants as df
-
-laid-none : (d : List ℕ) (at : ℕ) → laid d at [] ≡ d
-laid-none d at = rw (append-nil (take at d), add-zero at) (take-append-drop at d)
-
--- w, then v after it
-module _ (d : List ℕ) (at : ℕ) (w v : List ℕ) (h : at + length w ≤ length d) where
-  head-long : length (take at d ++ w) ≡ at + length w
-  head-long = length-append (take at d) w ∙ ap (λ (k : ℕ). k + length w) (length-take-le at d (omega arith))
-
-  laid-then : laid (laid d at w) (at + length w) v ≡ laid d at (w ++ v)
-  laid-then =
-      let p = take at d ++ w in
-      let q = drop (at + length w) d in
-      let a : take (at + length w) (p ++ q) ≡ p = take-at p q (at + length w) head-long in
-      let z : at + length w + length v ≡ at + length (w ++ v) = (let e = length-append w v in omega arith) in
-      let b : drop (at + length w + length v) (p ++ q) ≡ drop (at + length (w ++ v)) d =
-      sym (drop-drop (length v) (at + length w) (p ++ q)) ∙ ap (drop (length v)) (drop-at p q (at + length w) head-long)
-      ∙ drop-drop (length v) (at + length w) d
-      ∙ ap (λ (k : ℕ). drop k d) z in
-      rw (a, b) (ap (λ (l : List ℕ). l ++ drop (at + length (w ++ v)) d) (append-assoc (take at d) w v))
-
-  laid-long : length (laid d at w) ≡ length d
-  laid-long = length-append (take at d ++ w) (drop (at + length w) d)
-      ∙ (let a = head-long in let b = length-drop (at + length w) d in omega arith)
-
-pub wrote-none : (d : List ℕ) (at : ℕ) (go : Bool) → Wrote d at go [] at d
-wrote-none d at go = record { next = omega arith; long = refl; kept = λ e. refl; left = λ e h. sym (laid-none d at) }
-
-pub wrote-then : {d : List ℕ} {at : ℕ} {go : Bool} {w v : List ℕ} {r q : ℕ} {x y : List ℕ} → Wrote d at go w r x
-    → Wrote x r go v q y → Wrote d at go (w ++ v) q y
-wrote-then {d} {at} {go} {w} {v} {r} {q} {x} {y} f g =
-    let l = length-append w v in
-    record {
-      next = omega (arith, f .next, g .next);
-      long = g .long ∙ f .long;
-      kept = λ e. g .kept e ∙ f .kept e;
-      left = λ e h.
-          let k : at + length w ≤ length d = omega arith in
-          let a : x ≡ laid d at w = f .left e k in
-          let b : y ≡ laid x r v = g .left e (omega (arith, f .next, f .long)) in
-          b ∙ ap (λ (l : List ℕ). laid l r v) a ∙ ap (λ (m : ℕ). laid (laid d at w) m v) (f .next) ∙ laid-then d at w v k;
-    }
-
--- ---- what a single call does
-pub wrote-no : (d : List ℕ) (at : ℕ) (go : Bool) (w : List ℕ) → go ≡ false → Wrote d at go w (at + length w) d
-wrote-no d at go w e = record { next = refl; long = refl; kept = λ e. refl; left = λ y h. absurd (false≢true (sym e ∙ y)) }
-
-pub wrote-full : (d : List ℕ) (at : ℕ) (go : Bool) (w : List ℕ) → length d < at + length w → Wrote d at go w (at + length w) d
-wrote-full d at go w k = record { next = refl; long = refl; kept = λ e. refl; left = λ y h. absurd (omega arith) }
-
-pub wrote-all : (d : List ℕ) (at : ℕ) (go : Bool) (w : List ℕ) (r : ℕ) (x : List ℕ) → go ≡ true → at + length w ≤ length d
-    → r ≡ at + length w → x ≡ paste d at w (length w) → Wrote d at go w r x
-wrote-all d at go w r x e k n p =
-    let z : x ≡ laid d at w = p ∙ rw (take-length w) in
-    record { next = n; long = ap length z ∙ laid-long d at w [] k; kept = λ y. absurd (false≢true (sym y ∙ e)); left = λ y h. z }
+use Rattle.rewriting.proofs.Tokens.{split-one, split-at, glue, split-glue}
 
 -- ---- a token
 pub token-none : (some : Bool) (t : List ℕ) → length t ≡ 0 → tokenForm some t ≡ []
@@ -113,11 +54,6 @@ marked-none (x ∷ t) e = absurd (omega arith)
 pub marked-some : (t : List ℕ) → (length t ≡ 0 → ⊥) → true ≡ marked false t
 marked-some [] e = absurd (e refl)
 marked-some (x ∷ t) e = refl
-
-pub token-long : (some : Bool) (t : List ℕ) → (length (tokenForm some t) ≤ 3 * length t)
-token-long some [] = omega arith
-token-long true (x ∷ t) = omega arith
-token-long false (x ∷ t) = omega arith
 
 same-test : (a b c d : ℕ) → (a < b → c ≤ d) → (c ≤ d → a < b) → ltb a b ≡ leb c d
 same-test a b c d f g = by (ltb a b) refl (leb c d) refl
@@ -226,8 +162,8 @@ pub record Going (s : List ℕ) (a e : ℕ) (d : List ℕ) (at : ℕ) (go : Bool
   pub wrote : Wrote d at go done n x
   pub whole : listPart (tokens (bytesOf s a e)) ≡ done ++ rest some (leftT s i e)
 
-pub going-first : (s : List ℕ) (a e : ℕ) (d : List ℕ) (at : ℕ) (go : Bool) → a ≤ e → Going s a e d at go d a at false
-going-first s a e d at go h = record { done = []; wrote = wrote-none d at go; whole = unfold rest in rw (le-leb a e h) }
+pub going-first : (s : List ℕ) (a e : ℕ) (d : List ℕ) (at : ℕ) (go : Bool) → a ≤ e → at ≤ most → Going s a e d at go d a at false
+going-first s a e d at go h m = record { done = []; wrote = wrote-none d at go m; whole = unfold rest in rw (le-leb a e h) }
 
 pub going-next : {s : List ℕ} {a e : ℕ} {d : List ℕ} {at : ℕ} {go : Bool} {x : List ℕ} {i n : ℕ} {some : Bool} (k f g m : ℕ) (y : List ℕ)
     → Going s a e d at go x i n some → i ≤ e → e ≤ length s → k ≡ indexOf 44 (bytesOf s i e) → TrimTo s i (i + k) f g
@@ -248,22 +184,6 @@ going-last {s} {a} {e} {d} {at} {go} {x} {i} {n} {some} w h =
     rw (w .whole ∙ ap (λ (v : List ℕ). w .done ++ v) (list-done s i e some h) ∙ append-nil (w .done)) (w .wrote)
 
 -- ---- the lines of the rules
-pub slug-long : (d : ℕ) → d < 7 → length (slug d) ≤ 7
-unfolding slug slugs
-slug-long zero h = omega arith
-slug-long (suc zero) h = omega arith
-slug-long (suc (suc zero)) h = omega arith
-slug-long (suc (suc (suc zero))) h = omega arith
-slug-long (suc (suc (suc (suc zero)))) h = omega arith
-slug-long (suc (suc (suc (suc (suc zero))))) h = omega arith
-slug-long (suc (suc (suc (suc (suc (suc zero)))))) h = omega arith
-slug-long (suc (suc (suc (suc (suc (suc (suc d))))))) h = absurd (omega arith)
-
-pub stance-long : (t : Bool) → length (stanceWord t) ≤ 5
-unfolding stanceWord
-stance-long true = omega arith
-stance-long false = omega arith
-
 pub rule-text : (t : Bool) (d : ℕ) (ts : List (List ℕ)) → ruleText d (ruling t ts) ≡ stanceWord
     t ++ ((32 ∷ []) ++ (slug d ++ (listPart ts ++ (10 ∷ []))))
 unfolding ruleLine
@@ -302,8 +222,8 @@ pub record Turning (s : List ℕ) (xs : List Slot) (d : List ℕ) (at : ℕ) (go
   pub wrote : Wrote d at go done n x
   pub whole : unlines (ruleLines 0 (map (ruleOf s) xs)) ≡ done ++ unlines (ruleLines k (map (ruleOf s) (drop k xs)))
 
-pub turning-first : (s : List ℕ) (xs : List Slot) (d : List ℕ) (at : ℕ) (go : Bool) → Turning s xs d at go d 0 at
-turning-first s xs d at go = record { done = []; wrote = wrote-none d at go; whole = refl }
+pub turning-first : (s : List ℕ) (xs : List Slot) (d : List ℕ) (at : ℕ) (go : Bool) → at ≤ most → Turning s xs d at go d 0 at
+turning-first s xs d at go m = record { done = []; wrote = wrote-none d at go m; whole = refl }
 
 pub turning-next : {s : List ℕ} {xs : List Slot} {d : List ℕ} {at : ℕ} {go : Bool} {x : List ℕ} {k n m : ℕ} {y : List ℕ}
     (w : Turning s xs d at go x k n) (z : Slot) → drop k xs ≡ z ∷ drop (k + 1) xs
@@ -344,10 +264,6 @@ unfolding seven
 seven-end p k h = drop-of-length-le (seven p) h
 
 -- ---- the whole text
-pub name-long : (s : List ℕ) (t : Bool) (a n : ℕ) → length s ≤ 65536 → a + n ≤ length s → length (pick t (range s a n) noName) ≤ 65536
-name-long s true a n h k = omega (arith, length-take-le n (drop a s) (omega (arith, length-drop a s)))
-name-long s false a n h k = omega arith
-
 pub form-text : (v : View)
     → form v ≡ (policyW ++ (34 ∷ []))
     ++ (v .name ++ ((34 ∷ 10 ∷ defaultW) ++ (stanceWord (v .permit) ++ ((10 ∷ []) ++ unlines (ruleLines 0 (v .rules))))))
@@ -355,35 +271,100 @@ unfolding form formLines unlines nameLine defaultLine
 form-text v = ap (λ (l : List ℕ). (policyW ++ (34 ∷ [])) ++ l)
     (append-assoc (v .name) (34 ∷ []) (10 ∷ (defaultW ++ (stanceWord (v .permit) ++ 10 ∷ unlines (ruleLines 0 (v .rules))))))
 
--- ---- the writer's answers
-module _ (w d : List ℕ) {m : ℕ} {x : List ℕ} (counted : Wrote d 0 false w m x) where
-  pub form-full : length d < m → Formed w d (Refused (NoRoom m)) x
-  unfolding roomFor
-  form-full h =
-      let z : m ≡ length w = omega (arith, counted .next) in
-      let t = lt-ltb (length d) (length w) (omega arith) in
-      record { answer = rw (t, z); output = counted .kept refl ∙ rw t }
+-- ---- how long it is: of a text of at most 65,536 bytes so few that they can be counted
+part-long : (s : List ℕ) (a n : ℕ) → length (take n (drop a s)) ≤ length s
+part-long s a n = omega (arith, length-take n (drop a s), length-drop a s)
 
-  pub form-done : m ≤ length d → {j : ℕ} {y : List ℕ} → Wrote x 0 true w j y → Formed w d (Bytes j) y
-  unfolding roomFor
-  form-done h {j} {y} v =
-      let z : j ≡ length w = omega (arith, v .next) in
-      let t = le-ltb (length d) (length w) (omega (arith, counted .next)) in
-      let b : x ≡ d = counted .kept refl in
-      let a : y ≡ laid x 0 w = v .left refl (omega (arith, counted .long, counted .next)) in
-      let i : 0 + length w ≡ length w = omega arith in
-      let c : laid x 0 w ≡ w ++ drop (length w) d = rw (b, i) in
-      record { answer = rw (t, z); output = a ∙ c ∙ rw t }
+trim-long : (s : List ℕ) → length (trimOf s) ≤ length s
+unfolding trimOf
+trim-long s = part-long s (trimStart s) (trimEnd (started s))
 
--- the buffer keeps its length
-pub formed-long : (w d : List ℕ) {r : Written} {x : List ℕ} → Formed w d r x → length x ≡ length d
-unfolding roomFor
-formed-long w d f = ap length (f .output) ∙ by (ltb (length d) (length w)) refl
+joined-long : (ps : List (List ℕ)) → length (joined (full (map trimOf ps))) ≤ 2 * length (glue ps)
+unfolding joined full glue
+joined-long [] = omega arith
+joined-long (p ∷ ps) = by (trimOf p) (trim-long p) (joined-long ps)
   where
-    by : (t : Bool) → ltb (length d) (length w) ≡ t → length (left d (pick t (refused 16 (length w)) (accepted w))) ≡ length d
-    by true q = refl
-    by false q = omega (arith, length-append w (drop (length w) d), length-drop (length w) d, ltb-false (length d) (length w) q)
+    by : (t : List ℕ) → length t ≤ length p → length (joined (full (map trimOf ps))) ≤ 2 * length (glue ps)
+        → length (joined (full (t ∷ map trimOf ps))) ≤ 2 * length (44 ∷ (p ++ glue ps))
+    by [] h ih = omega (arith, length-append p (glue ps))
+    by (x ∷ t) h ih = omega (arith, length-append t (joined (full (map trimOf ps))), length-append p (glue ps))
 
+same-long : (ts : List (List ℕ)) → length (listPart ts) ≡ length (joined ts)
+unfolding listPart joined
+same-long [] = refl
+same-long (t ∷ ts) = refl
+
+list-long : (s : List ℕ) → length (listPart (tokens s)) ≤ 2 * length s + 2
+unfolding tokens commas glue
+list-long s =
+    omega (
+      arith,
+      same-long (tokens s),
+      joined-long (commas s),
+      ap length (split-glue s),
+    )
+
+stance-long : (t : Bool) → length (stanceWord t) ≤ 5
+unfolding stanceWord
+stance-long true = omega arith
+stance-long false = omega arith
+
+line-long : (t : Bool) (d : ℕ) (s : List ℕ) → length (lineText t d (tokens s)) ≤ 2 * length s + 16
+line-long t d s =
+    let l = listPart (tokens s) in
+    omega (
+      arith,
+      length-append (stanceWord t) (32 ∷ (slug d ++ (l ++ (10 ∷ [])))),
+      length-append (slug d) (l ++ (10 ∷ [])),
+      length-append l (10 ∷ []),
+      stance-long t,
+      slug-long d,
+      list-long s,
+    )
+
+module _ (s : List ℕ) (h : length s ≤ 65536) where
+  rule-long : (d : ℕ) (x : Slot) → length (ruleText d (ruleOf s x)) ≤ 131088
+  rule-long d x = by (x .stance) refl
+    where
+      list : List ℕ
+      list = bytesOf s (x .from) (x .from + x .len)
+
+      by : (t : Stance) → x .stance ≡ t → length (ruleText d (ruleOf s x)) ≤ 131088
+      by None e = rw (rule-none s x e) (omega arith)
+      by Allow e = rw (text-allow s x d e) (omega (arith, line-long true d list, part-long s (x .from) (x .from + x .len - x .from)))
+      by Deny e = rw (text-deny s x d e) (omega (arith, line-long false d list, part-long s (x .from) (x .from + x .len - x .from)))
+
+  rules-long : (d : ℕ) (xs : List Slot) → length (unlines (ruleLines d (map (ruleOf s) xs))) ≤ 131088 * length xs
+  rules-long d [] = unfold unlines ruleLines in omega arith
+  rules-long d (x ∷ xs) =
+      omega (
+        arith,
+        ap length (rules-next d (ruleOf s x) (map (ruleOf s) xs)),
+        length-append (ruleText d (ruleOf s x)) (unlines (ruleLines (suc d) (map (ruleOf s) xs))),
+        rule-long d x,
+        rules-long (suc d) xs,
+      )
+
+  name-long : (t : Bool) (a n : ℕ) → length (pick t (range s a n) noName) ≤ 65548
+  name-long true a n = omega (arith, part-long s a n)
+  name-long false a n = omega arith
+
+  pub form-few : (p : Policy) → 0 + length (form (says s p)) ≤ most
+  unfolding says seven
+  form-few p =
+      let v = says s p in
+      let rules = unlines (ruleLines 0 (v .rules)) in
+      omega (
+        arith,
+        ap length (form-text v),
+        length-append (v .name) (34 ∷ 10 ∷ (defaultW ++ (stanceWord (v .permit) ++ (10 ∷ rules)))),
+        length-append (stanceWord (v .permit)) (10 ∷ rules),
+        name-long (p .named) (p .start) (p .size),
+        stance-long (p .permit),
+        rules-long 0 (seven p),
+      )
+
+-- ---- the writer's answers
 module _ (s : List ℕ) (p : Policy) (d : List ℕ) {a : Answer} (tested : saidAnswer a ≡ policyTest s p) where
   pub write-refused : {w : Refusal} → a ≡ Answer.Refused w → Writes s p d (Refused w) d
   unfolding written follow
@@ -391,39 +372,8 @@ module _ (s : List ℕ) (p : Policy) (d : List ℕ) {a : Answer} (tested : saidA
       let z : policyTest s p ≡ refusedBy w = sym tested ∙ ap saidAnswer e in
       record { answer = rw z; output = rw z }
 
-  pub write-formed : a ≡ Answer.Accepted → {r : Written} {x : List ℕ} → Formed (form (says s p)) d r x → Writes s p d r x
+  pub write-formed : a ≡ Answer.Accepted → {r : Written} {x : List ℕ} → FormedFrom 0 (form (says s p)) d r x → Writes s p d r x
   unfolding written follow
   write-formed e f =
       let z : policyTest s p ≡ accepted tt = sym tested ∙ ap saidAnswer e in
-      rw z f
-
--- ---- the word that stands for domain n
-pub record SlugIs (n : ℕ) (w : Slug) : Type 0 where
-  pub word : slug n ≡ wordOf w
-  pub ten : w .len ≤ 10
-  pub fits : w .len ≤ length (w .bytes)
-  pub long : w .len ≡ length (wordOf w)
-
-slug-of : (d : Domain) {w : Slug} → w ≡ slugOf (slug (numberOf d)) → SlugIs (numberOf d) w
-unfolding slugOf padded slug slugs
-slug-of Filesystem e = record { word = rw e; ten = rw e (omega arith); fits = rw e (omega arith); long = rw e }
-slug-of Environment e = record { word = rw e; ten = rw e (omega arith); fits = rw e (omega arith); long = rw e }
-slug-of Clock e = record { word = rw e; ten = rw e (omega arith); fits = rw e (omega arith); long = rw e }
-slug-of Network e = record { word = rw e; ten = rw e (omega arith); fits = rw e (omega arith); long = rw e }
-slug-of Random e = record { word = rw e; ten = rw e (omega arith); fits = rw e (omega arith); long = rw e }
-slug-of Stdio e = record { word = rw e; ten = rw e (omega arith); fits = rw e (omega arith); long = rw e }
-slug-of Unknown e = record { word = rw e; ten = rw e (omega arith); fits = rw e (omega arith); long = rw e }
-
-pub slug-is : (n : ℕ) → n < 7 → {f : DomainFound} {d : Domain} {w : Slug}
-    → found f ≡ numbered n → f ≡ df.Domain d → w ≡ slugOf (slug (numberOf d)) → SlugIs n w
-slug-is n h {f} {d} {w} e q r =
-    let z : just (numberOf d) ≡ just n = sym (ap found q) ∙ e ∙ (unfold numbered in rw (lt-ltb n 7 h)) in
-    let y : numberOf d ≡ n = cc in
-    rw y at (slug-of d r)
-
-pub numbered-some : (n : ℕ) → n < 7 → {f : DomainFound} → found f ≡ numbered n → (f ≡ df.Nothing → ⊥)
-unfolding numbered
-numbered-some n h {f} e q =
-    let z : nothing ≡ just n = sym (ap found q) ∙ e ∙ rw (lt-ltb n 7 h) in
-    let y : _≡_ {A = ℕ} 0 1 = cc in
-    omega arith
+      rw z (formed-first (form (says s p)) d f)

@@ -1,18 +1,16 @@
 -- docs/RULES.md, "Policy writer": the text of a policy, and what is written of it into a lent buffer. Assumes nothing.
 use mathlib.Core.Bool.{Bool, true, false}
-use mathlib.Core.Path.{_≡_}
 use mathlib.Core.List.{List, [], _∷_, _++_}
 use Prim.Native.Nat.{ℕ, suc}
-use lib.Dec.{ltb}
-use lib.ListN.{length, drop}
-use Rattle.refusal.specs.Pick.{pick}
-use Rattle.refusal.specs.Said.{Said, accepted, refused, follow, saidWritten}
+use lib.ListN.{length}
+use Rattle.refusal.specs.Said.{Said, follow}
 use Rattle.refusal.specs.declared.Written.{Written}
 use Rattle.domains.specs.Domain.{slug}
 use Rattle.policy.specs.Directive.{policyW, defaultW, allow, deny}
 use Rattle.policy.specs.View.{RuleView, silent, ruling, View, says}
 use Rattle.policy.specs.Eight.{policyTest}
 use Rattle.policy.specs.declared.Policy.{Policy}
+use Rattle.writing.specs.Writing.{roomFor, Told}
 
 unfoldable pub stanceWord : Bool → List ℕ
 stanceWord true = allow
@@ -54,32 +52,11 @@ unlines (l ∷ ls) = l ++ 10 ∷ unlines ls
 unfoldable pub form : View → List ℕ
 form v = unlines (formLines v)
 
--- ---- what is written into so much room: 16, with the bytes needed, or these bytes
-unfoldable pub roomFor : List ℕ → ℕ → Said (List ℕ)
-roomFor w room = pick (ltb room (length w)) (refused 16 (length w)) (accepted w)
-
+-- ---- what is written into so much room
 -- of a policy and its text: 14, 4, 15, then 16
 unfoldable pub written : List ℕ → Policy → ℕ → Said (List ℕ)
 written s p room = follow (policyTest s p) (λ ok. roomFor (form (says s p)) room)
 
--- the answer: how many bytes
-abbrev pub counted : Said (List ℕ) → Said ℕ
-counted (accepted w) = accepted (length w)
-counted (refused n p) = refused n p
-
--- the buffer d after it: the bytes, and what stood past them; all of it after a refusal
-abbrev pub left : List ℕ → Said (List ℕ) → List ℕ
-left d (accepted w) = w ++ drop (length w) d
-left d (refused n p) = d
-
--- ---- the promise: the answer, and the buffer, which was d and is x
-pub record Told (o : Said (List ℕ)) (d : List ℕ) (r : Written) (x : List ℕ) : Type 0 where
-  pub answer : saidWritten r ≡ counted o
-  pub output : x ≡ left d o
-
+-- the promise: the answer, and the buffer, which was d and is x
 abbrev pub Writes : List ℕ → Policy → List ℕ → Written → List ℕ → Type 0
 Writes s p d r x = Told (written s p (length d)) d r x
-
--- for the code: of bytes that are known
-abbrev pub Formed : List ℕ → List ℕ → Written → List ℕ → Type 0
-Formed w d r x = Told (roomFor w (length d)) d r x

@@ -3,7 +3,6 @@ use mathlib.Core.Path.{_∙_}
 use native.Mathlib.Omega.{arith}
 use borrow.Author.Needs.{needs}
 use Rattle.domains.specs.Domain.{numberOf}
-use Rattle.domains.proofs.DomainLaws.{number-small}
 use Rattle.report.specs.Texts.{headText}
 use Rattle.report.proofs.Escapes.{told-same}
 use Rattle.report.proofs.Telling.{line-text}
@@ -19,8 +18,8 @@ returns c =
     let a = t .before .before .before .args in
     let n = numberOf (a .d) in
     told-same (f .frame .ensures)
-    (added-is n (a .source .now) _ (number-small (a .d))
-    (g .range .ensures .0 ∙ line-text (headText n) (omega (arith, head-long n (number-small (a .d)))) (t .domain-head .ensures)))
+    (added-is n (a .source .now) _
+    (g .range .ensures .0 ∙ line-text (headText n) (omega (arith, head-long n)) (t .domain-head .ensures)))
 
 pub added-line-spec : {M : Type 1} → statement M
 added-line-spec =

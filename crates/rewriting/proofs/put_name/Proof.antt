@@ -3,6 +3,7 @@ use mathlib.Core.Path.{_≡_}
 use Prim.Native.Nat.{_+_, _-_}
 use native.Mathlib.Omega.{arith}
 use borrow.Author.Needs.{needs}
+use Rattle.writing.proofs.Laws.{wrote-put}
 use Rattle.rewriting.proofs.put_name.Statement.{statement}
 use Rattle.rewriting.proofs.put_name.Tie as tie
 
@@ -12,12 +13,12 @@ returns c =
     let t = y .before .before .before in
     let a = t .before .before .before .args in
     let z : a .start + a .size - a .start ≡ a .size = omega arith in
-    rw (t .if1 .taken) (rw z at (y .put .ensures))
+    rw (t .if1 .taken) (rw z at (wrote-put _ _ _ _ (y .put .ensures)))
 
 returns-2 : tie.Need-returns-2
 returns-2 c =
     let y = c .before .before in
-    rw (y .before .before .before .if1 .left) (y .put2 .ensures)
+    rw (y .before .before .before .if1 .left) (wrote-put _ _ _ _ (y .put2 .ensures))
 
 pub put-name-spec : {M : Type 1} → statement M
 put-name-spec =

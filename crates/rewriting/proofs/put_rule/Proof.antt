@@ -1,28 +1,29 @@
 -- `put_rule` meets its contract. Assumes nothing.
 use native.Mathlib.Omega.{arith}
 use borrow.Author.Needs.{needs}
-use Rattle.rewriting.proofs.WriteLaws.{wrote-none, rule-none, text-allow, text-deny}
+use Rattle.writing.proofs.Laws.{wrote-none}
+use Rattle.rewriting.proofs.WriteLaws.{rule-none, text-allow, text-deny}
 use Rattle.rewriting.proofs.put_rule.Statement.{statement}
 use Rattle.rewriting.proofs.put_rule.Tie as tie
 
 returns : tie.Need-returns
 returns c =
     let a = c .before .before .before .before .before .args in
-    (rw (rule-none (a .s .now) (a .x) (c .enum-told .given .1)) (wrote-none (a .out .now) (a .at) (a .go)), omega arith)
+    rw (rule-none (a .s .now) (a .x) (c .enum-told .given .1)) (wrote-none (a .out .now) (a .at) (a .go) (omega arith))
 
 returns-2 : tie.Need-returns-2
 returns-2 c =
     let y = c .before .before in
     let e = y .before .before .before in
     let a = e .before .before .before .before .before .args in
-    (rw (text-allow (a .s .now) (a .x) (a .d) (e .enum-told2 .given .1)) (y .put-line .ensures .0), y .put-line .ensures .1)
+    rw (text-allow (a .s .now) (a .x) (a .d) (e .enum-told2 .given .1)) (y .put-line .ensures)
 
 returns-3 : tie.Need-returns-3
 returns-3 c =
     let y = c .before .before in
     let e = y .before .before .before in
     let a = e .before .before .before .before .before .args in
-    (rw (text-deny (a .s .now) (a .x) (a .d) (e .enum-told3 .given .1)) (y .put-line2 .ensures .0), y .put-line2 .ensures .1)
+    rw (text-deny (a .s .now) (a .x) (a .d) (e .enum-told3 .given .1)) (y .put-line2 .ensures)
 
 pub put-rule-spec : {M : Type 1} → statement M
 put-rule-spec =

@@ -1,5 +1,6 @@
 -- `put_stance` meets its contract. Assumes nothing.
 use borrow.Author.Needs.{needs}
+use Rattle.writing.proofs.Laws.{wrote-put}
 use Rattle.rewriting.specs.Writer.{stanceWord}
 use Rattle.rewriting.proofs.put_stance.Statement.{statement}
 use Rattle.rewriting.proofs.put_stance.Tie as tie
@@ -8,13 +9,13 @@ returns : tie.Need-returns
 unfolding stanceWord
 returns c =
     let y = c .before .before in
-    rw (y .before .before .before .if1 .taken) (y .put .ensures)
+    rw (y .before .before .before .if1 .taken) (wrote-put _ _ _ _ (y .put .ensures))
 
 returns-2 : tie.Need-returns-2
 unfolding stanceWord
 returns-2 c =
     let y = c .before .before in
-    rw (y .before .before .before .if1 .left) (y .put2 .ensures)
+    rw (y .before .before .before .if1 .left) (wrote-put _ _ _ _ (y .put2 .ensures))
 
 pub put-stance-spec : {M : Type 1} → statement M
 put-stance-spec =

@@ -2,16 +2,18 @@
 use mathlib.Core.Path.{_≡_, ap, _∙_}
 use mathlib.Core.Bool.{true, false}
 use mathlib.Core.List.{_++_}
+use native.Mathlib.Omega.{arith}
 use borrow.Author.Needs.{needs}
+use Rattle.writing.proofs.Laws.{wrote-none, wrote-put, wrote-then}
 use Rattle.rewriting.specs.Writing.{separator, tokenForm}
-use Rattle.rewriting.proofs.WriteLaws.{wrote-none, wrote-then, token-none, token-some}
+use Rattle.rewriting.proofs.WriteLaws.{token-none, token-some}
 use Rattle.rewriting.proofs.put_token.Statement.{statement}
 use Rattle.rewriting.proofs.put_token.Tie as tie
 
 returns : tie.Need-returns
 returns c =
     let a = c .before .before .before .args in
-    rw (token-none (a .some) (a .token .now) (c .if1 .taken)) (wrote-none (a .out .now) (a .at) (a .go))
+    rw (token-none (a .some) (a .token .now) (c .if1 .taken)) (wrote-none (a .out .now) (a .at) (a .go) (omega arith))
 
 returns-2 : tie.Need-returns-2
 returns-2 c =
@@ -22,7 +24,7 @@ returns-2 c =
     let t = a .token .now in
     let e : tokenForm (a .some) t ≡ separator true ++ t = token-some (a .some) t (y .before .if1 .left)
     ∙ ap (λ z. separator z ++ t) (y .if2 .taken) in
-    rw e (wrote-then (f .put .ensures) (g .put2 .ensures))
+    rw e (wrote-then (wrote-put _ _ _ _ (f .put .ensures)) (wrote-put _ _ _ _ (g .put2 .ensures)))
 
 returns-3 : tie.Need-returns-3
 returns-3 c =
@@ -33,7 +35,7 @@ returns-3 c =
     let t = a .token .now in
     let e : tokenForm (a .some) t ≡ separator false ++ t = token-some (a .some) t (y .before .if1 .left)
     ∙ ap (λ z. separator z ++ t) (y .if2 .left) in
-    rw e (wrote-then (f .put3 .ensures) (g .put4 .ensures))
+    rw e (wrote-then (wrote-put _ _ _ _ (f .put3 .ensures)) (wrote-put _ _ _ _ (g .put4 .ensures)))
 
 pub put-token-spec : {M : Type 1} → statement M
 put-token-spec =

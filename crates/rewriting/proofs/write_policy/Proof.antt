@@ -3,7 +3,8 @@ use mathlib.Core.Path.{sym, ap, _∙_}
 use borrow.Author.Needs.{needs}
 use Rattle.refusal.specs.Said.{saidAnswer}
 use Rattle.policy.proofs.EightLaws.{tested}
-use Rattle.rewriting.proofs.WriteLaws.{write-refused, write-formed, formed-long}
+use Rattle.writing.proofs.Laws.{formed-long}
+use Rattle.rewriting.proofs.WriteLaws.{write-refused, write-formed}
 use Rattle.rewriting.proofs.write_policy.Statement.{statement}
 use Rattle.rewriting.proofs.write_policy.Tie as tie
 
@@ -25,7 +26,7 @@ returns c =
 same-length : tie.Need-same-length
 same-length c =
     let f = c .before .before in
-    formed-long _ _ (f .write-form .ensures)
+    formed-long _ _ 0 (f .write-form .ensures)
 
 returns-2 : tie.Need-returns-2
 returns-2 c =

@@ -1,31 +1,25 @@
 -- `escape::put_name` meets its contract. Assumes nothing.
 use mathlib.Core.Path.{_≡_, refl}
-use mathlib.Core.Bool.{true}
 use Prim.Native.Nat.{_-_}
 use native.Mathlib.Omega.{arith}
 use lib.ListN.{length, take}
 use borrow.Author.Needs.{needs}
-use Rattle.rewriting.specs.Writing.{Wrote}
+use Rattle.writing.specs.Writing.{Wrote}
 use Rattle.report.specs.Escape.{escaped}
-use Rattle.report.proofs.Escapes.{name-none, name-next, name-room, name-all}
+use Rattle.report.proofs.Escapes.{name-none, name-next, name-all}
 use Rattle.report.proofs.escape.put_name.Statement.{statement}
 use Rattle.report.proofs.escape.put_name.Tie as tie
 
 abbrev Inv-loop : tie.InvT-loop
-Inv-loop out₀ at name n₀ i₀ i-end out n i = (i-end ≡ length name) × Wrote out₀ at true (escaped (take i name)) n out
+Inv-loop out₀ at name go n₀ i₀ i-end out n i = (i-end ≡ length name) × Wrote out₀ at go (escaped (take i name)) n out
 
 abbrev μ-loop : tie.MeasureT-loop
-μ-loop out₀ at name n₀ i₀ i-end out n i = i-end - i
+μ-loop out₀ at name go n₀ i₀ i-end out n i = i-end - i
 
 loop-holds : tie.Need-loop-holds Inv-loop μ-loop
-loop-holds c = (refl, name-none _ _ (c .before .before .args .name .now))
-
-put-shown-requires : tie.Need-put-shown-requires Inv-loop μ-loop
-put-shown-requires c κs =
-    let t = c .before .before in
-    let l = t .before in
-    let s = l .before .before .before .args .name .now in
-    omega (arith, name-room s (l .loop .i) (t .loop-test .taken) (l .loop .inv .1))
+loop-holds c =
+    let a = c .before .before .args in
+    (refl, name-none (a .out .now) (a .at) (a .go) (a .name .now) (omega arith))
 
 loop-again : tie.Need-loop-again Inv-loop μ-loop
 loop-again c =
@@ -47,5 +41,5 @@ pub put-name-spec : {M : Type 1} → statement M
 put-name-spec =
     tie.close
     (tie.spec
-    Inv-loop μ-loop loop-holds (λ c. search needs) put-shown-requires (λ c. search needs) (λ c. search needs)
+    Inv-loop μ-loop loop-holds (λ c. search needs) (λ c κs. search needs) (λ c. search needs) (λ c. search needs)
     loop-again same-length returns)
