@@ -9,10 +9,10 @@ returns : tie.Need-returns
 returns c = puts-none _ _ _ (omega arith)
 
 returns-2 : tie.Need-returns-2
-returns-2 c = puts-none _ _ _ (cells-leave (omega arith) (c .if2 .taken))
+returns-2 c = puts-none _ _ _ (cells-leave (omega arith) (omega arith))
 
 put-all-requires : tie.Need-put-all-requires
-put-all-requires c κs = cells-fit (omega arith) (c .before .if2 .left)
+put-all-requires c κs = cells-fit (omega arith) (omega arith)
 
 returns-3 : tie.Need-returns-3
 returns-3 c =
