@@ -1,4 +1,6 @@
 //! The port's calls, as include/viscrombal.h and driver/judged.h declare them.
+use std::mem::MaybeUninit;
+
 #[repr(C)]
 #[derive(Clone, Copy, Debug)]
 pub struct ModuleTold {
@@ -99,16 +101,24 @@ pub struct ComparedTold {
 
 #[rustfmt::skip]
 extern "C" {
-    fn judged_module(file: *const u8, length: usize, sections: *mut usize, n1: usize, imports: *mut usize, n2: usize,
-        exports: *mut usize, n3: usize, names: *mut usize, n4: usize) -> ModuleTold;
-    fn judged_manifest(text: *const u8, length: usize, worlds: *mut usize, n5: usize, references: *mut usize, n6: usize) -> ManifestTold;
-    fn judged_token(text: *const u8, length: usize, policy: *const usize, cells: usize, domain: usize, from: usize) -> TokenTold;
-    fn judged_compare(baseline: *const u8, length: usize, bi: *const usize, n1: usize, be: *const usize, n2: usize,
+    fn judged_module(out: *mut ModuleTold, file: *const u8, length: usize, sections: *mut usize, n1: usize, imports: *mut usize, n2: usize,
+        exports: *mut usize, n3: usize, names: *mut usize, n4: usize);
+    fn judged_manifest(out: *mut ManifestTold, text: *const u8, length: usize, worlds: *mut usize, n5: usize, references: *mut usize, n6: usize);
+    fn judged_token(out: *mut TokenTold, text: *const u8, length: usize, policy: *const usize, cells: usize, domain: usize, from: usize);
+    fn judged_compare(out: *mut ComparedTold, baseline: *const u8, length: usize, bi: *const usize, n1: usize, be: *const usize, n2: usize,
         candidate: *const u8, candidate_length: usize, ci: *const usize, n3: usize, ce: *const usize, n4: usize,
-        xd: *mut usize, n5: usize, cd: *mut usize, n6: usize, nbi: usize, nbe: usize, nci: usize, nce: usize) -> ComparedTold;
-    fn viscrombal_name(s: *const u8, length: usize, at: usize) -> RangeTold;
-    fn viscrombal_policy(text: *const u8, length: usize) -> PolicyTold;
-    fn viscrombal_check(file: *const u8, length: usize, text: *const u8, text_length: usize) -> EvaluationTold;
+        xd: *mut usize, n5: usize, cd: *mut usize, n6: usize, nbi: usize, nbe: usize, nci: usize, nce: usize);
+    fn viscrombal_name(out: *mut RangeTold, s: *const u8, length: usize, at: usize);
+    fn viscrombal_policy(out: *mut PolicyTold, text: *const u8, length: usize);
+    fn viscrombal_check(out: *mut EvaluationTold, file: *const u8, length: usize, text: *const u8, text_length: usize);
+}
+
+/// On x86-64 a struct of more than two words goes where a first argument says; the archives for other processors keep that.
+fn answered<T>(call: impl FnOnce(*mut T)) -> T {
+    let mut out = MaybeUninit::uninit();
+    call(out.as_mut_ptr());
+    // SAFETY: every call writes its whole answer
+    unsafe { out.assume_init() }
 }
 
 /// Tables 1 to 4, and the cells to a row.
@@ -128,8 +138,9 @@ impl Tables {
 pub fn module(file: &[u8], t: &mut Tables) -> ModuleTold {
     let [a, b, c, d] = &mut t.0;
     // SAFETY: each pointer has as many elements as the length after it says, and the slices are apart
-    unsafe {
+    answered(|out| unsafe {
         judged_module(
+            out,
             file.as_ptr(),
             file.len(),
             a.as_mut_ptr(),
@@ -141,22 +152,24 @@ pub fn module(file: &[u8], t: &mut Tables) -> ModuleTold {
             d.as_mut_ptr(),
             d.len(),
         )
-    }
+    })
 }
 
 pub fn manifest(text: &[u8], worlds: &mut [usize], references: &mut [usize]) -> ManifestTold {
     // SAFETY: as above
-    unsafe { judged_manifest(text.as_ptr(), text.len(), worlds.as_mut_ptr(), worlds.len(), references.as_mut_ptr(), references.len()) }
+    answered(|out| unsafe {
+        judged_manifest(out, text.as_ptr(), text.len(), worlds.as_mut_ptr(), worlds.len(), references.as_mut_ptr(), references.len())
+    })
 }
 
 pub fn name(s: &[u8]) -> RangeTold {
     // SAFETY: as above
-    unsafe { viscrombal_name(s.as_ptr(), s.len(), 0) }
+    answered(|out| unsafe { viscrombal_name(out, s.as_ptr(), s.len(), 0) })
 }
 
 pub fn policy(text: &[u8]) -> PolicyTold {
     // SAFETY: as above
-    unsafe { viscrombal_policy(text.as_ptr(), text.len()) }
+    answered(|out| unsafe { viscrombal_policy(out, text.as_ptr(), text.len()) })
 }
 
 /// The 25 cells by which a policy is handed in.
@@ -168,12 +181,12 @@ pub fn cells(p: &PolicyTold) -> Vec<usize> {
 
 pub fn token(text: &[u8], cells: &[usize], domain: usize, from: usize) -> TokenTold {
     // SAFETY: as above
-    unsafe { judged_token(text.as_ptr(), text.len(), cells.as_ptr(), cells.len(), domain, from) }
+    answered(|out| unsafe { judged_token(out, text.as_ptr(), text.len(), cells.as_ptr(), cells.len(), domain, from) })
 }
 
 pub fn check(file: &[u8], text: &[u8]) -> EvaluationTold {
     // SAFETY: as above
-    unsafe { viscrombal_check(file.as_ptr(), file.len(), text.as_ptr(), text.len()) }
+    answered(|out| unsafe { viscrombal_check(out, file.as_ptr(), file.len(), text.as_ptr(), text.len()) })
 }
 
 /// What the comparison takes of a module: the file, and tables 2 and 3 with their counts.
@@ -188,11 +201,11 @@ pub struct Given<'a> {
 #[rustfmt::skip]
 pub fn compare(b: &Given, c: &Given, xd: &mut [usize], cd: &mut [usize]) -> ComparedTold {
     // SAFETY: as above
-    unsafe {
+    answered(|out| unsafe {
         judged_compare(
-            b.file.as_ptr(), b.file.len(), b.imports.as_ptr(), b.imports.len(), b.exports.as_ptr(), b.exports.len(),
+            out, b.file.as_ptr(), b.file.len(), b.imports.as_ptr(), b.imports.len(), b.exports.as_ptr(), b.exports.len(),
             c.file.as_ptr(), c.file.len(), c.imports.as_ptr(), c.imports.len(), c.exports.as_ptr(), c.exports.len(),
             xd.as_mut_ptr(), xd.len(), cd.as_mut_ptr(), cd.len(), b.n, b.m, c.n, c.m,
         )
-    }
+    })
 }
