@@ -4,7 +4,7 @@ use listed::manifests::ManifestTold;
 use listed::modules::ModuleTold;
 ghost use lib.ListN.{length};
 ghost use Rattle.wasm.specs.Module.{moduleAt};
-ghost use Rattle.checking.specs.Checking.{limits};
+ghost use Rattle.conform.specs.Sound.{limits};
 ghost use Rattle.listed.specs.Comparisons.{comparisonBytes, comparisonTold, comparison};
 ghost use Rattle.listed.specs.Delivered.{Delivers};
 ghost use Rattle.listed.specs.Modules.{moduleBytes, moduleTold};

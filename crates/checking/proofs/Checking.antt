@@ -1,13 +1,13 @@
 -- One call after another: what was refused is handed on, and what was accepted is gone on with. Assumes nothing.
 use mathlib.Core.Path.{_≡_, refl, sym, _∙_, ap, subst}
 use mathlib.Core.List.{List, map}
-use Prim.Native.Nat.{ℕ, _≤_, _<_}
-use lib.ListN.{length}
+use Prim.Native.Nat.{ℕ, _*_, _≤_, _<_}
+use lib.ListN.{length, take}
 use borrow.Author.Tests.{lt-ltb, le-ltb}
-use Rattle.refusal.specs.Said.{Said, accepted, refused, refusedBy, follow, saidAnswer, saidCount}
+use Rattle.refusal.specs.Said.{Said, accepted, refused, refusedBy, follow, saidAnswer, saidCount, numberOf}
 use Rattle.refusal.specs.declared.Answer.{Answer}
 use Rattle.refusal.specs.declared.Refusal.{Refusal}
-use Rattle.refusal.proofs.Following.{never, followed, follow-stops, follow-goes}
+use Rattle.refusal.proofs.Following.{never, one-value, first-refused, followed, follow-stops, follow-goes}
 use Rattle.policy.specs.declared.PolicyRead.{PolicyRead}
 use Rattle.policy.specs.declared.Policy.{Policy}
 use Rattle.verdicts.specs.declared.Evaluation.{Evaluation}
@@ -17,15 +17,16 @@ use Rattle.verdicts.specs.Evaluate.{Outcome, EvaluatedAs, evaluated}
 use Rattle.refusal.specs.declared.Count.{Count}
 use Rattle.table.specs.Table.{laid, cells}
 use Rattle.table.specs.Listing.{rowsIn}
+use Rattle.table.proofs.Larger.{Sure, same, spare, Full, sure-same, sure-follow}
 use Rattle.wasm.specs.declared.Module.{Module}
 use Rattle.wasm.specs.declared.ModuleRead.{ModuleRead}
 use Rattle.wasm.specs.Rows.{importCells}
-use Rattle.wasm.specs.Module.{Parsed, moduleAt, moduleOf, countsOf, saidModule, Lent, tablesOf, ModuleIs}
+use Rattle.wasm.specs.Module.{Sizes, moduleAt, saidModule, Lent, ModuleIs}
+use Rattle.conform.specs.Sound.{limits}
+use Rattle.conform.proofs.Found.{module-refused, module-found, imports-taken, many-imports}
+use Rattle.conform.proofs.Larger.{larger-sure, limits-largest}
 use Rattle.requirements.specs.Requirements.{roomOf, rowDomain, moduleRows, Requires}
-use Rattle.checking.specs.Checking.{weighed, heldTo, limits, importsLeft, readThen, checkedOf}
-
-one-value : {X : Type 0} {v w : X} → accepted v ≡ accepted w → v ≡ w
-one-value e = cc
+use Rattle.checking.specs.Checking.{weighed, heldTo, readThen, few, checkedOf}
 
 -- an evaluation of what is the same
 pub so : {x y : Said Outcome} {r : Evaluation} → x ≡ y → EvaluatedAs x r → EvaluatedAs y r
@@ -42,7 +43,7 @@ module _ (file text : List ℕ) where
   unfolding checkedOf follow
   text-bad h e q = rw (le-ltb 16777216 (length file) h, ← e, q)
 
-  pub text-good : length file ≤ 16777216 → wholeText text ≡ accepted tt → readThen file text ≡ checkedOf file text
+  pub text-good : length file ≤ 16777216 → wholeText text ≡ accepted tt → readThen limits file text ≡ checkedOf file text
   unfolding checkedOf follow
   text-good h e = rw (le-ltb 16777216 (length file) h, e)
 
@@ -81,12 +82,8 @@ module _ (file imports : List ℕ) (n : ℕ) (p : Policy) {domains domains1 rows
       ∙ ap (λ (m : ℕ). laid 1024 (map (rowDomain file imports) (rowsIn (moduleRows file imports n m)))) room
 
   pub weigh-stops : {why : Refusal} → r ≡ Count.Refused why → refusedBy why ≡ weighed file imports n p
-  unfolding weighed follow
-  weigh-stops {why} e = follow-stops _ (by (moduleRows file imports n 1024) (sym answer ∙ ap saidCount e))
-    where
-      by : (x : Said (List ℕ)) → follow x (λ l. accepted (length l)) ≡ refusedBy why → x ≡ refusedBy why
-      by (accepted l) q = absurd (never (sym q))
-      by (refused m a) q = cc
+  unfolding weighed
+  weigh-stops {why} e = follow-stops _ (first-refused (moduleRows file imports n 1024) length (sym answer ∙ ap saidCount e))
 
   pub weigh-goes : {k : ℕ} → r ≡ Count.Rows k → evaluated domains1 k p ≡ weighed file imports n p
   unfolding weighed
@@ -99,23 +96,40 @@ module _ (file imports : List ℕ) (n : ℕ) (p : Policy) {domains domains1 rows
       (ap (λ (ds : List ℕ). evaluated ds k p) held
       ∙ ap (λ (m : ℕ). evaluated (laid 1024 (map (rowDomain file imports) (f .what))) m p) many)
 
--- ---- a module that was read, with tables at the limits
-module _ (file text : List ℕ) {l : Lent} {r : ModuleRead} (h : ModuleIs (length file) limits (moduleAt file limits) l (saidModule r)) where
-  pub read-stops : {why : Refusal} → r ≡ ModuleRead.Refused why → refusedBy why ≡ readThen file text
-  unfolding readThen follow
-  read-stops {why} e = follow-stops _ (by (moduleAt file limits) (sym (h .answer-is) ∙ ap saidModule e))
-    where
-      by : (x : Said Parsed) → follow x (λ m. accepted (moduleOf (length file) m)) ≡ refusedBy why → x ≡ refusedBy why
-      by (accepted m) q = absurd (never (sym q))
-      by (refused n a) q = cc
+-- ---- a module that was read, with tables of any sizes
+module _ (file text : List ℕ) (z : Sizes) {l : Lent} {r : ModuleRead}
+    (h : ModuleIs (length file) z (moduleAt file z) l (saidModule r)) where
+  pub read-stops : {why : Refusal} → r ≡ ModuleRead.Refused why → refusedBy why ≡ readThen z file text
+  unfolding readThen
+  read-stops e = follow-stops _ (module-refused file z h e)
 
-  pub read-goes : {m : Module} → r ≡ ModuleRead.Module m → heldTo file (l .imports) (m .imports) text ≡ readThen file text
-  unfolding readThen tablesOf moduleOf countsOf
+  pub read-goes : {m : Module} → r ≡ ModuleRead.Module m
+      → heldTo file (take (m .imports * 5) (l .imports)) (m .imports) text ≡ readThen z file text
+  unfolding readThen
   read-goes {m} e =
-      let f = followed (moduleAt file limits) (λ m. accepted (moduleOf (length file) m)) (sym (h .answer-is) ∙ ap saidModule e) in
-      let held : l .imports ≡ importsLeft (f .what) =
-      subst (λ (x : Said Parsed). l .imports ≡ laid 5120 (cells importCells (tablesOf x .imports))) (f .first)
-      (h .tables-are .imports-are) in
-      let many : m .imports ≡ length (f .what .tables .imports) = ap (λ (v : Module). v .imports) (sym (one-value (f .then))) in
-      follow-goes _ (f .first)
-      (ap (λ (t : List ℕ). heldTo file t (m .imports) text) held ∙ ap (λ (k : ℕ). heldTo file (importsLeft (f .what)) k text) many)
+      let q = module-found file z h e in
+      follow-goes _ (q .first)
+      (ap (λ (t : List ℕ). heldTo file t (m .imports) text) (imports-taken q)
+      ∙ ap (λ (k : ℕ). heldTo file (cells importCells (q .what .tables .imports)) k text) (many-imports q))
+
+-- ---- tables for few rows: what is not refused for want of room is the answer
+module _ (file text : List ℕ) where
+  few-sure : Sure Full (readThen few file text) (readThen limits file text)
+  unfolding readThen
+  few-sure = sure-follow _ _ _ _ (larger-sure file few limits (limits-largest few)) (λ m. sure-same _)
+
+  settled : {r : Evaluation} → EvaluatedAs (readThen few file text) r → ((p : ℕ) → saidAnswer (r .answer) ≡ refused 13 p → ⊥)
+      → EvaluatedAs (readThen limits file text) r
+  settled {r} h other = by few-sure
+    where
+      by : Sure Full (readThen few file text) (readThen limits file text) → EvaluatedAs (readThen limits file text) r
+      by (same e) = so e h
+      by (spare n p full e) = absurd (other p (h .answer ∙ ap verdictOf e ∙ ap (λ (k : ℕ). refused k p) full))
+
+  pub settled-refused : {r : Evaluation} {why : Refusal} {n : ℕ} → EvaluatedAs (readThen few file text) r → r .answer ≡ Answer.Refused why
+      → n ≡ numberOf why → (n ≡ 13 → ⊥) → EvaluatedAs (readThen limits file text) r
+  settled-refused h e q other = settled h (λ p z. other (let k = sym (ap saidAnswer e) ∙ z in cc))
+
+  pub settled-accepted : {r : Evaluation} → EvaluatedAs (readThen few file text) r → r .answer ≡ Answer.Accepted
+      → EvaluatedAs (readThen limits file text) r
+  settled-accepted h e = settled h (λ p z. never (sym z ∙ ap saidAnswer e))

@@ -7,7 +7,8 @@ use Rattle.refusal.specs.Pick.{pick}
 use Rattle.refusal.specs.Said.{Said, refused, follow}
 use Rattle.table.specs.Table.{laid, cells}
 use Rattle.wasm.specs.Rows.{importCells}
-use Rattle.wasm.specs.Module.{Sizes, Parsed, moduleAt}
+use Rattle.wasm.specs.Module.{Sizes, moduleAt}
+use Rattle.conform.specs.Sound.{limits}
 use Rattle.policy.specs.declared.Policy.{Policy}
 use Rattle.pieces.specs.Whole.{wholeText}
 use Rattle.policy.specs.Reader.{readPolicy}
@@ -23,18 +24,16 @@ weighed file imports n p =
 unfoldable pub heldTo : List ℕ → List ℕ → ℕ → List ℕ → Said Outcome
 heldTo file imports n text = follow (readPolicy text) (λ p. weighed file imports n p)
 
--- tables at the limits, and table 2 as the read leaves it
-abbrev pub limits : Sizes
-limits = record { sections = 1280; imports = 5120; exports = 4096; names = 12288 }
+-- the file, read with tables of some sizes, and the rows of table 2, held to the text
+unfoldable pub readThen : Sizes → List ℕ → List ℕ → Said Outcome
+readThen z file text =
+    follow (moduleAt file z) (λ m. heldTo file (cells importCells (m .tables .imports)) (length (m .tables .imports)) text)
 
-abbrev pub importsLeft : Parsed → List ℕ
-importsLeft m = laid 5120 (cells importCells (m .tables .imports))
-
-unfoldable pub readThen : List ℕ → List ℕ → Said Outcome
-readThen file text =
-    follow (moduleAt file limits) (λ m. heldTo file (importsLeft m) (length (m .tables .imports)) text)
-
--- 14 of either, then 4 of the text; the module's refusals; the policy's; then the verdicts
+-- 14 of either, then 4 of the text; the module's refusals, with tables at the limits; the policy's; then the verdicts
 unfoldable pub checkedOf : List ℕ → List ℕ → Said Outcome
 checkedOf file text =
-    pick (ltb 16777216 (length file)) (refused 14 0) (follow (wholeText text) (λ u. readThen file text))
+    pick (ltb 16777216 (length file)) (refused 14 0) (follow (wholeText text) (λ u. readThen limits file text))
+
+-- ---- for the code: tables of 16 rows, and of 8 function names
+abbrev pub few : Sizes
+few = record { sections = 80; imports = 80; exports = 64; names = 24 }

@@ -1,22 +1,25 @@
--- Larger tables: what is accepted with some tables is accepted with any larger ones, with the same rows, so that "accepted" says something
--- of the file alone. Assumes nothing.
+-- Larger tables: what is answered with some tables is answered with any larger ones, but for 13, so that an answer says something of the
+-- file alone. Assumes nothing.
 use Prim.Native.Nat.{ℕ, _+_, _≤_}
 use native.Mathlib.Omega.{arith}
+use mathlib.Core.Path.{_≡_, sym, _∙_}
 use mathlib.Core.List.{List, []}
 use lib.ListN.{length}
 use lib.Dec.{ltb, eqb}
-use Rattle.text.specs.Find.{same}
+use Rattle.text.specs.Find.{same as sameText}
+use Rattle.refusal.specs.Said.{refused}
 use Rattle.table.specs.Table.{capacityOf}
-use Rattle.table.proofs.Larger.{Sure, sure-same, sure-pick, sure-room, sure-onward, sure-from, sure-entries, capacity-up}
+use Rattle.table.proofs.Larger.{Sure, same, spare, Full, accepts-too, sure-same, sure-pick, sure-room, sure-onward, sure-from}
+use Rattle.table.proofs.Larger.{sure-entries, capacity-up}
 use Rattle.leb.specs.Reads.{bytesOf, byteAt, u32At, nameAt, countedAt}
 use Rattle.wasm.specs.Entry.{importAt, exportAt, symbolAt}
 use Rattle.wasm.specs.Rows.{importsOf, exportsOf, symbolsOf}
 use Rattle.wasm.specs.Custom.{Names, toldBy, subsectionAt, nameWord, customAt}
 use Rattle.wasm.specs.Module.{Tables, Sizes, contentsAt, addSection, sectionAt, headerAt, noTables, moduleAt}
-use Rattle.conform.specs.Sound.{Larger, LargerSame, limits, LimitsDecide, OneModule}
+use Rattle.conform.specs.Sound.{Larger, LargerSame, RefusedSame, limits, LimitsDecide, OneModule}
 
 sure-told : (id : ℕ) (s : List ℕ) (base n m : ℕ) (t : Names) → capacityOf n 3 4096 ≤ capacityOf m 3 4096
-    → Sure (toldBy id s base n t) (toldBy id s base m t)
+    → Sure Full (toldBy id s base n t) (toldBy id s base m t)
 unfolding toldBy symbolsOf
 sure-told id s base n m t h =
     sure-pick (eqb id 0) _ _ _ _ (sure-same _)
@@ -27,7 +30,7 @@ sure-told id s base n m t h =
     (sure-same _))
 
 sure-sub : (s : List ℕ) (base n m : ℕ) → capacityOf n 3 4096 ≤ capacityOf m 3 4096 → (at : ℕ) (t : Names)
-    → Sure (subsectionAt s base n at t) (subsectionAt s base m at t)
+    → Sure Full (subsectionAt s base n at t) (subsectionAt s base m at t)
 unfolding subsectionAt
 sure-sub s base n m h at t =
     sure-onward _ _ _ _ (sure-same (byteAt s at)) (λ id a.
@@ -35,16 +38,16 @@ sure-sub s base n m h at t =
     sure-onward _ _ _ _ (sure-told id (bytesOf s p) (base + p .from) n m t h) (λ u e. sure-same _)))
 
 sure-custom : (s : List ℕ) (base n m : ℕ) (t : Names) → capacityOf n 3 4096 ≤ capacityOf m 3 4096
-    → Sure (customAt s base n t) (customAt s base m t)
+    → Sure Full (customAt s base n t) (customAt s base m t)
 unfolding customAt
 sure-custom s base n m t h =
     sure-onward _ _ _ _ (sure-same (nameAt s 0)) (λ p at.
     sure-onward _ _ _ _
-    (sure-pick (same nameWord (bytesOf s p)) _ _ _ _
+    (sure-pick (sameText nameWord (bytesOf s p)) _ _ _ _
     (sure-from (subsectionAt s base n) (subsectionAt s base m) (sure-sub s base n m h) s at t) (sure-same _)) (λ u e. sure-same _))
 
 sure-contents : (id : ℕ) (s : List ℕ) (base : ℕ) (z w : Sizes) (t : Tables) → Larger z w
-    → Sure (contentsAt id s base z t) (contentsAt id s base w t)
+    → Sure Full (contentsAt id s base z t) (contentsAt id s base w t)
 unfolding contentsAt importsOf exportsOf
 sure-contents id s base z w t h =
     sure-pick (eqb id 0) _ _ _ _
@@ -59,21 +62,31 @@ sure-contents id s base z w t h =
     sure-entries (exportAt s base) 3 _ _ (h .exports) count at [])) (λ rows e. sure-same _))
     (sure-same _)))
 
-sure-section : (b : List ℕ) (z w : Sizes) → Larger z w → (at : ℕ) (t : Tables) → Sure (sectionAt b z at t) (sectionAt b w at t)
+sure-section : (b : List ℕ) (z w : Sizes) → Larger z w → (at : ℕ) (t : Tables) → Sure Full (sectionAt b z at t) (sectionAt b w at t)
 unfolding sectionAt addSection
 sure-section b z w h at t =
     sure-onward _ _ _ _ (sure-same (byteAt b at)) (λ id a.
     sure-onward _ _ _ _ (sure-same (countedAt b a)) (λ p next.
     sure-onward _ _ _ _ (sure-contents id (bytesOf b p) (p .from) z w t h) (λ u e.
-    sure-room (length (u .tables .sections)) _ _ 13 1 _ _ (h .sections) (sure-same _))))
+    sure-room (length (u .tables .sections)) _ _ 1 _ _ (h .sections) (sure-same _))))
 
--- a file accepted with some tables is accepted with larger ones: the same version and the same rows
-pub larger-same : LargerSame
-unfolding moduleAt Sure
-larger-same b z w m h =
+-- a file's answer with some tables is that with larger ones, unless they are full
+pub larger-sure : (b : List ℕ) (z w : Sizes) → Larger z w → Sure Full (moduleAt b z) (moduleAt b w)
+unfolding moduleAt
+larger-sure b z w h =
     sure-pick (ltb 16777216 (length b)) _ _ _ _ (sure-same _)
     (sure-onward _ _ _ _ (sure-same (headerAt b)) (λ v c.
-    sure-onward _ _ _ _ (sure-from (sectionAt b z) (sectionAt b w) (sure-section b z w h) b c noTables) (λ t d. sure-same _))) m
+    sure-onward _ _ _ _ (sure-from (sectionAt b z) (sectionAt b w) (sure-section b z w h) b c noTables) (λ t d. sure-same _)))
+
+pub larger-same : LargerSame
+larger-same b z w m h = accepts-too (larger-sure b z w h) m
+
+pub refused-same : RefusedSame
+refused-same b z w n p h other e = by (larger-sure b z w h)
+  where
+    by : Sure Full (moduleAt b z) (moduleAt b w) → moduleAt b w ≡ refused n p
+    by (same q) = sym q ∙ e
+    by (spare m k full q) = let number : n ≡ m = cc in absurd (other (number ∙ full))
 
 -- more cells are more room
 pub more-cells : (z w : Sizes) → z .sections ≤ w .sections → z .imports ≤ w .imports → z .exports ≤ w .exports → z .names ≤ w .names

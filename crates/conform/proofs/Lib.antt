@@ -13,6 +13,7 @@ pub mod Only
 pub mod Sound
 pub mod Exactly
 pub mod Larger
+pub mod Found
 pub mod Enough
 pub mod Beyond
 pub mod Unused

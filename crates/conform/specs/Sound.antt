@@ -4,7 +4,7 @@ use Prim.Native.Nat.{ℕ, _+_, _^_, _≤_, _<_}
 use mathlib.Core.Path.{_≡_}
 use mathlib.Core.List.{List, [], _∷_}
 use lib.ListN.{length}
-use Rattle.refusal.specs.Said.{accepted}
+use Rattle.refusal.specs.Said.{accepted, refused}
 use Rattle.refusal.specs.declared.Part.{Part}
 use Rattle.table.specs.Table.{capacityOf}
 use Rattle.table.proofs.Giving.{Each}
@@ -76,6 +76,11 @@ pub record Larger (z w : Sizes) : Type 0 where
 -- a file that is accepted with some tables is accepted with larger ones: the same version and rows
 abbrev pub LargerSame : Type 0
 LargerSame = (b : List ℕ) (z w : Sizes) (m : Parsed) → Larger z w → moduleAt b z ≡ accepted m → moduleAt b w ≡ accepted m
+
+-- and one that is refused, but for want of room, is refused in the same way
+abbrev pub RefusedSame : Type 0
+RefusedSame =
+    (b : List ℕ) (z w : Sizes) (n p : ℕ) → Larger z w → (n ≡ 13 → ⊥) → moduleAt b z ≡ refused n p → moduleAt b w ≡ refused n p
 
 -- tables at the limits
 abbrev pub limits : Sizes

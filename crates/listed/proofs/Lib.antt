@@ -1,6 +1,5 @@
 -- Laws that the proofs cite.
 pub mod Laying
-pub mod Rows
 pub mod OfModule
 pub mod OfManifest
 pub mod Explaining

@@ -12,7 +12,7 @@ use Rattle.table.specs.Table.{laid, cells, capacityOf}
 use Rattle.cells.specs.Cells.{bytesOf}
 use Rattle.wasm.specs.Module.{moduleAt, Lent}
 use Rattle.wasm.specs.declared.Module.{Module}
-use Rattle.checking.specs.Checking.{limits}
+use Rattle.conform.specs.Sound.{limits}
 use Rattle.differences.specs.View.{Export, Need}
 use Rattle.differences.specs.Differences.{Entry}
 use Rattle.differences.specs.Compared.{Given, given, Lists, compared, Verdict, verdictOf, exportCells, needCells, listed, Compares}
@@ -25,8 +25,9 @@ use Rattle.listed.specs.Delivered.{Lays, Delivers}
 use Rattle.listed.specs.Comparisons.{Comparison, comparisonBy, comparisonBytes, comparisonTold, verdict, tabled, explained, build}
 use Rattle.listed.specs.Comparisons.{Counted, takenBytes, explainedBytes, Explains, against, builds, comparison}
 use Rattle.listed.proofs.Laying.{delivers, delivers-none}
-use Rattle.listed.proofs.Rows.{one-value, first-refused, rows-taken, rows-inside}
-use Rattle.listed.proofs.OfModule.{ModuleFound, many-imports, many-exports}
+use Rattle.refusal.proofs.Following.{one-value, first-refused}
+use Rattle.table.proofs.Taken.{rows-taken, rows-inside}
+use Rattle.conform.proofs.Found.{Found, many-imports, many-exports}
 
 export-wide : (e : Entry Export) → length (exportCells e) ≡ 2
 export-wide e = refl
@@ -148,7 +149,7 @@ lists-delivered b c {xd} {cd} {m} {n} {fine} q {d} {y} {r} k =
 
 -- ---- files that were read
 -- what the read left is the build
-build-is : {file : List ℕ} {l : Lent} {m : Module} (q : ModuleFound file l m)
+build-is : {file : List ℕ} {l : Lent} {m : Module} (q : Found file limits l m)
     → given file (l .imports) (m .imports) (l .exports) (m .exports) ≡ build file (q .what)
 build-is {file} {l} {m} q =
     ap (λ (t : List ℕ). given file t (m .imports) (l .exports) (m .exports)) (q .held .imports-are)
@@ -162,14 +163,14 @@ module _ {d y : List ℕ} {r : ComparisonTold} where
   so : {x z : Said Comparison} → x ≡ z → Delivers comparisonBytes comparisonTold x d r y → Delivers comparisonBytes comparisonTold z d r y
   so e h = subst (λ (w : Said Comparison). Delivers comparisonBytes comparisonTold w d r y) e h
 
-  pub candidate-read : (b : Given) {file : List ℕ} {l : Lent} {m : Module} → ModuleFound file l m
+  pub candidate-read : (b : Given) {file : List ℕ} {l : Lent} {m : Module} → Found file limits l m
       → Delivers comparisonBytes comparisonTold
       (explained b (given file (l .imports) (m .imports) (l .exports) (m .exports))) d r y
       → Delivers comparisonBytes comparisonTold (against b file) d r y
   unfolding against
   candidate-read b q h = so (follow-goes _ (q .first) (ap (λ (c : Given). explained b c) (build-is q))) h
 
-  pub baseline-read : (candidate : List ℕ) {file : List ℕ} {l : Lent} {m : Module} → ModuleFound file l m
+  pub baseline-read : (candidate : List ℕ) {file : List ℕ} {l : Lent} {m : Module} → Found file limits l m
       → Delivers comparisonBytes comparisonTold (against (given file (l .imports) (m .imports) (l .exports) (m .exports)) candidate) d r y
       → Delivers comparisonBytes comparisonTold (builds file candidate) d r y
   unfolding builds

@@ -24,7 +24,8 @@ use Rattle.listed.specs.Delivered.{Lays, Delivers}
 use Rattle.listed.specs.Manifests.{Listing, laidBytes, manifestBytes, manifestBy, manifestTold, pathsListed, limits, manifestListed}
 use Rattle.listed.specs.Manifests.{Counted, worldsIn, referencesIn}
 use Rattle.listed.proofs.Laying.{delivers}
-use Rattle.listed.proofs.Rows.{one-value, first-refused, rows-taken, rows-inside, list-taken, list-inside}
+use Rattle.refusal.proofs.Following.{one-value, first-refused}
+use Rattle.table.proofs.Taken.{rows-taken, rows-inside, list-taken, list-inside}
 
 world-wide : (r : Part) → length (worldCells r) ≡ 2
 unfolding worldCells

@@ -11,7 +11,7 @@ use Rattle.table.specs.Table.{laid, cells}
 use Rattle.cells.specs.Cells.{bytesOf}
 use Rattle.wasm.specs.Rows as rows
 use Rattle.wasm.specs.Module.{Parsed, moduleAt}
-use Rattle.checking.specs.Checking.{limits}
+use Rattle.conform.specs.Sound.{limits}
 use Rattle.differences.specs.Compared.{Given, given, Lists, compared, Verdict, verdictOf, exportCells, needCells}
 use Rattle.writing.specs.Writing.{roomFor}
 use Rattle.reasons.specs.Reasons.{Diffs, diffs, reasonsTested, reasonsOf}

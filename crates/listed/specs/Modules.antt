@@ -63,16 +63,20 @@ moduleTold n (accepted m) = moduleBy (moduleOf n m) (accepted (length (moduleByt
 moduleTold n (refused k p) = noModule k p
 
 -- ---- for the code
--- the counts are of rows that lie in the tables, which are at the limits
+-- tables within the limits
+pub record Within (sections imports exports names : List ℕ) : Type 0 where
+  pub sections-few : length sections ≤ 1280
+  pub imports-few : length imports ≤ 5120
+  pub exports-few : length exports ≤ 4096
+  pub names-few : length names ≤ 12288
+
+-- the counts are of rows that lie in them
 pub record Counted (m : Module) (sections imports exports names : List ℕ) : Type 0 where
   pub sections-in : m .sections * 5 ≤ length sections
   pub imports-in : m .imports * 5 ≤ length imports
   pub exports-in : m .exports * 4 ≤ length exports
   pub names-in : m .symbols * 3 ≤ length names
-  pub sections-few : length sections ≤ 1280
-  pub imports-few : length imports ≤ 5120
-  pub exports-few : length exports ≤ 4096
-  pub names-few : length names ≤ 12288
+  pub within : Within sections imports exports names
 
 -- the bytes of the counted rows
 abbrev pub takenBytes : Module → List ℕ → List ℕ → List ℕ → List ℕ → List ℕ

@@ -7,11 +7,12 @@ use wasm::ModuleRead;
 ghost use mathlib.Core.Path.{_≡_};
 ghost use lib.ListN.{length};
 ghost use Rattle.refusal.specs.Said.{numberOf, placeOf, saidWritten};
-ghost use Rattle.wasm.specs.Module.{moduleAt};
-ghost use Rattle.checking.specs.Checking.{limits};
+ghost use Rattle.wasm.specs.Module.{moduleAt, sizes};
+ghost use Rattle.conform.specs.Sound.{limits};
+ghost use Rattle.checking.specs.Checking.{few};
 ghost use Rattle.writing.specs.Writing.{roomFor};
 ghost use Rattle.listed.specs.Delivered.{Lays, Delivers};
-ghost use Rattle.listed.specs.Modules.{noModule, moduleBy, moduleBytes, moduleTold, Counted, takenBytes};
+ghost use Rattle.listed.specs.Modules.{noModule, moduleBy, moduleBytes, moduleTold, Within, Counted, takenBytes};
 
 // Version, file length, the module's name, how many rows the tables have, and how many bytes these are.
 #[repr(C)]
@@ -101,8 +102,45 @@ fn lay_module(
     )
 }
 
-// The file is read with tables at the limits: what the reader refuses, then 16.
-pub fn list_module(file: &[u8], out: &mut [u8]) -> ModuleTold
+// The file is read with the tables that are lent, and its rows are laid out.
+fn list_with(
+    file: &[u8],
+    sections: &mut [usize],
+    imports: &mut [usize],
+    exports: &mut [usize],
+    names: &mut [usize],
+    out: &mut [u8],
+) -> ModuleTold
+    requires { ⌜ Within (now sections) (now imports) (now exports) (now names) ⌝ }
+    ensures { λ r. ⌜ Delivers moduleBytes (moduleTold (length (now (file .entry)))) (moduleAt (now (file .entry))
+        (sizes (now (sections .entry)) (now (imports .entry)) (now (exports .entry)) (now (names .entry))))
+        (now (out .entry)) r (now (out .exit)) ⌝ }
+{
+    match wasm::read_module(file, sections, imports, exports, names) {
+        ModuleRead::Refused(why) => no_module(why),
+        ModuleRead::Module(m) => lay_module(m, sections, imports, exports, names, out),
+    }
+}
+
+fn list_few(file: &[u8], out: &mut [u8]) -> ModuleTold
+    ensures { λ r. ⌜ Delivers moduleBytes (moduleTold (length (now (file .entry)))) (moduleAt (now (file .entry)) few)
+        (now (out .entry)) r (now (out .exit)) ⌝ }
+{
+    let mut sections = [0usize; 80];
+    let mut imports = [0usize; 80];
+    let mut exports = [0usize; 64];
+    let mut names = [0usize; 24];
+    list_with(
+        file,
+        &mut sections,
+        &mut imports,
+        &mut exports,
+        &mut names,
+        out,
+    )
+}
+
+fn list_all(file: &[u8], out: &mut [u8]) -> ModuleTold
     ensures { λ r. ⌜ Delivers moduleBytes (moduleTold (length (now (file .entry)))) (moduleAt (now (file .entry)) limits)
         (now (out .entry)) r (now (out .exit)) ⌝ }
 {
@@ -110,8 +148,24 @@ pub fn list_module(file: &[u8], out: &mut [u8]) -> ModuleTold
     let mut imports = [0usize; 5120];
     let mut exports = [0usize; 4096];
     let mut names = [0usize; 12288];
-    match wasm::read_module(file, &mut sections, &mut imports, &mut exports, &mut names) {
-        ModuleRead::Refused(why) => no_module(why),
-        ModuleRead::Module(m) => lay_module(m, &sections, &imports, &exports, &names, out),
+    list_with(
+        file,
+        &mut sections,
+        &mut imports,
+        &mut exports,
+        &mut names,
+        out,
+    )
+}
+
+// What the reader refuses with tables at the limits, then 16. Tables for few rows come first: those are cleared in no time.
+pub fn list_module(file: &[u8], out: &mut [u8]) -> ModuleTold
+    ensures { λ r. ⌜ Delivers moduleBytes (moduleTold (length (now (file .entry)))) (moduleAt (now (file .entry)) limits)
+        (now (out .entry)) r (now (out .exit)) ⌝ }
+{
+    let first = list_few(file, out);
+    if first.number == 13 {
+        return list_all(file, out);
     }
+    first
 }

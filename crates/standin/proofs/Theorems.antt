@@ -17,7 +17,7 @@ use Rattle.table.specs.Entries.{finished}
 use Rattle.sorting.specs.Sort.{_∈_}
 use Rattle.wasm.specs.Module.{Parsed, moduleAt, moduleOf, countsOf}
 use Rattle.conform.specs.Claims.{Bytes}
-use Rattle.checking.specs.Checking.{limits}
+use Rattle.conform.specs.Sound.{limits}
 use Rattle.policy.specs.declared.Policy.{Policy}
 use Rattle.verdicts.specs.declared.Evaluation.{Evaluation}
 use Rattle.verdicts.specs.Evaluate.{EvaluatedAs, acceptedAs, compliant}

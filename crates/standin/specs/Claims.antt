@@ -16,7 +16,7 @@ use Rattle.differences.specs.Differences.{Entry, exportOrder, needOrder, export
 use Rattle.differences.specs.Compared.{Given, Lists, lists, compared, Verdict, verdictOf}
 use Rattle.wasm.specs.Module.{moduleAt}
 use Rattle.conform.specs.Claims.{Bytes}
-use Rattle.checking.specs.Checking.{limits}
+use Rattle.conform.specs.Sound.{limits}
 use Rattle.reasons.specs.Reasons.{reasonsTested}
 use Rattle.listed.specs.Comparisons.{tabled, explained, build, builds}
 use Rattle.standin.specs.Replacing.{Reports, IsChange, IsLowest}

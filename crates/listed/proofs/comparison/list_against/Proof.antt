@@ -2,7 +2,7 @@
 use borrow.Author.Needs.{needs}
 use Rattle.listed.specs.Comparisons.{comparisonBytes, comparisonTold}
 use Rattle.listed.proofs.Laying.{delivers-none}
-use Rattle.listed.proofs.OfModule.{module-refused, module-found}
+use Rattle.conform.proofs.Found.{module-refused, module-found}
 use Rattle.listed.proofs.OfComparison.{candidate-stops, candidate-read}
 use Rattle.listed.proofs.comparison.list_against.Statement.{statement}
 use Rattle.listed.proofs.comparison.list_against.Tie as tie
@@ -11,7 +11,7 @@ returns : tie.Need-returns
 returns c =
     let w = c .before .before in
     let q = w .before .before .before .before .before .before in
-    delivers-none comparisonBytes comparisonTold (candidate-stops _ _ (module-refused _ (q .read-module .ensures) (w .why .given .1)))
+    delivers-none comparisonBytes comparisonTold (candidate-stops _ _ (module-refused _ _ (q .read-module .ensures) (w .why .given .1)))
     (c .no-comparison .ensures)
 
 returns-2 : tie.Need-returns-2
@@ -19,7 +19,7 @@ returns-2 c =
     let k = c .before .before in
     let w = k .before .before .before .before .before in
     let q = w .before .before .before .before .before .before in
-    candidate-read _ (module-found _ (q .read-module .ensures) (w .m .given .1)) (k .list-differences .ensures)
+    candidate-read _ (module-found _ _ (q .read-module .ensures) (w .m .given .1)) (k .list-differences .ensures)
 
 pub list-against-spec : {M : Type 1} → statement M
 list-against-spec =
