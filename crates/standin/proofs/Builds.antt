@@ -10,7 +10,7 @@ use lib.ListN.{length, getD, length-map}
 use borrow.Author.Tests.{le-leb, le-ltb}
 use Rattle.refusal.specs.Pick.{pick, both}
 use Rattle.refusal.specs.Said.{Said, accepted, follow}
-use Rattle.refusal.proofs.Following.{Followed, followed, follow-goes}
+use Rattle.refusal.proofs.Following.{one-value, Followed, followed, follow-goes}
 use Rattle.table.specs.Table.{laid, cells, cellOf, capacityOf}
 use Rattle.table.specs.Testing.{firstFrom, tested}
 use Rattle.table.proofs.Cells.{row-starts, capacity-limit}
@@ -31,7 +31,6 @@ use Rattle.differences.specs.View.{exportAt, needAt}
 use Rattle.differences.specs.View.{row as rowOf}
 use Rattle.differences.specs.Compared.{exportFits, exportBad, exportsTested, tablesTested, lists, roomed, compared}
 use Rattle.standin.specs.Builds.{Build, handed, view}
-use Rattle.standin.proofs.Passing.{one-value}
 use Rattle.standin.proofs.Views.{keep-length}
 
 -- ---- tables whose rows are all good
@@ -68,7 +67,7 @@ noImport = record { «module» = part 0 0; field = part 0 0; kind = 0; desc = fu
 noExport : Export
 noExport = record { name = part 0 0; kind = 0; index = 0 }
 
-import-wide : (r : Import) → length (importCells r) ≡ 5
+pub import-wide : (r : Import) → length (importCells r) ≡ 5
 unfolding importCells
 import-wide r = refl
 
@@ -98,7 +97,7 @@ module _ (m n : ℕ) (rows : List Import) (ok : Each (ImportOk m) rows) where
       (omega (arith, r .field-in, import-cell n rows i 2 h (omega arith), import-cell n rows i 3 h (omega arith)))
       (le-leb (cellOf imported 5 i 4) 255 (omega (arith, r .kind-small, import-cell n rows i 4 h (omega arith))))))
 
-  imports-good : length rows ≤ capacityOf n 5 1024 → importsTested m imported (length rows) ≡ accepted tt
+  pub imports-good : length rows ≤ capacityOf n 5 1024 → importsTested m imported (length rows) ≡ accepted tt
   unfolding importsTested
   imports-good few = rows-good importCells 5 1024 n import-wide rows few (importBad m imported) import-good
 
@@ -135,7 +134,7 @@ module _ (b : Build) where
   unfolding tablesOf parsed
   holds = subst (λ (x : Said Parsed). Holds (b .tables) (b .sizes) (tablesOf x)) (read .first) (b .promise .tables-are)
 
-  sound : ModuleOk (b .file) (b .sizes) (read .what)
+  pub sound : ModuleOk (b .file) (b .sizes) (read .what)
   sound = rows-sound (b .file) (b .sizes) (read .what) (b .bytes) (read .first)
 
   pub short : length (b .file) ≤ 16777216

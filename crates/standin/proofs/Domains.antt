@@ -10,6 +10,7 @@ use lib.Seq.{take-append-seam}
 use borrow.Author.Tests.{le-leb, le-ltb}
 use Rattle.refusal.specs.Pick.{pick}
 use Rattle.refusal.specs.Said.{accepted, follow}
+use Rattle.refusal.proofs.Following.{one-value}
 use Rattle.text.specs.Find.{begins, same}
 use Rattle.table.specs.Table.{laid}
 use Rattle.table.proofs.Laws.{length-laid}
@@ -19,13 +20,13 @@ use Rattle.policy.specs.declared.Policy.{Policy}
 use Rattle.domains.specs.Classify.{passes, Entry, entry, judged, preview, heads, wasi, preview1, unstable, headOf, pathDomain, importDomain}
 use Rattle.verdicts.specs.Evaluate.{firstPast, domainsTest}
 use Rattle.differences.specs.View.{Need, Row, row, needAt}
-use Rattle.imports.specs.Queries.{asked, kindIs}
+use Rattle.imports.specs.Queries.{asked, kindIs, importsTested}
 use Rattle.requirements.specs.Requirements.{functionRows, rowDomain, moduleRows}
 use Rattle.table.specs.Listing.{fitted}
 use Rattle.standin.specs.Replacing.{keys}
 use Rattle.standin.specs.Passing.{Allows, Passes}
 use Rattle.standin.specs.Builds.{Build, view, pairs, domains, Meets}
-use Rattle.standin.proofs.Passing.{one-value, allows-passes, passes-allows}
+use Rattle.standin.proofs.Passing.{allows-passes, passes-allows}
 use Rattle.standin.proofs.Differ.{map-mem}
 use Rattle.standin.proofs.Views.{keep-length}
 use Rattle.standin.proofs.Builds.{up-length, short, imports-tested, few-imports}
@@ -101,21 +102,24 @@ test-passes ds few h =
 unfoldable pub functions : Build → List ℕ
 functions b = functionRows (b .tables .imports) (b .answer .imports)
 
+few-rows : (imports : List ℕ) (n : ℕ) → n ≤ 1024 → length (functionRows imports n) ≤ 1024
+few-rows imports n few = omega (arith, up-length 0 n, keep-length (kindIs imports 0) (upFrom 0 n))
+
 few-functions : (b : Build) → length (functions b) ≤ 1024
 unfolding functions
-few-functions b =
-    omega (
-      arith,
-      few-imports b,
-      up-length 0 (b .answer .imports),
-      keep-length (kindIs (b .tables .imports) 0) (upFrom 0 (b .answer .imports)),
-    )
+few-functions b = few-rows (b .tables .imports) (b .answer .imports) (few-imports b)
+
+-- good rows are listed
+pub asked-rows : (file imports : List ℕ) (n : ℕ) → length file ≤ 16777216 → n ≤ 1024 → importsTested (length file) imports n ≡ accepted tt
+    → moduleRows file imports n 1024 ≡ accepted (functionRows imports n)
+unfolding moduleRows asked fitted follow
+asked-rows file imports n short few good =
+    rw (le-ltb 16777216 (length file) short, good, le-leb (length (functionRows imports n)) 1024 (few-rows imports n few))
 
 module _ (b : Build) where
   asked-for : moduleRows (b .file) (b .tables .imports) (b .answer .imports) 1024 ≡ accepted (functions b)
-  unfolding moduleRows asked fitted follow functions
-  asked-for =
-      rw (le-ltb 16777216 (length (b .file)) (short b), imports-tested b, le-leb (length (functions b)) 1024 (few-functions b))
+  unfolding functions
+  asked-for = asked-rows (b .file) (b .tables .imports) (b .answer .imports) (short b) (few-imports b) (imports-tested b)
 
   domain-of : (l : List ℕ) → map (λ (n : Need). n .domain) (keys (map (row (needAt (b .file) (b .tables .imports))) l))
       ≡ map (rowDomain (b .file) (b .tables .imports)) l

@@ -10,7 +10,7 @@ use lib.ListN.{length, getD}
 use borrow.Author.Tests.{le-leb, lt-ltb, leb-true}
 use Rattle.refusal.specs.Pick.{pick}
 use Rattle.refusal.specs.Said.{Said, accepted, refused, follow}
-use Rattle.refusal.proofs.Following.{never, followed, follow-goes}
+use Rattle.refusal.proofs.Following.{never, one-value, followed, follow-goes}
 use Rattle.table.specs.Table.{laid, cells, cellOf, capacityOf}
 use Rattle.table.specs.Entries.{finished}
 use Rattle.table.proofs.Laws.{cell-laid}
@@ -28,7 +28,6 @@ use Rattle.reasons.specs.Reasons.{diffsTested, reasonsTested}
 use Rattle.listed.specs.Comparisons.{tabled, explained}
 use Rattle.standin.specs.Replacing.{IsChange}
 use Rattle.standin.specs.Builds.{withReasons}
-use Rattle.standin.proofs.Passing.{one-value}
 use Rattle.standin.proofs.Differ.{map-mem, changes-mem}
 use Rattle.standin.proofs.Orders.{of-needs}
 use Rattle.standin.proofs.Views.{exports-each}

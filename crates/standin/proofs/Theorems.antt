@@ -12,7 +12,7 @@ use borrow.Author.Tests.{leb-false}
 use Rattle.refusal.specs.Pick.{pick, both}
 use Rattle.refusal.specs.Said.{Said, accepted, refused, follow, saidAnswer}
 use Rattle.refusal.specs.declared.Answer.{Answer}
-use Rattle.refusal.proofs.Following.{never, follow-goes}
+use Rattle.refusal.proofs.Following.{never, one-value, follow-goes}
 use Rattle.table.specs.Entries.{finished}
 use Rattle.sorting.specs.Sort.{_∈_}
 use Rattle.wasm.specs.Module.{Parsed, moduleAt, moduleOf, countsOf}
@@ -30,7 +30,7 @@ use Rattle.standin.specs.Passing.{witness}
 use Rattle.standin.specs.Replacing.{turned}
 use Rattle.standin.specs.Builds.{Build, handed, view, domains, pairs, comparison, StandsIn, Chain, last, exchanged, told, Read, Meets}
 use Rattle.standin.specs.Claims.{Covers, Replacement, Listing, Explanation, FailSafe}
-use Rattle.standin.proofs.Passing.{one-value, allBut, witness-reads, but-denied, but-allowed}
+use Rattle.standin.proofs.Passing.{allBut, witness-reads, but-denied, but-allowed}
 use Rattle.standin.proofs.Differ.{mem-map, map-mem}
 use Rattle.standin.proofs.Lowest.{Rising, rising-rows, lowest-each}
 use Rattle.standin.proofs.Views.{few-changes, says, exports-exchange, needs-exchange, exports-ascend, needs-ascend, exports-each}
