@@ -1,5 +1,5 @@
 -- Answers that a promise rules out. Assumes nothing.
-use Prim.Native.Nat.{ℕ}
+use Prim.Native.Nat.{ℕ, _<_}
 use native.Mathlib.Omega.{arith}
 use mathlib.Core.Path.{_≡_, refl, sym, _∙_, ap}
 use mathlib.Core.Bool.{Bool, true, false}
@@ -30,9 +30,9 @@ use Rattle.domains.specs.Domain.{words, wordIn, domainOf}
 use Rattle.pieces.specs.Whole.{wholeText}
 use Rattle.pieces.specs.Piece.{trim}
 use Rattle.policy.specs.Piece.{linesFrom, linesOf}
-use Rattle.policy.specs.Directive.{plainBy, ruled, worded, spoken, core, directive, fault}
+use Rattle.policy.specs.Directive.{plainBy, listedBy, ruled, worded, spoken, core, directive, fault}
 use Rattle.policy.specs.Reader.{run, readWith, zeroPolicy, stanceOf, obey, readPolicy, policyOf}
-use Rattle.policy.specs.Eight.{policyTest}
+use Rattle.policy.specs.Eight.{slotOf, policyTest}
 use Rattle.policy.specs.View.{says}
 use Rattle.verdicts.specs.Evaluate.{effectiveOf, violates, bits, members, outcome, outcomeOf, noOutcome, domainsTest, evaluated, EvaluatedAs}
 use Rattle.policy.specs.declared.Policy.{Policy}
@@ -121,6 +121,24 @@ first-line-only κs a s r e f p =
     let k : true ≡ false = sym first-allows ∙ ap (λ (v : Policy). effectiveOf v 0 .allow) q ∙ later-denies in
     let z : _≡_ {A = ℕ} 0 1 = cc in
     omega arith
+
+-- a policy reader that keeps the tokens of a rule that is replaced: `allow fs: a`, and after it `deny fs`
+abbrev listThenNone : List ℕ
+listThenNone =
+    97 ∷ 108 ∷ 108 ∷ 111 ∷ 119 ∷ 32 ∷ 102 ∷ 115 ∷ 58 ∷ 32 ∷ 97 ∷ 10 ∷ (100 ∷ 101 ∷ 110 ∷ 121 ∷ 32 ∷ 102 ∷ 115 ∷ 10 ∷ [])
+
+no-tokens : slotOf (policyOf (readPolicy listThenNone)) 0 .len ≡ 0
+unfolding readPolicy readWith wholeText run zeroPolicy obey stanceOf linesOf linesFrom lineLen lineStep crBefore directive
+    core spoken worded ruled plainBy listedBy fault domainOf words wordIn trim trimStart trimEnd startLen endLen chars charsFrom
+    more moreBy codeOf codeBy isWhite whites inSome upTo scan seqLen after follow8 followIn covers table same seek begins indexOf follow
+no-tokens = refl
+
+pub tokens-kept : (κs : Lfts 1) (a : Dens κs read-policy-kinds.ps) (s : AtExit (endedOf 1 read-policy-kinds.ps read-policy-kinds.r) κs)
+    (r : PolicyRead) → now (a .0) ≡ listThenNone → 0 < slotOf (r .policy) 0 .len → read-policy.Post κs a r s → ⊥
+tokens-kept κs a s r e f p =
+    let q : r .policy ≡ policyOf (readPolicy listThenNone) = p .policy ∙ ap (λ (t : List ℕ). policyOf (readPolicy t)) e in
+    let k : slotOf (r .policy) 0 .len ≡ 0 = ap (λ (v : Policy). slotOf v 0 .len) q ∙ no-tokens in
+    omega (arith, k)
 
 -- a violation number unlike the set
 counted-set : (ns : List ℕ) (n : ℕ) (p : Policy) (r : Evaluation) → EvaluatedAs (evaluated ns n p) r → r .count ≡ ones (r .set)

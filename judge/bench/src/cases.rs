@@ -1,6 +1,6 @@
 //! What is measured: for each case the original's call, the port's, and that both say the same.
 use crate::inputs;
-use crate::port::{self, Tables};
+use crate::port::{self, ModuleTold, Tables};
 use original::compat::{self, Change};
 use original::policy::{self, Domain, Policy};
 use original::wasm::{self, ExternalKind, Module};
@@ -15,14 +15,19 @@ pub struct Case {
 }
 
 /// Name, rounds for a count of instructions (0: too long to be counted), and how it is made.
-pub const CASES: [(&str, u32, fn() -> Case); 25] = [
+pub const CASES: [(&str, u32, fn() -> Case); 30] = [
     ("module: tiny, tables of its size", 1000, || module(inputs::tiny(), Tables::of([2, 1, 1, 0]))),
     ("module: tiny, tables at the limits", 100, || module(inputs::tiny(), Tables::at_limits())),
+    ("module: tiny, viscrombal_module", 1000, || listed(inputs::tiny())),
     ("module: a code section of 16 MiB, a table of its size", 1000, || module(inputs::code(), Tables::of([1, 0, 0, 0]))),
     ("module: a code section of 16 MiB, tables at the limits", 100, || module(inputs::code(), Tables::at_limits())),
+    ("module: a code section of 16 MiB, viscrombal_module", 1000, || listed(inputs::code())),
     ("module: 256 sections", 100, || module(inputs::sections(), Tables::at_limits())),
+    ("module: 256 sections, viscrombal_module", 100, || listed(inputs::sections())),
     ("module: 1,000 imports, 1,000 exports", 20, || module(inputs::surface_1000(), Tables::at_limits())),
+    ("module: 1,000 imports, 1,000 exports, viscrombal_module", 20, || listed(inputs::surface_1000())),
     ("module: 4,000 function names", 20, || module(inputs::symbols(), Tables::at_limits())),
+    ("module: 4,000 function names, viscrombal_module", 20, || listed(inputs::symbols())),
     ("module: 1,000 imports of 16 KiB, mixed UTF-8", 1, || module(inputs::long_names(), Tables::at_limits())),
     ("policy: small", 1000, || policy(inputs::policy())),
     ("policy: 64 KiB", 20, || policy(inputs::long_policy())),
@@ -68,11 +73,10 @@ fn module_says(m: &Module) -> String {
     [head].into_iter().chain(sections).chain(imports).chain(exports).chain(names).collect::<Vec<_>>().join("\n")
 }
 
-fn port_module_says(file: &[u8], t: &mut Tables) -> String {
-    let m = port::module(file, t);
+fn port_module_says(file: &[u8], m: ModuleTold, tables: &[Vec<usize>; 4]) -> String {
     assert_eq!((m.number, m.place), (0, 0));
     let counts = [m.sections, m.imports, m.exports, m.symbols];
-    let rows = |i: usize| t.0[i].chunks_exact(port::WIDTHS[i]).take(counts[i]);
+    let rows = |i: usize| tables[i].chunks_exact(port::WIDTHS[i]).take(counts[i]);
     let sections = rows(0).map(|r| format!("section {} {} {} {}", r[0], r[1], r[2], part(file, r[3], r[4])));
     let imports = rows(1).map(|r| format!("import {} {} {}", part(file, r[0], r[1]), part(file, r[2], r[3]), r[4]));
     let exports = rows(2).map(|r| format!("export {} {} {}", part(file, r[0], r[1]), r[2], r[3]));
@@ -85,10 +89,34 @@ fn module(file: Vec<u8>, mut tables: Tables) -> Case {
     let (a, b) = (file.clone(), file.clone());
     let cells = tables.0.clone();
     Case {
-        said: Box::new(move || [module_says(&wasm::parse(&file).unwrap()), port_module_says(&file, &mut Tables(cells.clone()))]),
+        said: Box::new(move || {
+            let mut t = Tables(cells.clone());
+            let m = port::module(&file, &mut t);
+            [module_says(&wasm::parse(&file).unwrap()), port_module_says(&file, m, &t.0)]
+        }),
         original: Box::new(move || drop(black_box(wasm::parse(black_box(&a)).unwrap()))),
         port: Box::new(move || {
             black_box(port::module(black_box(&b), &mut tables));
+        }),
+    }
+}
+
+/// The same over the C interface: the rows one table after another in a buffer that takes those of any module.
+fn listed(file: Vec<u8>) -> Case {
+    let (a, b) = (file.clone(), file.clone());
+    let mut rows = vec![0; 8 * 22_784];
+    Case {
+        said: Box::new(move || {
+            let mut rows = vec![0; 8 * 22_784];
+            let m = port::listed(&file, &mut rows);
+            let mut cells = rows[..m.bytes].chunks_exact(8).map(|c| u64::from_le_bytes(c.try_into().unwrap()) as usize);
+            let counts = [m.module.sections, m.module.imports, m.module.exports, m.module.symbols];
+            let tables = std::array::from_fn(|i| cells.by_ref().take(counts[i] * port::WIDTHS[i]).collect());
+            [module_says(&wasm::parse(&file).unwrap()), port_module_says(&file, m.module, &tables)]
+        }),
+        original: Box::new(move || drop(black_box(wasm::parse(black_box(&a)).unwrap()))),
+        port: Box::new(move || {
+            black_box(port::listed(black_box(&b), &mut rows));
         }),
     }
 }

@@ -17,6 +17,14 @@ pub struct ModuleTold {
     pub symbols: usize,
 }
 
+/// And with the bytes of its rows.
+#[repr(C)]
+#[derive(Clone, Copy, Debug)]
+pub struct ListedTold {
+    pub module: ModuleTold,
+    pub bytes: usize,
+}
+
 #[repr(C)]
 #[derive(Clone, Copy, Debug)]
 pub struct ManifestTold {
@@ -108,6 +116,7 @@ extern "C" {
     fn judged_compare(out: *mut ComparedTold, baseline: *const u8, length: usize, bi: *const usize, n1: usize, be: *const usize, n2: usize,
         candidate: *const u8, candidate_length: usize, ci: *const usize, n3: usize, ce: *const usize, n4: usize,
         xd: *mut usize, n5: usize, cd: *mut usize, n6: usize, nbi: usize, nbe: usize, nci: usize, nce: usize);
+    fn viscrombal_module(out: *mut ListedTold, file: *const u8, length: usize, rows: *mut u8, room: usize);
     fn viscrombal_name(out: *mut RangeTold, s: *const u8, length: usize, at: usize);
     fn viscrombal_policy(out: *mut PolicyTold, text: *const u8, length: usize);
     fn viscrombal_check(out: *mut EvaluationTold, file: *const u8, length: usize, text: *const u8, text_length: usize);
@@ -153,6 +162,12 @@ pub fn module(file: &[u8], t: &mut Tables) -> ModuleTold {
             d.len(),
         )
     })
+}
+
+/// The module's rows, eight bytes a cell, in one buffer.
+pub fn listed(file: &[u8], rows: &mut [u8]) -> ListedTold {
+    // SAFETY: as above
+    answered(|out| unsafe { viscrombal_module(out, file.as_ptr(), file.len(), rows.as_mut_ptr(), rows.len()) })
 }
 
 pub fn manifest(text: &[u8], worlds: &mut [usize], references: &mut [usize]) -> ManifestTold {

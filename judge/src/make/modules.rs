@@ -193,8 +193,8 @@ fn many(id: u8, entry: &[u8], n: usize, stated: usize, fault: &[u8]) -> Vec<u8> 
     out
 }
 
-/// Around the limits, and around small tables: full, one entry more, and that entry with a fault in each of its parts.
-fn around(court: &mut Court, room: usize, cells: [u64; 4]) {
+/// Sections with so many entries, around a table's room: full, one entry more, and that entry with a fault in each of its parts.
+fn around(rooms: [usize; 3], mut f: impl FnMut(&[u8])) {
     let faults: [(u8, &[u8], &[&[u8]]); 3] = [
         (
             2,
@@ -215,14 +215,32 @@ fn around(court: &mut Court, room: usize, cells: [u64; 4]) {
         (7, b"\x01x\x00\x00", &[b"", b"\x01", b"\x01\xff", b"\x01x", b"\x01x\x04", b"\x01x\x00\x80"]),
         (0, b"\x00\x01g", &[b"", b"\x80", b"\x00", b"\x00\x01", b"\x00\x01\xff"]),
     ];
-    for (id, entry, faults) in faults {
+    for ((id, entry, faults), room) in faults.into_iter().zip(rooms) {
         for n in room.saturating_sub(1)..=room + 1 {
-            hear(court, &many(id, entry, n, n, b""), cells);
-            hear(court, &many(id, entry, n, n + 1, b""), cells);
+            f(&many(id, entry, n, n, b""));
+            f(&many(id, entry, n, n + 1, b""));
             for fault in faults {
-                hear(court, &many(id, entry, n, n + 1, fault), cells);
-                hear(court, &many(id, entry, n, n + 2, fault), cells);
+                f(&many(id, entry, n, n + 1, fault));
+                f(&many(id, entry, n, n + 2, fault));
             }
+        }
+    }
+}
+
+/// Around the tables for few rows, which the calls over the C interface begin with.
+fn few(court: &mut Court) {
+    let mut hear = |file: &[u8]| {
+        for room in [0, 639, 640, 2_000] {
+            court.hear(Case::new(Call::CModule, &[room], &[file]));
+        }
+        for policy in [&b""[..], b"default allow", b"bogus"] {
+            court.hear(Case::new(Call::Check, &[], &[file, policy]));
+        }
+    };
+    around([16, 16, 8], &mut hear);
+    for n in 15..=17 {
+        for after in [&b""[..], b"\x01", b"\x02\x01", b"\x02\x00"] {
+            hear(&sections(n, after));
         }
     }
 }
@@ -280,10 +298,12 @@ pub fn fixed(court: &mut Court) {
     }
     // tables: small, then at the limits
     for room in 0..=3 {
-        around(court, room, [40, 5 * room as u64, 4 * room as u64, 3 * room as u64]);
-        around(court, room, [0, 5 * room as u64 + 4, 4 * room as u64 + 3, 3 * room as u64 + 2]);
-        around(court, room, [5, 5 * room as u64, 4 * room as u64, 3 * room as u64]);
+        let n = room as u64;
+        for cells in [[40, 5 * n, 4 * n, 3 * n], [0, 5 * n + 4, 4 * n + 3, 3 * n + 2], [5, 5 * n, 4 * n, 3 * n]] {
+            around([room; 3], |file| hear(court, file, cells));
+        }
     }
+    few(court);
     for n in 0..=4 {
         for after in [&b""[..], b"\x01", b"\x01\x01", b"\x02\x00", b"\x02\x01\x00", b"\x00\x01\x05", b"\x07\x02\x01\x00"] {
             for cells in [0, 4, 5, 9, 10, 14, 15] {
