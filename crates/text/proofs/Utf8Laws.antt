@@ -54,7 +54,8 @@ follow-is (these rs) none t = absurd t
 follow-is (these rs) (these qs) t = ap these (ranges-are rs qs t)
 
 -- ---- the first bytes from lo, n of them, each have what v says: computed
-leads-by : (v : ℕ → Follow) (lo n : ℕ) → T (every (λ (k : ℕ). followEq (follow k) (v k)) lo n) → (a : ℕ) → lo ≤ a → a < lo + n → follow a ≡ v a
+leads-by : (v : ℕ → Follow) (lo n : ℕ) → T (every (λ (k : ℕ). followEq (follow k) (v k)) lo n) → (a : ℕ) → lo ≤ a → a < lo + n
+    → follow a ≡ v a
 leads-by v lo n t a h k = follow-is (follow a) (v a) (on-range (λ (k : ℕ). followEq (follow k) (v k)) lo n t a h k)
 
 pub leads : (v : Follow) (lo n : ℕ) → T (every (λ (k : ℕ). followEq (follow k) v) lo n) → (a : ℕ) → lo ≤ a → a < lo + n → follow a ≡ v
@@ -89,13 +90,13 @@ unfolding follow followIn seqLen after covers
 seq-ascii a s h = rw (leads (these []) 0 128 tt a (omega arith) (omega arith))
 
 -- ---- the same, by the tests of the code
-pub two-none : (a : ℕ) (s : List ℕ) → 0x80 ≤ a → a < 0xC2 → seqLen (a ∷ s) ≡ 0
-unfolding follow followIn seqLen after
-two-none a s h k = rw (leads none 0x80 66 tt a h k)
-
-pub two-is : (a b : ℕ) (s : List ℕ) → 0xC2 ≤ a → a < 0xE0 → seqLen (a ∷ b ∷ s) ≡ pick (within 0x80 0xBF b) 2 0
-unfolding follow followIn ranges
-two-is a b s h k = seq-2 a b 0x80 0xBF s (leads (ranges 1 0x80 0xBF) 0xC2 30 tt a h k)
+pub two-is : (a b : ℕ) (s : List ℕ) → 0x80 ≤ a → a < 0xE0 → seqLen (a ∷ b ∷ s) ≡ pick (both (leb 0xC2 a) (within 0x80 0xBF b)) 2 0
+unfolding follow followIn ranges seqLen after
+two-is a b s h k = by (leb 0xC2 a) refl
+  where
+    by : (m : Bool) → leb 0xC2 a ≡ m → seqLen (a ∷ b ∷ s) ≡ pick (both m (within 0x80 0xBF b)) 2 0
+    by true e = seq-2 a b 0x80 0xBF s (leads (ranges 1 0x80 0xBF) 0xC2 30 tt a (leb-true 0xC2 a e) k)
+    by false e = rw (leads none 0x80 66 tt a h (leb-false 0xC2 a e))
 
 pub three-is : (a b c lo hi : ℕ) (s : List ℕ) → 0xE0 ≤ a → a < 0xF0 → lo ≡ pick (eqb a 0xE0) 0xA0 0x80 → hi ≡ pick (eqb a 0xED) 0x9F 0xBF
     → seqLen (a ∷ b ∷ c ∷ s) ≡ pick (both (within lo hi b) (within 0x80 0xBF c)) 3 0
@@ -105,16 +106,17 @@ three-is a b c lo hi s h k p q =
     seq-3 a b c lo hi s (rw (p, q) (leads-by v 0xE0 16 tt a h k))
 
 pub four-is : (a b c d lo hi : ℕ) (s : List ℕ) → 0xF0 ≤ a → a < 0x100 → lo ≡ pick (eqb a 0xF0) 0x90 0x80 → hi ≡ pick (eqb a 0xF4) 0x8F 0xBF
-    → (t u : Bool) → t ≡ both (leb a 0xF4) (within lo hi b) → u ≡ both t (within 0x80 0xBF c)
-    → seqLen (a ∷ b ∷ c ∷ d ∷ s) ≡ pick (both u (within 0x80 0xBF d)) 4 0
+    → seqLen (a ∷ b ∷ c ∷ d ∷ s)
+    ≡ pick (both (both (both (both (leb a 0xF4) (leb lo b)) (leb b hi)) (within 0x80 0xBF c)) (within 0x80 0xBF d)) 4 0
 unfolding follow followIn ranges seqLen after
-four-is a b c d lo hi s h k p q t u e f = rw (f, e) (by (leb a 0xF4) refl)
+four-is a b c d lo hi s h k p q = by (leb a 0xF4) refl
   where
     v : ℕ → Follow
     v x = ranges 3 (pick (eqb x 0xF0) 0x90 0x80) (pick (eqb x 0xF4) 0x8F 0xBF)
 
     by : (m : Bool) → leb a 0xF4 ≡ m
-        → seqLen (a ∷ b ∷ c ∷ d ∷ s) ≡ pick (both (both (both m (within lo hi b)) (within 0x80 0xBF c)) (within 0x80 0xBF d)) 4 0
+        → seqLen (a ∷ b ∷ c ∷ d ∷ s)
+        ≡ pick (both (both (both (both m (leb lo b)) (leb b hi)) (within 0x80 0xBF c)) (within 0x80 0xBF d)) 4 0
     by true e = seq-4 a b c d lo hi s (rw (p, q) (leads-by v 0xF0 5 tt a h (omega (arith, leb-true)))) ∙ simp both-assoc
     by false e = rw (leads none 0xF5 11 tt a (leb-false a 0xF4 e) k)
 

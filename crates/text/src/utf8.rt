@@ -1,11 +1,12 @@
 // UTF-8: well-formed byte sequences, by the Unicode Standard's Table 3-7.
 ghost use mathlib.Core.Path.{_≡_};
 ghost use mathlib.Core.Bool.{true};
-ghost use Prim.Native.Nat.{ℕ, _+_, _≤_, _<_};
 ghost use mathlib.Core.List.{List, _∷_};
+ghost use Prim.Native.Nat.{ℕ, _+_, _≤_, _<_};
 ghost use lib.ListN.{length};
-ghost use Rattle.refusal.specs.Pick.{pick, within};
-ghost use Rattle.text.specs.Utf8.{seqLen, upTo};
+ghost use Rattle.refusal.specs.Pick.{pick};
+ghost use Rattle.text.specs.Ranges.{inRange};
+ghost use Rattle.text.specs.Utf8.{tail, seqLen, upTo};
 ghost use Rattle.text.specs.Steps.{stepAt, Ran, Jumped};
 
 // Past a well-formed sequence, or none stands there.
@@ -14,11 +15,11 @@ pub(crate) enum Seq {
     Bad,
 }
 
-// From lo to hi.
-fn between(b: u8, lo: u8, hi: u8) -> bool
-    ensures { λ r. ⌜ r ≡ within lo hi b ⌝ }
+// From 80 to BF. `&` and not `&&`, here and below: each byte is compared, whatever comes of the others, so that less branches.
+fn follows(b: u8) -> bool
+    ensures { λ r. ⌜ r ≡ inRange tail b ⌝ }
 {
-    lo <= b && b <= hi
+    (0x80 <= b) & (b <= 0xBF)
 }
 
 // The two bytes are a sequence.
@@ -26,7 +27,7 @@ fn two(a: u8, b: u8) -> bool
     requires { ⌜ (0x80 ≤ a) × (a < 0xE0) ⌝ }
     ensures { λ r. ⌜ ((s : List ℕ) → seqLen (a ∷ b ∷ s) ≡ pick r 2 0) ⌝ }
 {
-    0xC2 <= a && between(b, 0x80, 0xBF)
+    (0xC2 <= a) & follows(b)
 }
 
 // The three bytes are a sequence.
@@ -36,7 +37,7 @@ fn three(a: u8, b: u8, c: u8) -> bool
 {
     let lo = if a == 0xE0 { 0xA0 } else { 0x80 };
     let hi = if a == 0xED { 0x9F } else { 0xBF };
-    between(b, lo, hi) && between(c, 0x80, 0xBF)
+    (lo <= b) & (b <= hi) & follows(c)
 }
 
 // The four bytes are a sequence.
@@ -46,7 +47,7 @@ fn four(a: u8, b: u8, c: u8, d: u8) -> bool
 {
     let lo = if a == 0xF0 { 0x90 } else { 0x80 };
     let hi = if a == 0xF4 { 0x8F } else { 0xBF };
-    a <= 0xF4 && between(b, lo, hi) && between(c, 0x80, 0xBF) && between(d, 0x80, 0xBF)
+    (a <= 0xF4) & (lo <= b) & (b <= hi) & follows(c) & follows(d)
 }
 
 // The sequence at `at`.

@@ -1,4 +1,4 @@
--- `text::utf8::step` meets its contract: enough bytes are left, and they are a sequence or not, or too few. Assumes nothing.
+-- `text::utf8::step` meets its contract: so many bytes as the first asks for are left and tested, or there are too few. Assumes nothing.
 use mathlib.Core.Bool.{true, false}
 use mathlib.Core.Logic.{⊎-elim}
 use native.Mathlib.Omega.{arith}
