@@ -10,13 +10,12 @@ use lib.ListN.{length, drop, length-append}
 use lib.Seq.{drop-append-seam}
 use borrow.Author.Tests.{lt-ltb, le-ltb, le-leb, ltb-true, ltb-false}
 use Rattle.refusal.specs.Pick.{pick, within}
-use Rattle.text.specs.Utf8.{follow, followIn, after, covers, seqLen, upTo}
-use Rattle.text.specs.Steps.{ranges}
+use Rattle.text.specs.Utf8.{follow, followIn, seqLen, upTo}
 use Rattle.text.specs.Chars.{more, codeBy, codeOf, Char, char, charsFrom, chars}
 use Rattle.text.specs.Scan.{scan}
 use Rattle.text.specs.Encode.{Scalar, encode, encodeAll, Scalars, empty, point}
 use Rattle.text.proofs.Laws.{scan-cons}
-use Rattle.text.proofs.Utf8Laws.{leads}
+use Rattle.text.proofs.Utf8Laws.{leads, ranges, seq-2, seq-3, seq-4, seq-ascii}
 use Rattle.text.proofs.CharLaws.{chars-next, more-of}
 
 in-range : (lo hi x : ℕ) → lo ≤ x → x ≤ hi → within lo hi x ≡ true
@@ -27,18 +26,15 @@ tail-in x = in-range 0x80 0xBF (0x80 + x % 64) (omega arith) (omega arith)
 
 -- ---- a sequence from its bytes
 two : (a b lo hi : ℕ) (s : List ℕ) → follow a ≡ ranges 1 lo hi → within lo hi b ≡ true → seqLen (a ∷ b ∷ s) ≡ 2
-unfolding seqLen after covers ranges
-two a b lo hi s e p = rw (e, p)
+two a b lo hi s e p = rw (seq-2 a b lo hi s e, p)
 
 three : (a b d lo hi : ℕ) (s : List ℕ) → follow a ≡ ranges 2 lo hi → within lo hi b ≡ true → within 0x80 0xBF d ≡ true
     → seqLen (a ∷ b ∷ d ∷ s) ≡ 3
-unfolding seqLen after covers ranges
-three a b d lo hi s e p q = rw (e, p, q)
+three a b d lo hi s e p q = rw (seq-3 a b d lo hi s e, p, q)
 
 four : (a b d f lo hi : ℕ) (s : List ℕ) → follow a ≡ ranges 3 lo hi → within lo hi b ≡ true → within 0x80 0xBF d ≡ true
     → within 0x80 0xBF f ≡ true → seqLen (a ∷ b ∷ d ∷ f ∷ s) ≡ 4
-unfolding seqLen after covers ranges
-four a b d f lo hi s e p q r = rw (e, p, q, r)
+four a b d f lo hi s e p q r = rw (seq-4 a b d f lo hi s e, p, q, r)
 
 -- ---- the four bytes' low bits
 low-tail : (x : ℕ) → (0x80 + x % 64) % 64 ≡ x % 64
@@ -67,10 +63,10 @@ pub record Encoded (c : ℕ) (s : List ℕ) : Type 0 where
 
 module _ (c : ℕ) (s : List ℕ) where
   enc-1 : c < 0x80 → Encoded c s
-  unfolding encode codeOf codeBy follow followIn ranges seqLen after covers
+  unfolding encode codeOf codeBy
   enc-1 h =
       let e : encode c ≡ c ∷ [] = rw (lt-ltb c 0x80 h) in
-      let l : seqLen (c ∷ s) ≡ 1 = rw (leads (ranges 0 0x80 0xBF) 0 128 tt c (omega arith) (omega arith)) in
+      let l = seq-ascii c s h in
       record { long = rw e l; code = rw e (rw l (omega arith)) }
 
   enc-2 : 0x80 ≤ c → c < 0x800 → Encoded c s

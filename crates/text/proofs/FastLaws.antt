@@ -8,20 +8,12 @@ use lib.Bits.{bitOr}
 use lib.ListN.{length, getD, drop}
 use Rattle.bits.proofs.Masks.{below-two, below-three, below-four}
 use Rattle.text.specs.Scan.{scan}
-use Rattle.text.specs.Utf8.{these, follow, followIn, after, covers, seqLen}
+use Rattle.text.specs.Utf8.{seqLen}
 use Rattle.text.specs.Steps.{Went, Ran, stepAt, Jumped}
 use Rattle.text.specs.declared.utf8.Seq.{Seq}
 use Rattle.text.specs.declared.utf8.Seq.the-variants.{Next, Bad}
 use Rattle.text.proofs.Laws.{scan-next, left-next}
-use Rattle.text.proofs.Utf8Laws.{leads, went, stuck}
-
-follow-ascii : (x : ℕ) → x < 0x80 → follow x ≡ these []
-unfolding follow followIn
-follow-ascii x h = leads (these []) 0 128 tt x (omega arith) (omega arith)
-
-seq-ascii : (x : ℕ) (s : List ℕ) → x < 0x80 → seqLen (x ∷ s) ≡ 1
-unfolding seqLen after covers
-seq-ascii x s h = rw (follow-ascii x h)
+use Rattle.text.proofs.Utf8Laws.{seq-ascii, went, stuck}
 
 -- one ASCII byte passed
 ascii-pass : (s : List ℕ) (i j : ℕ) → i < length s → getD s i 0 < 0x80 → j ≡ i + 1

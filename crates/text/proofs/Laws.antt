@@ -91,6 +91,10 @@ pub both-no : (t : Bool) → both t false ≡ false
 both-no true = refl
 both-no false = refl
 
+pub both-assoc : (a b c : Bool) → both (both a b) c ≡ both a (both b c)
+both-assoc true b c = refl
+both-assoc false b c = refl
+
 from : (p : ℕ → Bool) (lo n k : ℕ) → T (every p lo n) → k < n → T (p (lo + k))
 from p lo zero k t h = absurd (not-suc-le-zero h)
 from p lo (suc n) zero t h = rw add-zero (both-left (p lo) _ t)

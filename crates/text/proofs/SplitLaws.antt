@@ -15,9 +15,8 @@ use Rattle.refusal.specs.Pick.{pick, both, within}
 use Rattle.text.specs.Scan.{scan}
 use Rattle.text.specs.Ranges.{Range, _to_, inRange}
 use Rattle.text.specs.Utf8.{Row, row, Follow, none, these, table, followIn, follow, covers, after, seqLen, upTo}
-use Rattle.text.specs.Steps.{ranges}
 use Rattle.text.specs.Chars.{more, codeBy, codeOf, moreBy, Char, char, charsFrom, chars}
-use Rattle.text.proofs.Utf8Laws.{seq-long, leads}
+use Rattle.text.proofs.Utf8Laws.{seq-long, seq-ascii}
 use Rattle.text.proofs.CharLaws.{bytes-of, chars-bytes}
 use Rattle.text.proofs.Laws.{both-one, both-two, both-and}
 
@@ -275,15 +274,11 @@ unfolding well upTo chars
 well-upto s e = from-upto 0 s e (omega arith)
 
 -- ---- an ASCII byte is a character alone
-seq-one : (x : ℕ) (t : List ℕ) → x < 0x80 → seqLen (x ∷ t) ≡ 1
-unfolding seqLen after covers ranges follow followIn
-seq-one x t h = rw (leads (ranges 0 0x80 0xBF) 0 128 tt x (omega arith) (omega arith))
-
 pub ascii-one : (x : ℕ) (t : List ℕ) → x < 0x80 → chars (x ∷ t) ≡ char x 0 ∷ chars t
 unfolding chars charsFrom codeOf codeBy more moreBy
 ascii-one x t h =
     let e : x % 128 ≡ x = omega arith in
-    rw (seq-one x t h, e)
+    rw (seq-ascii x t h, e)
 
 pub well-one : (x : ℕ) (t : List ℕ) → x < 0x80 → well (x ∷ t) ≡ well t
 unfolding well allProper proper

@@ -1,19 +1,20 @@
 -- UTF-8: the table's rows on ranges of first bytes, by computing; and a sequence by its parts. Assumes nothing.
-use mathlib.Core.Path.{_≡_, refl, ap}
+use mathlib.Core.Path.{_≡_, refl, ap, _∙_}
 use mathlib.Core.Bool.{Bool, true, false, false≢true}
 use mathlib.Core.List.{List, [], _∷_}
 use Prim.Native.Nat.{ℕ, zero, suc, _+_, _-_, _≤_, _<_, suc-le-suc, zero-le}
 use native.Mathlib.Omega.{arith}
-use lib.Dec.{T, eqb, eqb→eq}
+use native.Mathlib.Nat.{le-of-suc-le-suc, not-suc-le-zero}
+use borrow.Author.Tests.{leb-true, leb-false}
+use lib.Dec.{T, eqb, eqb→eq, leb, leb→le}
 use lib.ListN.{length, getD, drop, length-drop}
-use lib.Seq.{drop-drop}
-use Rattle.refusal.specs.Pick.{both, pick}
+use Rattle.refusal.specs.Pick.{both, pick, within}
 use Rattle.text.specs.Scan.{scan}
 use Rattle.text.specs.Ranges.{Range, _to_, inRange}
-use Rattle.text.specs.Utf8.{Follow, none, these, tail, follow, covers, after, seqLen}
-use Rattle.text.specs.Steps.{stepOf, stepAt, headIn, ranges, Went}
+use Rattle.text.specs.Utf8.{Follow, none, these, tail, follow, followIn, covers, after, seqLen}
+use Rattle.text.specs.Steps.{stepOf, stepAt, Went}
 use Rattle.text.specs.declared.utf8.Seq.the-variants.{Next, Bad}
-use Rattle.text.proofs.Laws.{scan-next, scan-stop, left-next, every, on-range, both-left, both-right}
+use Rattle.text.proofs.Laws.{scan-next, scan-stop, left-next, every, on-range, both-left, both-right, both-yes, both-no, both-assoc}
 
 -- ---- equal by a test
 abbrev rangeEq : Range → Range → Bool
@@ -52,49 +53,149 @@ follow-is none (these rs) t = absurd t
 follow-is (these rs) none t = absurd t
 follow-is (these rs) (these qs) t = ap these (ranges-are rs qs t)
 
--- ---- the first bytes from lo, n of them, all have what v says: computed
+-- ---- the first bytes from lo, n of them, each have what v says: computed
+leads-by : (v : ℕ → Follow) (lo n : ℕ) → T (every (λ (k : ℕ). followEq (follow k) (v k)) lo n) → (a : ℕ) → lo ≤ a → a < lo + n
+    → follow a ≡ v a
+leads-by v lo n t a h k = follow-is (follow a) (v a) (on-range (λ (k : ℕ). followEq (follow k) (v k)) lo n t a h k)
+
 pub leads : (v : Follow) (lo n : ℕ) → T (every (λ (k : ℕ). followEq (follow k) v) lo n) → (a : ℕ) → lo ≤ a → a < lo + n → follow a ≡ v
-leads v lo n t a h k = follow-is (follow a) v (on-range (λ (k : ℕ). followEq (follow k) v) lo n t a h k)
+leads v = leads-by (λ (k : ℕ). v)
 
--- ---- a sequence by its parts
--- what a first byte asks of s, byte by byte
-abbrev pub verdict : ℕ → Bool → Bool → Bool → ℕ
-verdict zero b₁ b₂ b₃ = 1
-verdict (suc zero) b₁ b₂ b₃ = pick b₁ 2 0
-verdict (suc (suc zero)) b₁ b₂ b₃ = pick b₁ (pick b₂ 3 0) 0
-verdict (suc (suc (suc zero))) b₁ b₂ b₃ = pick b₁ (pick b₂ (pick b₃ 4 0) 0) 0
-verdict (suc (suc (suc (suc n)))) b₁ b₂ b₃ = 0
+-- so many bytes more, the first of them from lo to hi
+abbrev tails : ℕ → List Range
+tails zero = []
+tails (suc n) = tail ∷ tails n
 
-covers-cons : (r : Range) (rs : List Range) (s : List ℕ) → covers (r ∷ rs) s ≡ both (headIn r s) (covers rs (drop 1 s))
-unfolding covers headIn
-covers-cons r rs [] = refl
-covers-cons r rs (x ∷ s) = refl
+unfoldable pub ranges : ℕ → ℕ → ℕ → Follow
+ranges zero lo hi = these []
+ranges (suc n) lo hi = these (lo to hi ∷ tails n)
 
-pick-one : (b : Bool) (n : ℕ) → pick (both b true) n 0 ≡ pick b n 0
-pick-one true n = refl
-pick-one false n = refl
+-- ---- a sequence by its bytes
+pub seq-2 : (a b lo hi : ℕ) (s : List ℕ) → follow a ≡ ranges 1 lo hi → seqLen (a ∷ b ∷ s) ≡ pick (within lo hi b) 2 0
+unfolding seqLen after covers ranges
+seq-2 a b lo hi s e = rw e (simp both-yes)
 
-pick-both : (a b : Bool) (n : ℕ) → pick (both a b) n 0 ≡ pick a (pick b n 0) 0
-pick-both true b n = refl
-pick-both false b n = refl
+pub seq-3 : (a b c lo hi : ℕ) (s : List ℕ) → follow a ≡ ranges 2 lo hi
+    → seqLen (a ∷ b ∷ c ∷ s) ≡ pick (both (within lo hi b) (within 0x80 0xBF c)) 3 0
+unfolding seqLen after covers ranges
+seq-3 a b c lo hi s e = rw e (simp both-yes)
 
-by-parts : (m lo hi : ℕ) (s : List ℕ)
-    → after (ranges m lo hi) s ≡ verdict m (headIn (lo to hi) s) (headIn tail (drop 1 s)) (headIn tail (drop 1 (drop 1 s)))
-unfolding after ranges covers
-by-parts zero lo hi s = refl
-by-parts (suc zero) lo hi s = simp (covers-cons, pick-both)
-by-parts (suc (suc zero)) lo hi s = simp (covers-cons, pick-both)
-by-parts (suc (suc (suc zero))) lo hi s = simp (covers-cons, pick-both)
-by-parts (suc (suc (suc (suc n)))) lo hi s = refl
+pub seq-4 : (a b c d lo hi : ℕ) (s : List ℕ) → follow a ≡ ranges 3 lo hi
+    → seqLen (a ∷ b ∷ c ∷ d ∷ s) ≡ pick (both (within lo hi b) (both (within 0x80 0xBF c) (within 0x80 0xBF d))) 4 0
+unfolding seqLen after covers ranges
+seq-4 a b c d lo hi s e = rw e (simp both-yes)
 
--- the length of the sequence at a place, by what its first byte asks and the bytes after it
-pub seq-parts : (s : List ℕ) (i m lo hi : ℕ) → i < length s → follow (getD s i 0) ≡ ranges m lo hi
-    → seqLen (drop i s) ≡ verdict m (headIn (lo to hi) (drop (i + 1) s)) (headIn tail (drop (i + 2) s)) (headIn tail (drop (i + 3) s))
-unfolding seqLen
-seq-parts s i m lo hi h e =
-    let p : i + 1 + 1 ≡ i + 2 = omega arith in
-    let q : i + 2 + 1 ≡ i + 3 = omega arith in
-    rw (left-next s i h, e, by-parts) (simp (drop-drop, p, q))
+pub seq-ascii : (a : ℕ) (s : List ℕ) → a < 0x80 → seqLen (a ∷ s) ≡ 1
+unfolding follow followIn seqLen after covers
+seq-ascii a s h = rw (leads (these []) 0 128 tt a (omega arith) (omega arith))
+
+-- ---- the same, by the tests of the code
+pub two-is : (a b : ℕ) (s : List ℕ) → 0x80 ≤ a → a < 0xE0 → seqLen (a ∷ b ∷ s) ≡ pick (both (leb 0xC2 a) (within 0x80 0xBF b)) 2 0
+unfolding follow followIn ranges seqLen after
+two-is a b s h k = by (leb 0xC2 a) refl
+  where
+    by : (m : Bool) → leb 0xC2 a ≡ m → seqLen (a ∷ b ∷ s) ≡ pick (both m (within 0x80 0xBF b)) 2 0
+    by true e = seq-2 a b 0x80 0xBF s (leads (ranges 1 0x80 0xBF) 0xC2 30 tt a (leb-true 0xC2 a e) k)
+    by false e = rw (leads none 0x80 66 tt a h (leb-false 0xC2 a e))
+
+pub three-is : (a b c lo hi : ℕ) (s : List ℕ) → 0xE0 ≤ a → a < 0xF0 → lo ≡ pick (eqb a 0xE0) 0xA0 0x80 → hi ≡ pick (eqb a 0xED) 0x9F 0xBF
+    → seqLen (a ∷ b ∷ c ∷ s) ≡ pick (both (within lo hi b) (within 0x80 0xBF c)) 3 0
+unfolding follow followIn ranges
+three-is a b c lo hi s h k p q =
+    let v : ℕ → Follow = λ x. ranges 2 (pick (eqb x 0xE0) 0xA0 0x80) (pick (eqb x 0xED) 0x9F 0xBF) in
+    seq-3 a b c lo hi s (rw (p, q) (leads-by v 0xE0 16 tt a h k))
+
+pub four-is : (a b c d lo hi : ℕ) (s : List ℕ) → 0xF0 ≤ a → a < 0x100 → lo ≡ pick (eqb a 0xF0) 0x90 0x80 → hi ≡ pick (eqb a 0xF4) 0x8F 0xBF
+    → seqLen (a ∷ b ∷ c ∷ d ∷ s)
+    ≡ pick (both (both (both (both (leb a 0xF4) (leb lo b)) (leb b hi)) (within 0x80 0xBF c)) (within 0x80 0xBF d)) 4 0
+unfolding follow followIn ranges seqLen after
+four-is a b c d lo hi s h k p q = by (leb a 0xF4) refl
+  where
+    v : ℕ → Follow
+    v x = ranges 3 (pick (eqb x 0xF0) 0x90 0x80) (pick (eqb x 0xF4) 0x8F 0xBF)
+
+    by : (m : Bool) → leb a 0xF4 ≡ m
+        → seqLen (a ∷ b ∷ c ∷ d ∷ s)
+        ≡ pick (both (both (both (both m (leb lo b)) (leb b hi)) (within 0x80 0xBF c)) (within 0x80 0xBF d)) 4 0
+    by true e = seq-4 a b c d lo hi s (rw (p, q) (leads-by v 0xF0 5 tt a h (omega (arith, leb-true)))) ∙ simp both-assoc
+    by false e = rw (leads none 0xF5 11 tt a (leb-false a 0xF4 e) k)
+
+-- ---- the step at a place, by its bytes
+module _ (s : List ℕ) (at : ℕ) where
+  left-2 : at + 2 ≤ length s → drop at s ≡ getD s at 0 ∷ getD s (at + 1) 0 ∷ drop (at + 2) s
+  left-2 h =
+      let p : at + 1 + 1 ≡ at + 2 = omega arith in
+      rw (left-next s at (omega arith), left-next s (at + 1) (omega arith), p)
+
+  left-3 : at + 3 ≤ length s → drop at s ≡ getD s at 0 ∷ getD s (at + 1) 0 ∷ getD s (at + 2) 0 ∷ drop (at + 3) s
+  left-3 h =
+      let p : at + 2 + 1 ≡ at + 3 = omega arith in
+      rw (left-2 (omega arith), left-next s (at + 2) (omega arith), p)
+
+  left-4 : at + 4 ≤ length s
+      → drop at s ≡ getD s at 0 ∷ getD s (at + 1) 0 ∷ getD s (at + 2) 0 ∷ getD s (at + 3) 0 ∷ drop (at + 4) s
+  left-4 h =
+      let p : at + 3 + 1 ≡ at + 4 = omega arith in
+      rw (left-3 (omega arith), left-next s (at + 3) (omega arith), p)
+
+  pub step-1 : at < length s → getD s at 0 < 0x80 → Next (at + 1) ≡ stepAt s at
+  unfolding stepAt stepOf
+  step-1 h k = rw (left-next s at h, seq-ascii (getD s at 0) (drop (at + 1) s) k)
+
+  pub step-2 : (r b : Bool) → at + 2 ≤ length s → ((t : List ℕ) → seqLen (getD s at 0 ∷ getD s (at + 1) 0 ∷ t) ≡ pick r 2 0) → r ≡ b
+      → stepOf at (pick b 2 0) ≡ stepAt s at
+  unfolding stepAt
+  step-2 r b h f e = rw (left-2 h, f, e)
+
+  pub step-3 : (r b : Bool) → at + 3 ≤ length s
+      → ((t : List ℕ) → seqLen (getD s at 0 ∷ getD s (at + 1) 0 ∷ getD s (at + 2) 0 ∷ t) ≡ pick r 3 0) → r ≡ b
+      → stepOf at (pick b 3 0) ≡ stepAt s at
+  unfolding stepAt
+  step-3 r b h f e = rw (left-3 h, f, e)
+
+  pub step-4 : (r b : Bool) → at + 4 ≤ length s
+      → ((t : List ℕ) → seqLen (getD s at 0 ∷ getD s (at + 1) 0 ∷ getD s (at + 2) 0 ∷ getD s (at + 3) 0 ∷ t) ≡ pick r 4 0) → r ≡ b
+      → stepOf at (pick b 4 0) ≡ stepAt s at
+  unfolding stepAt
+  step-4 r b h f e = rw (left-4 h, f, e)
+
+-- ---- too few bytes are left
+-- at least n bytes more are asked for
+abbrev asks : ℕ → Follow → Bool
+asks n none = true
+asks n (these rs) = leb n (length rs)
+
+covers-short : (rs : List Range) (s : List ℕ) → length s < length rs → covers rs s ≡ false
+unfolding covers
+covers-short [] s h = absurd (not-suc-le-zero h)
+covers-short (r ∷ rs) [] h = refl
+covers-short (r ∷ rs) (x ∷ s) h = rw (covers-short rs s (le-of-suc-le-suc h)) (both-no (inRange r x))
+
+after-short : (f : Follow) (n : ℕ) (s : List ℕ) → T (asks n f) → length s < n → after f s ≡ 0
+unfolding after
+after-short none n s t h = refl
+after-short (these rs) n s t h = rw (covers-short rs s (omega (arith, leb→le n (length rs) t)))
+
+step-short : (lo k n : ℕ) → T (every (λ (a : ℕ). asks n (follow a)) lo k) → (s : List ℕ) (at : ℕ) → at < length s
+    → lo ≤ getD s at 0 → getD s at 0 < lo + k → length s - at ≤ n → Bad ≡ stepAt s at
+unfolding stepAt stepOf seqLen
+step-short lo k n t s at h p q l =
+    let f = on-range (λ (a : ℕ). asks n (follow a)) lo k t (getD s at 0) p q in
+    let few : length (drop (at + 1) s) < n = simp length-drop (omega arith) in
+    rw (left-next s at h, after-short (follow (getD s at 0)) n (drop (at + 1) s) f few)
+
+module _ (s : List ℕ) (at : ℕ) (h : at < length s) where
+  pub short-2 : 0x80 ≤ getD s at 0 → getD s at 0 < 0xE0 → length s - at < 2 → Bad ≡ stepAt s at
+  unfolding follow followIn
+  short-2 p q l = step-short 0x80 96 1 tt s at h p q (omega arith)
+
+  pub short-3 : 0xE0 ≤ getD s at 0 → getD s at 0 < 0xF0 → length s - at < 3 → Bad ≡ stepAt s at
+  unfolding follow followIn
+  short-3 p q l = step-short 0xE0 16 2 tt s at h p q (omega arith)
+
+  pub short-4 : 0xF0 ≤ getD s at 0 → getD s at 0 < 0x100 → length s - at < 4 → Bad ≡ stepAt s at
+  unfolding follow followIn
+  short-4 p q l = step-short 0xF0 16 3 tt s at h p q (omega arith)
 
 -- ---- a sequence is part of the list
 covers-long : (rs : List Range) (s : List ℕ) → covers rs s ≡ true → length rs ≤ length s
@@ -120,27 +221,6 @@ pub seq-long : (s : List ℕ) → seqLen s ≤ length s
 unfolding seqLen
 seq-long [] = zero-le
 seq-long (a ∷ s) = after-long (follow a) s
-
-pub verdict-none : (m : ℕ) (b₁ b₂ b₃ : Bool) → 3 < m → verdict m b₁ b₂ b₃ ≡ 0
-verdict-none zero b₁ b₂ b₃ h = omega arith
-verdict-none (suc zero) b₁ b₂ b₃ h = omega arith
-verdict-none (suc (suc zero)) b₁ b₂ b₃ h = omega arith
-verdict-none (suc (suc (suc zero))) b₁ b₂ b₃ h = omega arith
-verdict-none (suc (suc (suc (suc n)))) b₁ b₂ b₃ h = refl
-
-pub verdict-first : (m : ℕ) (b₂ b₃ : Bool) → (m ≡ 0 → ⊥) → verdict m false b₂ b₃ ≡ 0
-verdict-first zero b₂ b₃ h = absurd (h refl)
-verdict-first (suc zero) b₂ b₃ h = refl
-verdict-first (suc (suc zero)) b₂ b₃ h = refl
-verdict-first (suc (suc (suc zero))) b₂ b₃ h = refl
-verdict-first (suc (suc (suc (suc n)))) b₂ b₃ h = refl
-
-pub verdict-second : (m : ℕ) (b₃ : Bool) → (m ≡ 0 → ⊥) → (m ≡ 1 → ⊥) → verdict m true false b₃ ≡ 0
-verdict-second zero b₃ h k = absurd (h refl)
-verdict-second (suc zero) b₃ h k = absurd (k refl)
-verdict-second (suc (suc zero)) b₃ h k = refl
-verdict-second (suc (suc (suc zero))) b₃ h k = refl
-verdict-second (suc (suc (suc (suc n)))) b₃ h k = refl
 
 -- ---- what a step's answer says of the whole
 pub went : (s : List ℕ) (at n : ℕ) → at < length s → stepAt s at ≡ Next n → Went s at n

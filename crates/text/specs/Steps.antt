@@ -1,12 +1,10 @@
 -- For the code of utf8: the steps in which it goes over a text. Nothing here is the Unicode Standard's. Assumes nothing.
 use mathlib.Core.Path.{_≡_}
-use mathlib.Core.Bool.{Bool, false}
-use mathlib.Core.List.{List, [], _∷_}
+use mathlib.Core.List.{List}
 use Prim.Native.Nat.{ℕ, zero, suc, _+_, _≤_, _<_}
 use lib.ListN.{length, drop}
 use Rattle.text.specs.Scan.{scan}
-use Rattle.text.specs.Utf8.{seqLen, tail, Follow, none, these}
-use Rattle.text.specs.Ranges.{Range, _to_, inRange}
+use Rattle.text.specs.Utf8.{seqLen}
 use Rattle.text.specs.declared.utf8.Seq.{Seq}
 use Rattle.text.specs.declared.utf8.Seq.the-variants.{Next, Bad}
 
@@ -17,19 +15,6 @@ stepOf at (suc k) = Next (at + suc k)
 
 unfoldable pub stepAt : List ℕ → ℕ → Seq
 stepAt s at = stepOf at (seqLen (drop at s))
-
--- s has a first byte, and it is in the range
-unfoldable pub headIn : Range → List ℕ → Bool
-headIn r [] = false
-headIn r (x ∷ s) = inRange r x
-
--- what a Lead says: so many bytes more, the first of them from lo to hi; more than 3: ill formed
-unfoldable pub ranges : ℕ → ℕ → ℕ → Follow
-ranges zero lo hi = these []
-ranges (suc zero) lo hi = these (lo to hi ∷ [])
-ranges (suc (suc zero)) lo hi = these (lo to hi ∷ tail ∷ [])
-ranges (suc (suc (suc zero))) lo hi = these (lo to hi ∷ tail ∷ tail ∷ [])
-ranges (suc (suc (suc (suc n)))) lo hi = none
 
 -- n is within s, and what is left at `at` is as long well formed as if n had been reached
 pub record Went (s : List ℕ) (at n : ℕ) : Type 0 where

@@ -1,15 +1,13 @@
 // UTF-8: well-formed byte sequences, by the Unicode Standard's Table 3-7.
 ghost use mathlib.Core.Path.{_≡_};
 ghost use mathlib.Core.Bool.{true};
-ghost use Prim.Native.Nat.{_+_, _≤_, _<_};
-ghost use lib.ListN.{length, drop};
-ghost use Rattle.text.specs.Ranges.{_to_};
-ghost use Rattle.text.specs.Utf8.{follow, upTo};
-ghost use Rattle.text.specs.Steps.{ranges, headIn, stepAt, Ran, Jumped};
-
-// What a first byte asks: so many bytes more, the first of them from one byte to another, the others from 80 to BF.
-// More than three: no sequence begins so.
-pub(crate) struct Lead(u8, u8, u8);
+ghost use mathlib.Core.List.{List, _∷_};
+ghost use Prim.Native.Nat.{ℕ, _+_, _≤_, _<_};
+ghost use lib.ListN.{length};
+ghost use Rattle.refusal.specs.Pick.{pick};
+ghost use Rattle.text.specs.Ranges.{inRange};
+ghost use Rattle.text.specs.Utf8.{tail, seqLen, upTo};
+ghost use Rattle.text.specs.Steps.{stepAt, Ran, Jumped};
 
 // Past a well-formed sequence, or none stands there.
 pub(crate) enum Seq {
@@ -17,54 +15,39 @@ pub(crate) enum Seq {
     Bad,
 }
 
-// The table's row of a first byte.
-fn lead_of(a: u8) -> Lead
-    ensures { λ r. ⌜ follow a ≡ ranges (r .0) (r .1) (r .2) ⌝ }
+// From 80 to BF. `&` and not `&&`, here and below: each byte is compared, whatever comes of the others, so that less branches.
+fn follows(b: u8) -> bool
+    ensures { λ r. ⌜ r ≡ inRange tail b ⌝ }
 {
-    if a < 0x80 {
-        return Lead(0, 0x80, 0xBF);
-    }
-    if a < 0xC2 {
-        return Lead(4, 0x80, 0xBF);
-    }
-    if a < 0xE0 {
-        return Lead(1, 0x80, 0xBF);
-    }
-    if a < 0xE1 {
-        return Lead(2, 0xA0, 0xBF);
-    }
-    if a < 0xED {
-        return Lead(2, 0x80, 0xBF);
-    }
-    if a < 0xEE {
-        return Lead(2, 0x80, 0x9F);
-    }
-    if a < 0xF0 {
-        return Lead(2, 0x80, 0xBF);
-    }
-    if a < 0xF1 {
-        return Lead(3, 0x90, 0xBF);
-    }
-    if a < 0xF4 {
-        return Lead(3, 0x80, 0xBF);
-    }
-    if a < 0xF5 {
-        return Lead(3, 0x80, 0x8F);
-    }
-    Lead(4, 0x80, 0xBF)
+    (0x80 <= b) & (b <= 0xBF)
 }
 
-// There is a byte at i, and it is from lo to hi.
-fn has(s: &[u8], i: usize, lo: u8, hi: u8) -> bool
-    ensures { λ r. ⌜ r ≡ headIn (lo to hi) (drop i (now (s .entry))) ⌝ }
+// The two bytes are a sequence.
+fn two(a: u8, b: u8) -> bool
+    requires { ⌜ (0x80 ≤ a) × (a < 0xE0) ⌝ }
+    ensures { λ r. ⌜ ((s : List ℕ) → seqLen (a ∷ b ∷ s) ≡ pick r 2 0) ⌝ }
 {
-    if i < s.len() {
-        let b = s[i];
-        if lo <= b {
-            return b <= hi;
-        }
-    }
-    false
+    (0xC2 <= a) & follows(b)
+}
+
+// The three bytes are a sequence.
+fn three(a: u8, b: u8, c: u8) -> bool
+    requires { ⌜ (0xE0 ≤ a) × (a < 0xF0) ⌝ }
+    ensures { λ r. ⌜ ((s : List ℕ) → seqLen (a ∷ b ∷ c ∷ s) ≡ pick r 3 0) ⌝ }
+{
+    let lo = if a == 0xE0 { 0xA0 } else { 0x80 };
+    let hi = if a == 0xED { 0x9F } else { 0xBF };
+    (lo <= b) & (b <= hi) & follows(c)
+}
+
+// The four bytes are a sequence.
+fn four(a: u8, b: u8, c: u8, d: u8) -> bool
+    requires { ⌜ 0xF0 ≤ a ⌝ }
+    ensures { λ r. ⌜ ((s : List ℕ) → seqLen (a ∷ b ∷ c ∷ d ∷ s) ≡ pick r 4 0) ⌝ }
+{
+    let lo = if a == 0xF0 { 0x90 } else { 0x80 };
+    let hi = if a == 0xF4 { 0x8F } else { 0xBF };
+    (a <= 0xF4) & (lo <= b) & (b <= hi) & follows(c) & follows(d)
 }
 
 // The sequence at `at`.
@@ -72,32 +55,27 @@ pub(crate) fn step(s: &[u8], at: usize) -> Seq
     requires { ⌜ at < length (now s) ⌝ }
     ensures { λ r. ⌜ r ≡ stepAt (now (s .entry)) at ⌝ }
 {
-    let l = lead_of(s[at]);
-    let more = l.0;
-    let lo = l.1;
-    let hi = l.2;
-    if more == 0 {
+    let a = s[at];
+    let left = s.len() - at;
+    if a < 0x80 {
         return Seq::Next(at + 1);
     }
-    if more > 3 {
+    if a < 0xE0 {
+        if 2 <= left && two(a, s[at + 1]) {
+            return Seq::Next(at + 2);
+        }
         return Seq::Bad;
     }
-    if !has(s, at + 1, lo, hi) {
+    if a < 0xF0 {
+        if 3 <= left && three(a, s[at + 1], s[at + 2]) {
+            return Seq::Next(at + 3);
+        }
         return Seq::Bad;
     }
-    if more == 1 {
-        return Seq::Next(at + 2);
+    if 4 <= left && four(a, s[at + 1], s[at + 2], s[at + 3]) {
+        return Seq::Next(at + 4);
     }
-    if !has(s, at + 2, 0x80, 0xBF) {
-        return Seq::Bad;
-    }
-    if more == 2 {
-        return Seq::Next(at + 3);
-    }
-    if !has(s, at + 3, 0x80, 0xBF) {
-        return Seq::Bad;
-    }
-    Seq::Next(at + 4)
+    Seq::Bad
 }
 
 // The 32 bytes from `at` on are ASCII. Each is looked at, whatever those before it are, so that many are at once.
