@@ -8,3 +8,4 @@ pub mod Rewrite
 pub mod WriteLaws
 pub mod Known
 pub mod TokenLaws
+pub mod TokenLists
