@@ -3,5 +3,6 @@ pub mod Laying
 pub mod Rows
 pub mod OfModule
 pub mod OfManifest
+pub mod OfTokens
 pub mod Explaining
 pub mod OfComparison

@@ -9,3 +9,4 @@ pub mod WriteLaws
 pub mod Known
 pub mod TokenLaws
 pub mod TokenLists
+pub mod Asking

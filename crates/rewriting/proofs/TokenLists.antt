@@ -4,13 +4,13 @@ use mathlib.Core.Bool.{Bool, true, false}
 use mathlib.Core.List.{List, [], _∷_, map}
 use Prim.Native.Nat.{ℕ, zero, suc, _+_, _-_, _≤_, _<_}
 use native.Mathlib.Omega.{arith}
-use native.Mathlib.Nat.{add-assoc, not-suc-le-zero}
+use native.Mathlib.Nat.{not-suc-le-zero}
 use lib.Dec.{eqb, ltb}
-use lib.ListN.{length, take, drop, length-drop, length-take}
+use lib.ListN.{length, drop, length-drop, length-take}
 use lib.Seq.{length-take-le, drop-drop, drop-nil, take-nil}
 use borrow.Author.Tests.{eqb-true, eqb-false, ne-eqb, lt-ltb, le-ltb, ltb-true, ltb-false}
 use Rattle.refusal.specs.Pick.{pick}
-use Rattle.refusal.specs.Said.{Said, accepted, follow}
+use Rattle.refusal.specs.Said.{accepted, follow}
 use Rattle.refusal.specs.declared.Part.{Part}
 use Rattle.refusal.proofs.Following.{followed}
 use Rattle.text.specs.Find.{indexOf}
@@ -95,11 +95,12 @@ module _ (at : ℕ) (b : List ℕ) (none : trimmed (part b) .len ≡ 0) where
       let i = indexOf 44 b in
       let l = length-drop (i + 1) b in
       let z : i + 1 + (next - (at + (i + 1))) ≡ next - at = omega (arith, h .on) in
+      let rest : drop (next - (at + (i + 1))) (drop (i + 1) b) ≡ drop (next - at) b =
+      drop-drop (next - (at + (i + 1))) (i + 1) b ∙ ap (λ (k : ℕ). drop k b) z in
       record {
         on = omega (arith, h .on);
         near = omega (arith, h .on, h .near);
-        list = first-is at b ∙ rw none (h .list
-            ∙ ap (λ (r : List ℕ). ranged f n ∷ tokensFrom next r) (drop-drop (next - (at + (i + 1))) (i + 1) b ∙ ap (λ (k : ℕ). drop k b) z));
+        list = first-is at b ∙ rw none (h .list ∙ ap (λ (r : List ℕ). ranged f n ∷ tokensFrom next r) rest);
       }
 
 -- another is found
@@ -138,7 +139,8 @@ module _ (at : ℕ) (b : List ℕ) (full : 0 < length b) (some : trimmed (part b
           }
 
 -- of bytes, where it is so for fewer of them
-heads-by : (at : ℕ) (b : List ℕ) → ((n : ℕ) (r : List ℕ) → length r < length b → Heads n r (tokenFrom n 0 r)) → Heads at b (tokenFrom at 0 b)
+heads-by : (at : ℕ) (b : List ℕ) → ((n : ℕ) (r : List ℕ) → length r < length b → Heads n r (tokenFrom n 0 r))
+    → Heads at b (tokenFrom at 0 b)
 unfolding tokenFrom
 heads-by at [] ih = none-at at
 heads-by at (x ∷ s) ih = by (eqb (trimmed (part (x ∷ s)) .len) 0) refl
