@@ -150,11 +150,37 @@ static void policies(void) {
     }
 }
 
+/* ---- the tokens of a domain's list */
+static void tokens(void) {
+    static const char policy[] = "allow fs: /a , ,\t/bc,\ndeny net\n";
+    static const uint64_t policy_cells[] = {10, 2, 17, 3};
+    size_t len = sizeof policy - 1, needed = sizeof policy_cells;
+    for (size_t room = 0; room < needed + 3; room++) {
+        lend();
+        struct viscrombal_tokens_read r = viscrombal_tokens((const uint8_t *)policy, len, 0, out, room);
+        if (room < needed)
+            expect(r.number == 16 && r.place == needed && r.count == 0 && r.bytes == 0 && untouched_past(0), "tokens: refused, untouched");
+        else
+            expect(r.number == 0 && r.place == 0 && r.count == 2 && r.bytes == needed && cells_are(policy_cells, needed / 8) &&
+                       untouched_past(needed),
+                   "tokens: cells, nothing past them");
+    }
+    for (size_t domain = 1; domain < 9; domain++) {
+        lend();
+        struct viscrombal_tokens_read r = viscrombal_tokens((const uint8_t *)policy, len, domain, out, MOST);
+        expect(r.number == 0 && r.place == 0 && r.count == 0 && r.bytes == 0 && untouched_past(0), "tokens: none, untouched");
+    }
+    lend();
+    struct viscrombal_tokens_read r = viscrombal_tokens((const uint8_t *)"allow fs: a\nx", 13, 0, out, MOST);
+    expect(r.number == 6 && r.place == 2 && r.count == 0 && r.bytes == 0 && untouched_past(0), "tokens: a text that is refused, untouched");
+}
+
 int main(void) {
     modules();
     manifests();
     comparisons();
     policies();
+    tokens();
     printf("lent memory: %u of %u as stated\n", good, all);
     return good != all;
 }

@@ -66,6 +66,14 @@ struct viscrombal_token_read {
     size_t next;
 };
 
+/* The tokens of a domain's list: how many there are. */
+struct viscrombal_tokens_read {
+    uint32_t number;
+    size_t place;
+    size_t count;
+    size_t bytes;
+};
+
 /* How many bytes were written. */
 struct viscrombal_written {
     uint32_t number;
@@ -142,7 +150,8 @@ struct viscrombal_range viscrombal_name(const uint8_t *s, size_t len, size_t at)
 /* A policy's text as ranges of it. */
 struct viscrombal_policy_read viscrombal_policy(const uint8_t *text, size_t len);
 
-/* The first token of a domain's list at or after offset `from`; the domain by its number, 0 to 6. */
+/* The first token of a domain's list at or after offset `from`; the domain by its number, 0 to 6. The text is read anew by each call:
+ * viscrombal_tokens lists them all by one. */
 struct viscrombal_token_read viscrombal_token(const uint8_t *text, size_t len, size_t domain, size_t from);
 
 /* A policy's text in the one form that the writer gives it. Refused, `out` is untouched (16: its place is the bytes needed);
@@ -165,6 +174,10 @@ struct viscrombal_module_read viscrombal_module(const uint8_t *file, size_t len,
  * path's offset and length, 1 with a signature, its offset and length); then rows of table 6, a cell each: by path the lowest row of each
  * path that is imported, then of each that is exported. */
 struct viscrombal_manifest_read viscrombal_manifest(const uint8_t *text, size_t len, uint8_t *out, size_t room);
+
+/* A policy's text, and a domain by its number, 0 to 6 (above: no token). 2 cells a token of its list, in their order: its offset in the text,
+ * and its length. There are at most 32,768, which is 524,288 bytes. */
+struct viscrombal_tokens_read viscrombal_tokens(const uint8_t *text, size_t len, size_t domain, uint8_t *out, size_t room);
 
 /* Two files. Rows of tables 8 and 9: 2 cells an export (0 removed or 1 added, row of table 3 of the baseline or of the candidate), 3 a
  * capability (0 removed or 1 added, domain, row of table 2 of the baseline or of the candidate). Then the breaking reasons as text, LF after

@@ -39,11 +39,9 @@ pub struct Policy {
 }
 
 #[repr(C)]
-pub struct Token {
-    pub found: u8,
-    pub from: usize,
-    pub len: usize,
-    pub next: usize,
+pub struct Tokens {
+    pub count: usize,
+    pub bytes: usize,
 }
 
 #[repr(C)]
@@ -103,7 +101,7 @@ pub struct Comparison {
 
 extern "C" {
     fn viscrombal_policy(text: *const u8, len: usize) -> Told<Policy>;
-    fn viscrombal_token(text: *const u8, len: usize, domain: usize, from: usize) -> Told<Token>;
+    fn viscrombal_tokens(text: *const u8, len: usize, domain: usize, out: *mut u8, room: usize) -> Told<Tokens>;
     fn viscrombal_rewrite(text: *const u8, len: usize, out: *mut u8, room: usize) -> Told<Written>;
     fn viscrombal_check(file: *const u8, len: usize, text: *const u8, text_len: usize) -> Told<Evaluation>;
     fn viscrombal_module(file: *const u8, len: usize, out: *mut u8, room: usize) -> Told<Module>;
@@ -124,8 +122,8 @@ pub fn policy(text: &[u8]) -> Result<Policy> {
     unsafe { viscrombal_policy(text.as_ptr(), text.len()) }.accepted()
 }
 
-pub fn token(text: &[u8], domain: usize, from: usize) -> Result<Token> {
-    unsafe { viscrombal_token(text.as_ptr(), text.len(), domain, from) }.accepted()
+pub fn tokens(text: &[u8], domain: usize, out: &mut [u8]) -> Result<Tokens> {
+    unsafe { viscrombal_tokens(text.as_ptr(), text.len(), domain, out.as_mut_ptr(), out.len()) }.accepted()
 }
 
 pub fn rewrite(text: &[u8], out: &mut [u8]) -> Result<Written> {

@@ -5,7 +5,7 @@ use std::fmt;
 use crate::compat;
 use crate::error::{Refusal, Result};
 use crate::ffi;
-use crate::rows::{name, with_room};
+use crate::rows::{name, with_room, Cells};
 use crate::wasm::{self, Module};
 
 /// What a module may reach through the functions that it imports.
@@ -79,7 +79,7 @@ pub struct Policy<'a> {
 pub struct DomainRule<'a> {
     /// Whether the domain is allowed.
     pub allow: bool,
-    /// Its tokens, found in the text one after another as they are asked for.
+    /// Its tokens, listed by one call when the first is asked for.
     pub allow_list: Tokens<'a>,
 }
 
@@ -120,7 +120,7 @@ impl<'a> Policy<'a> {
     /// A domain's rule, or without one the default.
     pub fn effective(&self, domain: Domain) -> DomainRule<'a> {
         let allow = self.rules[domain as usize].unwrap_or(self.default_allow);
-        DomainRule { allow, allow_list: Tokens { text: self.text, domain, from: 0 } }
+        DomainRule { allow, allow_list: Tokens { text: self.text, domain, listed: None } }
     }
 
     /// The policy's text in the one form that the writer gives it.
@@ -131,25 +131,26 @@ impl<'a> Policy<'a> {
     }
 }
 
-/// A domain's tokens. Each is a call that reads the policy again: a policy has at most 65,536 bytes.
+/// A domain's tokens, parts of the policy's text. The first that is asked for lists them all, by one call that reads the policy again.
 #[derive(Debug, Clone)]
 pub struct Tokens<'a> {
     text: &'a [u8],
     domain: Domain,
-    from: usize,
+    listed: Option<std::vec::IntoIter<&'a str>>,
 }
 
 impl<'a> Iterator for Tokens<'a> {
     type Item = &'a str;
 
     fn next(&mut self) -> Option<&'a str> {
-        let told = ffi::token(self.text, self.domain as usize, self.from).ok()?;
-        if told.found == 0 {
-            return None;
-        }
-        self.from = told.next;
-        name(self.text, told.from, told.len).ok()
+        let (text, domain) = (self.text, self.domain);
+        self.listed.get_or_insert_with(|| tokens(text, domain).unwrap_or_default().into_iter()).next()
     }
+}
+
+fn tokens(text: &[u8], domain: Domain) -> Result<Vec<&str>> {
+    let (told, out) = with_room(256, |out| ffi::tokens(text, domain as usize, out))?;
+    Cells::of(&out, told.bytes)?.rows(told.count, |[from, len]| name(text, from, len))
 }
 
 /// What a policy says of one domain.

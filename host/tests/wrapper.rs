@@ -208,6 +208,23 @@ fn a_policy_is_read() {
 }
 
 #[test]
+fn tokens_are_listed() {
+    // more than fit the first buffer, and as many as a text can hold
+    for (count, text) in [(17, "deny net: x".to_string() + &", y".repeat(16)), (32_764, "allow fs:b".to_string() + &",b".repeat(32_763))] {
+        let policy = Policy::parse(&text).unwrap();
+        let (_, rule) = policy.rules().next().unwrap();
+        let mut tokens = rule.allow_list;
+        let first = tokens.next().unwrap();
+        assert!(first.len() == 1 && is_part(first, text.as_bytes()));
+        let rest = tokens.clone();
+        assert_eq!((tokens.count(), rest.count()), (count - 1, count - 1));
+    }
+    let policy = Policy::parse("allow fs:,\u{a0}, \nallow env: \u{3000}é é\t,\n").unwrap();
+    let tokens = |domain| policy.effective(domain).allow_list.collect::<Vec<_>>();
+    assert_eq!(Domain::EVERY.map(tokens), [vec![], vec!["é é"], vec![], vec![], vec![], vec![], vec![]]);
+}
+
+#[test]
 fn a_policy_of_no_text() {
     let policy = Policy::parse("").unwrap();
     assert_eq!((policy.name(), policy.default_allow(), policy.rules().count()), ("default-deny", false, 0));

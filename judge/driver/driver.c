@@ -406,12 +406,18 @@ static void c_compare(void) {
     tell(r.number), tell(r.place), tell(r.exports), tell(r.capabilities), tell(r.compatible), tell(r.reasons), tell(r.bytes);
 }
 
+/* numbers: the room, the domain */
+static void c_tokens(void) {
+    struct viscrombal_tokens_read r = viscrombal_tokens(string[0], length[0], number[1], lent_bytes(number[0]), number[0]);
+    tell(r.number), tell(r.place), tell(r.count), tell(r.bytes);
+}
+
 /* In the order of `Call` in src/case.rs. */
 static void (*const calls[])(void) = {
     NULL, uleb128, uleb128_u32, sleb128, name, module, functions, memories, namespaces, policy, token, write_policy, evaluate, import, path,
     rewrite, manifest, requirements, all_imports, all_exports, check, needs, compare, differences, export_name, source_name,
     u8, u32_le, take_bytes, skip, left, kind, section, change, reasons,
-    c_module, c_manifest, c_compare, evaluate_records,
+    c_module, c_manifest, c_compare, evaluate_records, c_tokens,
 };
 
 /* ---- cases */

@@ -42,9 +42,10 @@ pub enum Call {
     CManifest,
     CCompare,
     EvaluateRecords,
+    CTokens,
 }
 
-pub const CALLS: [(Call, &str); 38] = [
+pub const CALLS: [(Call, &str); 39] = [
     (Call::Uleb128, "uleb128"),
     (Call::Uleb128U32, "uleb128_u32"),
     (Call::Sleb128, "sleb128"),
@@ -83,6 +84,7 @@ pub const CALLS: [(Call, &str); 38] = [
     (Call::CManifest, "c_manifest"),
     (Call::CCompare, "c_compare"),
     (Call::EvaluateRecords, "evaluate_records"),
+    (Call::CTokens, "c_tokens"),
 ];
 
 #[derive(Clone, PartialEq, Eq, Debug)]

@@ -1,7 +1,7 @@
 //! The lists of the C interface, 8-byte cells in a lent buffer: decoded, they say what the calls with lent tables say.
 use crate::compare::{listed, text_of};
 use crate::limits::module_alone;
-use crate::says::{self, answered, parse, refused, whole, zeros_to, DOMAINS, LONGEST_MODULE, MARK};
+use crate::says::{self, answered, parse, part, refused, whole, zeros_to, DOMAINS, LONGEST_MODULE, MARK};
 use original::compat::compare_modules;
 use original::wasm::Module;
 use original::wit::{self, Manifest};
@@ -113,6 +113,28 @@ pub fn port_manifest(text: &[u8], t: &[u64], bytes: &[u8]) -> String {
     let said = says::port_manifest(text, &told);
     let lists = format!("; imports {:?}; exports {:?}", listed(&imported, 0), listed(&exported, 1));
     untouched(format!("{said}{lists}; bytes {}", t[9]), t[9], bytes)
+}
+
+// ---- tokens
+
+pub fn tokens(text: &[u8], domain: u64, room: u64) -> String {
+    match says::tokens_of(text, domain) {
+        Ok(tokens) => into(16 * tokens.len(), room, format!("{}: {tokens:?}", tokens.len())),
+        Err(why) => why + "; the rest untouched",
+    }
+}
+
+/// The original has no offsets: each range is after the one before it, with a comma between them.
+pub fn port_tokens(text: &[u8], t: &[u64], bytes: &[u8]) -> String {
+    if t[0] != 0 {
+        return untouched(answered(t, 4, |_| String::new()), 0, bytes);
+    }
+    let ranges = cells(bytes, 2 * t[2] as usize).0;
+    let tokens: Vec<String> = ranges.chunks_exact(2).map(|r| part(text, r[0], r[1])).collect();
+    let apart = |a: u64, b: u64| text.get(a as usize..b as usize).is_some_and(|between| between.contains(&b','));
+    let ordered = ranges.windows(4).step_by(2).all(|r| apart(r[0].wrapping_add(r[1]), r[2]));
+    let said = format!("{}: {tokens:?}{}; bytes {}", t[2], if ordered { "" } else { " out of order" }, t[3]);
+    untouched(said, t[3], bytes)
 }
 
 // ---- comparisons

@@ -53,6 +53,7 @@ pub fn original_says(case: &Case) -> String {
         Call::CModule => cells::module(s(0), n[0]),
         Call::CManifest => cells::manifest(s(0), n[0]),
         Call::CCompare => cells::compare(s(0), s(1), n[0]),
+        Call::CTokens => cells::tokens(s(0), n[1], n[0]),
         Call::U8 => read(s(0), n[0], |r| r.u8().map(|v| v.to_string())),
         Call::U32Le => read(s(0), n[0], |r| r.u32_le().map(|v| v.to_string())),
         Call::Take => taken(s(0), n[0], n[1], |r, k| r.take(k).map(hex)),
@@ -88,6 +89,7 @@ pub fn port_says(case: &Case, a: &Answer) -> String {
         Call::CModule => cells::port_module(s(0), t, &a.bytes),
         Call::CManifest => cells::port_manifest(s(0), t, &a.bytes),
         Call::CCompare => cells::port_compare(s(0), s(1), t, &a.bytes),
+        Call::CTokens => cells::port_tokens(s(0), t, &a.bytes),
         Call::ExportName | Call::SourceName | Call::Section | Call::ChangeWord => compare::port_name(t),
         Call::U8 | Call::U32Le => port_read(t, |t| t[2].to_string()),
         Call::Take => port_read(t, |t| part(s(0), t[2], t[3])),
@@ -370,6 +372,13 @@ fn policy_says(p: &Policy) -> String {
         out += &format!("; {d} {} {tokens:?}", rule.allow);
     }
     out
+}
+
+/// The tokens of a domain's rule; none of a domain that has no rule, and of a number that is no domain's.
+pub fn tokens_of(text: &[u8], domain: u64) -> Result<Vec<String>, String> {
+    let p = parsed(text)?;
+    let rule = DOMAINS.get(domain as usize).and_then(|d| p.rules.get(d));
+    Ok(rule.map_or(Vec::new(), |r| r.allow_list.iter().map(|t| hex(t.as_bytes())).collect()))
 }
 
 fn port_policy(s: &[u8], t: &[u64]) -> String {

@@ -1,7 +1,8 @@
-// Modules, manifests and comparisons over the C interface: the answer in a struct of numbers, the rows in one lent buffer.
+// Modules, manifests, comparisons and tokens over the C interface: the answer in a struct of numbers, the rows in one lent buffer.
 use listed::comparison::ComparisonTold;
 use listed::manifests::ManifestTold;
 use listed::modules::ModuleTold;
+use tokens::TokensTold;
 ghost use lib.ListN.{length};
 ghost use Rattle.wasm.specs.Module.{moduleAt};
 ghost use Rattle.conform.specs.Sound.{limits};
@@ -9,6 +10,7 @@ ghost use Rattle.listed.specs.Comparisons.{comparisonBytes, comparisonTold, com
 ghost use Rattle.listed.specs.Delivered.{Delivers};
 ghost use Rattle.listed.specs.Modules.{moduleBytes, moduleTold};
 ghost use Rattle.listed.specs.Manifests.{manifestBytes, manifestTold, manifestListed};
+ghost use Rattle.tokens.specs.Tokens.{tokensBytes, tokensTold, tokensRead};
 
 // A module's file: the rows of tables 1 to 4, eight bytes a cell. Refused, nothing is touched; accepted, nothing past the rows.
 #[no_mangle]
@@ -38,4 +40,12 @@ pub extern "C" fn viscrombal_compare<'a, 'b>(
         (now (out .entry)) r (now (out .exit)) ⌝ }
 {
     listed::comparison::list_comparison(baseline, candidate, out)
+}
+
+// A policy's text: the ranges of the tokens of a domain's list, each its offset in the text and its length.
+#[no_mangle]
+pub extern "C" fn viscrombal_tokens(text: &[u8], domain: usize, out: &mut [u8]) -> TokensTold
+    ensures { λ r. ⌜ Delivers tokensBytes tokensTold (tokensRead (now (text .entry)) domain) (now (out .entry)) r (now (out .exit)) ⌝ }
+{
+    tokens::list_tokens(text, domain, out)
 }

@@ -27,3 +27,4 @@ pub mod OfJudged
 pub mod OfListed
 pub mod OfReport
 pub mod Unclassified
+pub mod ListedTokens

@@ -13,12 +13,16 @@ use Rattle.listed.proofs.manifests.list_manifest.Kinds as list-manifest-kinds
 use Rattle.listed.proofs.manifests.list_manifest.Reads as list-manifest
 use Rattle.listed.proofs.comparison.list_comparison.Kinds as list-comparison-kinds
 use Rattle.listed.proofs.comparison.list_comparison.Reads as list-comparison
+use Rattle.tokens.proofs.list_tokens.Kinds as list-tokens-kinds
+use Rattle.tokens.proofs.list_tokens.Reads as list-tokens
 use Rattle.capi.proofs.lists.viscrombal_compare.Kinds as compare-kinds
 use Rattle.capi.proofs.lists.viscrombal_compare.Reads as compare
 use Rattle.capi.proofs.lists.viscrombal_module.Kinds as module-kinds
 use Rattle.capi.proofs.lists.viscrombal_module.Reads as modules
 use Rattle.capi.proofs.lists.viscrombal_manifest.Kinds as manifest-kinds
 use Rattle.capi.proofs.lists.viscrombal_manifest.Reads as manifest
+use Rattle.capi.proofs.lists.viscrombal_tokens.Kinds as tokens-kinds
+use Rattle.capi.proofs.lists.viscrombal_tokens.Reads as tokens
 
 pub put-cells-decides : Decides put-cells-kinds.ps put-cells-kinds.r put-cells.Post
 put-cells-decides κs a x y s t p q = p .next ∙ sym (q .next)
@@ -75,3 +79,19 @@ pub compare-call-leaves : (κs : Lfts 2) (a : Dens κs compare-kinds.ps) (x y : 
     (s t : AtExit (endedOf 2 compare-kinds.ps compare-kinds.r) κs)
     → compare.Post κs a x s → compare.Post κs a y t → now (s .1 .1 .0) ≡ now (t .1 .1 .0)
 compare-call-leaves κs a x y s t p q = p .output-is ∙ sym (q .output-is)
+
+pub list-tokens-decides : Decides list-tokens-kinds.ps list-tokens-kinds.r list-tokens.Post
+list-tokens-decides κs a x y s t p q = p .answer-is ∙ sym (q .answer-is)
+
+pub list-tokens-leaves : (κs : Lfts 2) (a : Dens κs list-tokens-kinds.ps) (x y : resT list-tokens-kinds.r κs .Denot)
+    (s t : AtExit (endedOf 2 list-tokens-kinds.ps list-tokens-kinds.r) κs)
+    → list-tokens.Post κs a x s → list-tokens.Post κs a y t → now (s .1 .1 .0) ≡ now (t .1 .1 .0)
+list-tokens-leaves κs a x y s t p q = p .output-is ∙ sym (q .output-is)
+
+pub tokens-call-decides : Decides tokens-kinds.ps tokens-kinds.r tokens.Post
+tokens-call-decides κs a x y s t p q = p .answer-is ∙ sym (q .answer-is)
+
+pub tokens-call-leaves : (κs : Lfts 2) (a : Dens κs tokens-kinds.ps) (x y : resT tokens-kinds.r κs .Denot)
+    (s t : AtExit (endedOf 2 tokens-kinds.ps tokens-kinds.r) κs)
+    → tokens.Post κs a x s → tokens.Post κs a y t → now (s .1 .1 .0) ≡ now (t .1 .1 .0)
+tokens-call-leaves κs a x y s t p q = p .output-is ∙ sym (q .output-is)

@@ -44,6 +44,8 @@ use Rattle.verdicts.proofs.evaluate_domains.Kinds as evaluate-domains-kinds
 use Rattle.verdicts.proofs.evaluate_domains.Reads as evaluate-domains
 use Rattle.rewriting.proofs.token.next_token.Kinds as next-token-kinds
 use Rattle.rewriting.proofs.token.next_token.Reads as next-token
+use Rattle.rewriting.proofs.token.first_token.Kinds as first-token-kinds
+use Rattle.rewriting.proofs.token.first_token.Reads as first-token
 use Rattle.rewriting.proofs.write_policy.Kinds as write-policy-kinds
 use Rattle.rewriting.proofs.write_policy.Reads as write-policy
 
@@ -94,6 +96,9 @@ unjudged-decides κs a x y s t p q = evaluation-known x y p q
 
 pub next-token-decides : Decides next-token-kinds.ps next-token-kinds.r next-token.Post
 next-token-decides κs a x y s t p q = token-known x y (p ∙ sym q)
+
+pub first-token-decides : Decides first-token-kinds.ps first-token-kinds.r first-token.Post
+first-token-decides κs a x y s t p q = token-known x y (p ∙ sym q)
 
 pub write-policy-decides : Decides write-policy-kinds.ps write-policy-kinds.r write-policy.Post
 write-policy-decides κs a x y s t p q = one-answer p q

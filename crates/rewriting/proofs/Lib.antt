@@ -8,3 +8,5 @@ pub mod Rewrite
 pub mod WriteLaws
 pub mod Known
 pub mod TokenLaws
+pub mod TokenLists
+pub mod Asking

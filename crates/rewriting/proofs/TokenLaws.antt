@@ -7,7 +7,8 @@ use native.Mathlib.Omega.{arith}
 use native.Mathlib.Nat.{add-zero, suc-add, add-suc}
 use native.Mathlib.Numerals.{add-one}
 use lib.Dec.{ltb}
-use lib.ListN.{length, take, drop}
+use lib.ListN.{length, take, drop, length-drop}
+use lib.Seq.{take-all}
 use borrow.Author.Tests.{eq-eqb, ne-eqb, lt-ltb, le-ltb, ltb-true, ltb-false}
 use Rattle.refusal.specs.Pick.{pick}
 use Rattle.refusal.specs.Said.{Said, accepted, refusedBy, saidAnswer, follow}
@@ -38,7 +39,7 @@ skips at zero s = rw (add-zero at)
 skips at (suc k) [] = refl
 skips at (suc k) (x ∷ s) = skips (suc at) k s ∙ rw (suc-add at k, add-suc at k)
 
-empty-part : (at : ℕ) (s : List ℕ) → 0 < length s → trimmed (part s) .len ≡ 0
+pub empty-part : (at : ℕ) (s : List ℕ) → 0 < length s → trimmed (part s) .len ≡ 0
     → tokenFrom at 0 s ≡ tokenFrom (at + (indexOf 44 s + 1)) 0 (drop (indexOf 44 s + 1) s)
 empty-part at [] h e = absurd (omega arith)
 empty-part at (x ∷ s) h e =
@@ -46,7 +47,7 @@ empty-part at (x ∷ s) h e =
     let z : tokenFrom at 0 (x ∷ s) ≡ tokenFrom (suc at) i s = unfold tokenFrom in rw (eq-eqb (trimmed (part (x ∷ s)) .len) 0 e) in
     z ∙ skips (suc at) i s ∙ rw (add-one i, suc-add at i, add-suc at i)
 
-some-part : (at : ℕ) (s : List ℕ) → 0 < length s → (trimmed (part s) .len ≡ 0 → ⊥)
+pub some-part : (at : ℕ) (s : List ℕ) → 0 < length s → (trimmed (part s) .len ≡ 0 → ⊥)
     → tokenFrom at 0 s ≡ token (at + trimmed (part s) .from) (trimmed (part s) .len) (at + step s)
 unfolding tokenFrom
 some-part at [] h e = absurd (omega arith)
@@ -101,6 +102,12 @@ module _ (s : List ℕ) (i e : ℕ) (more : i < e) (inside : e ≤ length s) (k 
         some-part i (bytesOf s i e) some (λ y. z (sym (ap (λ (x : Part). x .len) trims) ∙ y))
         ∙ ap (λ (x : Part). token (i + x .from) (x .len) (i + step (bytesOf s i e))) trims
         ∙ ap (token (i + t .from) (t .len)) (stepped ∙ sym q)
+
+-- there is no byte past the text's
+pub whole-rest : (s : List ℕ) (i e : ℕ) → length s ≤ e → bytesOf s i (length s) ≡ bytesOf s i e
+whole-rest s i e h =
+    let l = length-drop i s in
+    take-all (length s - i) (drop i s) (omega arith) ∙ sym (take-all (e - i) (drop i s) (omega arith))
 
 pub token-none : (s : List ℕ) (i e : ℕ) → e ≤ i → tokenFrom i 0 (bytesOf s i e) ≡ nothing
 unfolding tokenFrom

@@ -2,22 +2,23 @@
 use mathlib.Core.Path.{_≡_, refl, sym, ap, _∙_}
 use mathlib.Core.Bool.{Bool, true, false}
 use mathlib.Core.List.{List, [], _∷_, _++_, map, append-nil}
-use Prim.Native.Nat.{ℕ, suc, _<_}
+use Prim.Native.Nat.{ℕ, suc, _+_, _≤_, _<_}
 use native.Mathlib.Omega.{arith}
 use lib.Dec.{eqb}
-use lib.ListN.{length}
-use lib.Seq.{take-length}
+use lib.ListN.{length, take, drop}
+use lib.Seq.{take-all, take-length}
 use borrow.Author.Tests.{eqb-true, ne-eqb}
 use Rattle.refusal.specs.Pick.{both}
 use Rattle.text.specs.White.{isWhite, whites}
 use Rattle.text.specs.Ranges.{inSome}
+use Rattle.text.specs.Find.{indexOf}
 use Rattle.text.specs.Trim.{startLen, endLen, trimStart, trimEnd, trimOf}
 use Rattle.text.proofs.Laws.{both-one, both-two}
 use Rattle.text.proofs.SplitLaws.{well, well-ascii, ascii-one}
 use Rattle.text.proofs.TrimLaws.{trim-start, trim-end}
 use Rattle.policy.specs.View.{Parts, comma, split, commas, full, tokens}
 use Rattle.rewriting.specs.Writer.{joined}
-use Rattle.rewriting.proofs.Bytes.{lacks, lacks-head, lacks-tail, lacks-cons, lacks-trim, Inner, inner-trim}
+use Rattle.rewriting.proofs.Bytes.{lacks, lacks-head, lacks-tail, lacks-cons, lacks-trim, index-split, until-lacks, Inner, inner-trim}
 
 -- each of a list of parts
 pub data Each (P : List ℕ → Type 0) : List (List ℕ) → Type 0 where
@@ -131,6 +132,14 @@ pub split-at : (s t : List ℕ) → lacks 44 s ≡ true → split (s ++ 44 ∷ t
 unfolding split
 split-at [] t e = refl
 split-at (x ∷ s) t e = rw (lacks-head 44 x s e, split-at s t (lacks-tail 44 x s e))
+
+-- at its first comma, if it has one
+pub split-first : (b : List ℕ) → indexOf 44 b < length b
+    → (let r = drop (indexOf 44 b + 1) b in split b ≡ record { head = take (indexOf 44 b) b; rest = split r .head ∷ split r .rest })
+split-first b h = ap split (index-split 44 b h) ∙ split-at (take (indexOf 44 b) b) (drop (indexOf 44 b + 1) b) (until-lacks 44 b)
+
+pub split-whole : (b : List ℕ) → length b ≤ indexOf 44 b → split b ≡ record { head = take (indexOf 44 b) b; rest = [] }
+split-whole b h = ap split (sym (take-all (indexOf 44 b) b h)) ∙ split-one (take (indexOf 44 b) b) (until-lacks 44 b)
 
 commas-joined : (a : List ℕ) (ts : List (List ℕ)) → lacks 44 a ≡ true → Each FineToken ts
     → commas (a ++ joined ts) ≡ a ∷ map (λ (t : List ℕ). 32 ∷ t) ts

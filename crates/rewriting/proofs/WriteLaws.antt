@@ -5,7 +5,7 @@ use mathlib.Core.List.{List, [], _∷_, _++_, map, append-nil, append-assoc}
 use Prim.Native.Nat.{ℕ, zero, suc, _+_, _*_, _-_, _≤_, _<_}
 use native.Mathlib.Omega.{arith}
 use lib.ListN.{length, take, drop, drop-of-length-le, length-append, length-drop, length-take}
-use lib.Seq.{take-all, take-length, append-snoc}
+use lib.Seq.{take-length, append-snoc}
 use lib.Dec.{ltb, leb}
 use borrow.Author.Tests.{ltb-true, ltb-false, leb-true, leb-false, le-leb, lt-leb}
 use native.Mathlib.Numerals.{add-one}
@@ -35,8 +35,7 @@ use Rattle.writing.proofs.Words.{slug-long}
 use Rattle.rewriting.specs.Writer.{written, Writes, form, stanceWord, nameLine, defaultLine, formLines}
 use Rattle.rewriting.specs.Writer.{joined, listPart, ruleLine, ruleLines, unlines}
 use Rattle.rewriting.specs.Writing.{separator, tokenForm, marked, lineText, ruleText}
-use Rattle.rewriting.proofs.Bytes.{index-split, until-lacks}
-use Rattle.rewriting.proofs.Tokens.{split-one, split-at, glue, split-glue}
+use Rattle.rewriting.proofs.Tokens.{split-first, split-whole, glue, split-glue}
 
 -- ---- a token
 pub token-none : (some : Bool) (t : List ℕ) → length t ≡ 0 → tokenForm some t ≡ []
@@ -99,14 +98,12 @@ commas-next b = by (ltb (indexOf 44 b) (length b)) refl
     by true q =
         let p = take (indexOf 44 b) b in
         let r = drop (indexOf 44 b + 1) b in
-        let z : split b ≡ record { head = p; rest = split r .head ∷ split r .rest } =
-        ap split (index-split 44 b (ltb-true (indexOf 44 b) (length b) q)) ∙ split-at p r (until-lacks 44 b) in
-        ap (λ (x : Parts). full (map trimOf (x .head ∷ x .rest))) z ∙ full-cons (trimOf p) (map trimOf (split r .head ∷ split r .rest))
+        ap (λ (x : Parts). full (map trimOf (x .head ∷ x .rest))) (split-first b (ltb-true (indexOf 44 b) (length b) q))
+        ∙ full-cons (trimOf p) (map trimOf (split r .head ∷ split r .rest))
     by false q =
         let p = take (indexOf 44 b) b in
-        let e : p ≡ b = take-all (indexOf 44 b) b (ltb-false (indexOf 44 b) (length b) q) in
-        let z : split b ≡ record { head = p; rest = [] } = ap split (sym e) ∙ split-one p (until-lacks 44 b) in
-        ap (λ (x : Parts). full (map trimOf (x .head ∷ x .rest))) z ∙ full-cons (trimOf p) []
+        ap (λ (x : Parts). full (map trimOf (x .head ∷ x .rest))) (split-whole b (ltb-false (indexOf 44 b) (length b) q))
+        ∙ full-cons (trimOf p) []
         ∙ ap (fullCons (trimOf p)) (unfold full in refl)
 
 module _ (s : List ℕ) (i e k f g : ℕ) (some : Bool) (h : i ≤ e) (l : e ≤ length s) (q : k ≡ indexOf 44 (bytesOf s i e))

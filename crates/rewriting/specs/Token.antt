@@ -1,14 +1,16 @@
--- docs/RULES.md, "Texts": the tokens of a domain's list, one after another. Assumes nothing.
-use mathlib.Core.List.{List, [], _∷_}
+-- docs/RULES.md, "Texts": the tokens of a domain's list, one after another, and all at once. Assumes nothing.
+use mathlib.Core.List.{List, [], _∷_, map}
 use Prim.Native.Nat.{ℕ, zero, suc, _+_}
 use lib.Dec.{eqb, ltb}
 use lib.ListN.{length, take}
 use Rattle.refusal.specs.Pick.{pick}
 use Rattle.refusal.specs.Said.{Said, accepted, refusedBy, follow}
+use Rattle.refusal.specs.declared.Part.{Part}
 use Rattle.text.specs.Find.{indexOf}
 use Rattle.text.specs.Trim.{trimmed}
-use Rattle.pieces.specs.Piece.{bytesOf}
+use Rattle.pieces.specs.Piece.{Piece, trim, bytesOf}
 use Rattle.policy.specs.Eight.{policyTest}
+use Rattle.policy.specs.View.{commas}
 use Rattle.verdicts.specs.Evaluate.{effectiveOf}
 use Rattle.policy.specs.declared.Policy.{Policy}
 use Rattle.rewriting.specs.declared.token.Token.{Token}
@@ -53,3 +55,28 @@ abbrev pub saidToken : Token → Said Found
 saidToken (Token.At x next) = accepted (token (x .from) (x .len) next)
 saidToken Token.Done = accepted nothing
 saidToken (Token.Refused why) = refusedBy why
+
+-- ---- all of them
+-- parts that stand one after another from `at` on, a comma after each
+unfoldable pub placed : ℕ → List (List ℕ) → List Piece
+placed at [] = []
+placed at (t ∷ ts) = (record { at = at; bytes = t }) ∷ placed (at + length t + 1) ts
+
+-- the ranges of those that are not empty
+unfoldable pub ranges : List Piece → List Part
+ranges [] = []
+ranges (p ∷ ps) = pick (eqb (length (p .bytes)) 0) (ranges ps) (record { from = p .at; len = length (p .bytes) } ∷ ranges ps)
+
+-- of bytes that begin at `at`: split at commas, trimmed, empties dropped
+unfoldable pub tokensFrom : ℕ → List ℕ → List Part
+tokensFrom at s = ranges (map trim (placed at (commas s)))
+
+-- in the list from a to e
+abbrev pub tokensIn : List ℕ → ℕ → ℕ → List Part
+tokensIn s a e = tokensFrom a (bytesOf s a e)
+
+-- of the list of domain d: 14, 4, 15 of the text and the policy, then the tokens
+unfoldable pub allTokens : List ℕ → Policy → ℕ → Said (List Part)
+allTokens s p d =
+    follow (policyTest s p)
+    (λ ok. accepted (tokensIn s (effectiveOf p d .from) (effectiveOf p d .from + effectiveOf p d .len)))

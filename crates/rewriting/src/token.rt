@@ -27,7 +27,7 @@ pub enum Token {
 
 // The first token of the bytes from `from` to `end`.
 fn token_at(s: &[u8], from: usize, end: usize) -> Token
-    requires { ⌜ (from ≤ end) × (end ≤ length (now s)) ⌝ }
+    requires { ⌜ end ≤ length (now s) ⌝ }
     ensures { λ r. ⌜ saidToken r ≡ accepted (tokenFrom from 0 (bytesOf (now (s .entry)) from end)) ⌝ }
 {
     let mut i = from;
@@ -43,6 +43,16 @@ fn token_at(s: &[u8], from: usize, end: usize) -> Token
         i = comma + 1;
     }
     Token::Done
+}
+
+// The same for any `end`: there is no byte past the text's.
+pub fn first_token(s: &[u8], from: usize, end: usize) -> Token
+    ensures { λ r. ⌜ saidToken r ≡ accepted (tokenFrom from 0 (bytesOf (now (s .entry)) from end)) ⌝ }
+{
+    if s.len() < end {
+        return token_at(s, from, s.len());
+    }
+    token_at(s, from, end)
 }
 
 // After the comma, or the end where there is none.

@@ -15,7 +15,7 @@ pub struct Case {
 }
 
 /// Name, rounds for a count of instructions (0: too long to be counted), and how it is made.
-pub const CASES: [(&str, u32, fn() -> Case); 30] = [
+pub const CASES: [(&str, u32, fn() -> Case); 31] = [
     ("module: tiny, tables of its size", 1000, || module(inputs::tiny(), Tables::of([2, 1, 1, 0]))),
     ("module: tiny, tables at the limits", 100, || module(inputs::tiny(), Tables::at_limits())),
     ("module: tiny, viscrombal_module", 1000, || listed(inputs::tiny())),
@@ -32,6 +32,7 @@ pub const CASES: [(&str, u32, fn() -> Case); 30] = [
     ("policy: small", 1000, || policy(inputs::policy())),
     ("policy: 64 KiB", 20, || policy(inputs::long_policy())),
     ("policy: 64 KiB, 32,760 tokens asked for one by one", 0, || tokens(inputs::token_policy())),
+    ("policy: 64 KiB, 32,760 tokens listed", 20, || listed_tokens(inputs::token_policy())),
     ("manifest: small", 1000, || manifest(inputs::manifest(), 1, 3)),
     ("manifest: 64 KiB", 20, || manifest(inputs::long_manifest(), 64, 1024)),
     ("check: tiny module, small policy", 100, || check(inputs::tiny(), inputs::policy())),
@@ -149,13 +150,19 @@ fn each_token(text: &[u8], cells: &[usize], domain: usize, mut f: impl FnMut(usi
     }
 }
 
-fn port_policy_says(text: &[u8]) -> String {
+fn asked_tokens(text: &[u8], cells: &[usize], domain: usize) -> Vec<String> {
+    let mut list = Vec::new();
+    each_token(text, cells, domain, |from, len| list.push(part(text, from, len)));
+    list
+}
+
+/// With the tokens of each domain as they are got.
+fn port_policy_says(text: &[u8], tokens: impl Fn(&[usize], usize) -> Vec<String>) -> String {
     let p = port::policy(text);
     assert_eq!((p.number, p.place), (0, 0));
     let cells = port::cells(&p);
     let rule = |d: usize| {
-        let mut list = Vec::new();
-        each_token(text, &cells, d, |from, len| list.push(part(text, from, len)));
+        let list = tokens(&cells, d);
         (p.rules[d].stance != 0).then_some((p.rules[d].stance == 1, list))
     };
     let name = if p.named { part(text, p.start, p.size) } else { "default-deny".into() };
@@ -165,7 +172,7 @@ fn port_policy_says(text: &[u8]) -> String {
 fn policy(text: Vec<u8>) -> Case {
     let (a, b) = (text.clone(), text.clone());
     Case {
-        said: Box::new(move || [policy_says(&parsed(&text)), port_policy_says(&text)]),
+        said: Box::new(move || [policy_says(&parsed(&text)), port_policy_says(&text, |cells, d| asked_tokens(&text, cells, d))]),
         original: Box::new(move || drop(black_box(parsed(black_box(&a))))),
         port: Box::new(move || {
             black_box(port::policy(black_box(&b)));
@@ -182,6 +189,31 @@ fn tokens(text: Vec<u8>) -> Case {
             each_token(&b, &cells, 0, |from, len| _ = black_box((from, len)));
         }),
         ..policy(text)
+    }
+}
+
+/// Room for the tokens of the longest text.
+const TOKENS_ROOM: usize = 16 * 32_768;
+
+/// The policy, then the tokens of its first domain by one call.
+fn listed_tokens(text: Vec<u8>) -> Case {
+    let (a, b) = (text.clone(), text.clone());
+    let mut out = vec![0; TOKENS_ROOM];
+    let each = move |domain: usize| {
+        let mut out = vec![0; TOKENS_ROOM];
+        let t = port::tokens(&a, domain, &mut out);
+        assert_eq!((t.number, t.place, t.bytes), (0, 0, 16 * t.count));
+        let cell = |c: &[u8]| u64::from_le_bytes(c.try_into().unwrap()) as usize;
+        out[..t.bytes].chunks_exact(16).map(|r| part(&a, cell(&r[..8]), cell(&r[8..]))).collect()
+    };
+    let original = policy(text.clone());
+    Case {
+        said: Box::new(move || [policy_says(&parsed(&text)), port_policy_says(&text, |_, d| each(d))]),
+        port: Box::new(move || {
+            black_box(port::policy(black_box(&b)));
+            black_box(port::tokens(black_box(&b), 0, &mut out));
+        }),
+        ..original
     }
 }
 

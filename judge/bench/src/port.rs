@@ -80,6 +80,15 @@ pub struct TokenTold {
 
 #[repr(C)]
 #[derive(Clone, Copy, Debug)]
+pub struct TokensTold {
+    pub number: u32,
+    pub place: usize,
+    pub count: usize,
+    pub bytes: usize,
+}
+
+#[repr(C)]
+#[derive(Clone, Copy, Debug)]
 pub struct VerdictTold {
     pub required: bool,
     pub allowed: bool,
@@ -119,6 +128,7 @@ extern "C" {
     fn viscrombal_module(out: *mut ListedTold, file: *const u8, length: usize, rows: *mut u8, room: usize);
     fn viscrombal_name(out: *mut RangeTold, s: *const u8, length: usize, at: usize);
     fn viscrombal_policy(out: *mut PolicyTold, text: *const u8, length: usize);
+    fn viscrombal_tokens(out: *mut TokensTold, text: *const u8, length: usize, domain: usize, cells: *mut u8, room: usize);
     fn viscrombal_check(out: *mut EvaluationTold, file: *const u8, length: usize, text: *const u8, text_length: usize);
 }
 
@@ -197,6 +207,11 @@ pub fn cells(p: &PolicyTold) -> Vec<usize> {
 pub fn token(text: &[u8], cells: &[usize], domain: usize, from: usize) -> TokenTold {
     // SAFETY: as above
     answered(|out| unsafe { judged_token(out, text.as_ptr(), text.len(), cells.as_ptr(), cells.len(), domain, from) })
+}
+
+pub fn tokens(text: &[u8], domain: usize, cells: &mut [u8]) -> TokensTold {
+    // SAFETY: as above
+    answered(|out| unsafe { viscrombal_tokens(out, text.as_ptr(), text.len(), domain, cells.as_mut_ptr(), cells.len()) })
 }
 
 pub fn check(file: &[u8], text: &[u8]) -> EvaluationTold {

@@ -17,6 +17,14 @@ fn again(court: &mut Court, s: &[u8], r: &mut Random) {
     }
 }
 
+/// The tokens of a domain, with exactly the room that they need, a byte less, and more.
+fn tokens(court: &mut Court, s: &[u8], domain: u64, r: &mut Random) {
+    let needed = crate::says::tokens_of(s, domain).map_or(10, |t| 16 * t.len() as u64);
+    for room in [needed, needed.saturating_sub(1), needed + 1 + r.below(40) as u64] {
+        court.hear(Case::new(Call::CTokens, &[room, domain], &[s]));
+    }
+}
+
 const WORDS: [&str; 13] = ["policy ", "default ", "allow ", "deny ", "fs", "net", "allow", "deny", ":", ",", "\n", " ", "#"];
 pub const BLANKS: [&str; 24] = [
     " ", " ", " ", " ", "\t", "\r", "\u{b}", "\u{c}", "\u{1c}", "\u{84}", "\u{85}", "\u{a0}", "\u{1680}", "\u{180e}", "\u{2000}",
@@ -211,6 +219,18 @@ pub fn fixed(court: &mut Court) {
         let s = ("allow fs:".to_string() + &("a".repeat(999) + ",").repeat(66))[..length].to_string();
         text(court, s.as_bytes());
         again(court, s.as_bytes(), r);
+        tokens(court, s.as_bytes(), 0, r);
+        tokens(court, ("deny net:".to_string() + &"b,".repeat(32_768))[..length].as_bytes(), 3, r);
+    }
+    // each domain's list, and numbers that are none's
+    let r = &mut Random::new(7);
+    for list in ["", " a", "a,b", ",,a ,, b c,", "\u{3000}é\u{3000},\u{85}", " ,\t, "] {
+        for slug in SLUGS {
+            let s = format!("deny env: x\nallow {slug}:{list}\n");
+            for domain in (0..9).chain([1 << 32, u64::MAX]) {
+                tokens(court, s.as_bytes(), domain, r);
+            }
+        }
     }
     many_rows(court);
 }
@@ -235,6 +255,7 @@ pub fn seeded(court: &mut Court, r: &mut Random) {
         if r.one_in(3) {
             again(court, s.as_bytes(), r);
         }
+        tokens(court, s.as_bytes(), r.below(8) as u64, r);
         handed(court, &s, r);
         evaluated(court, r);
     }

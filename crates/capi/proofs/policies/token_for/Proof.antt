@@ -1,8 +1,10 @@
 -- `token_for` meets its contract. Assumes nothing.
+use Prim.Native.Nat.{ℕ}
 use mathlib.Core.Path.{sym, _∙_, ap}
 use Rattle.domains.specs.Domain.{found}
 use Rattle.capi.specs.Policies.{tokenTold}
-use Rattle.capi.proofs.Telling.{no-domain, a-domain}
+use Rattle.rewriting.specs.Token.{nextToken}
+use Rattle.rewriting.proofs.Asking.{no-domain, a-domain}
 use borrow.Author.Needs.{needs}
 use Rattle.capi.proofs.policies.token_for.Statement.{statement}
 use Rattle.capi.proofs.policies.token_for.Tie as tie
@@ -10,13 +12,15 @@ use Rattle.capi.proofs.policies.token_for.Tie as tie
 returns : tie.Need-returns
 returns c =
     let k = c .before in
-    c .no-token .ensures ∙ ap tokenTold (no-domain _ _ (sym (ap found (k .enum-told .given .1)) ∙ k .before .before .domain-of .ensures))
+    c .no-token .ensures ∙ ap tokenTold (no-domain _ _ _ (sym (ap found (k .enum-told .given .1)) ∙ k .before .before .domain-of .ensures))
 
 returns-2 : tie.Need-returns-2
 returns-2 c =
     let k = c .before .before .before in
     let d = sym (ap found (k .found .given .1)) ∙ k .before .before .domain-of .ensures in
-    c .token-of .ensures ∙ ap tokenTold (c .before .next-token .ensures ∙ a-domain _ _ _ _ _ d)
+    let g = k .before .before .before .before .args in
+    c .token-of .ensures ∙ ap tokenTold
+    (c .before .next-token .ensures ∙ a-domain _ _ (λ (n : ℕ). nextToken (g .text .now) (g .p) n (g .from)) d)
 
 pub token-for-spec : {M : Type 1} → statement M
 token-for-spec =

@@ -2,7 +2,8 @@
 use lib.ListN.{length}
 use Rattle.policy.specs.declared.Policy.{Policy}
 use Rattle.rewriting.specs.Writer.{written}
-use Rattle.capi.proofs.Telling.{read-stops, read-goes, write-stops, write-goes}
+use Rattle.rewriting.proofs.Asking.{read-stops, read-goes}
+use Rattle.capi.proofs.Telling.{write-stops, write-goes}
 use borrow.Author.Needs.{needs}
 use Rattle.capi.proofs.policies.viscrombal_rewrite.Statement.{statement}
 use Rattle.capi.proofs.policies.viscrombal_rewrite.Tie as tie

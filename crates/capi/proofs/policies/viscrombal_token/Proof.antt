@@ -2,7 +2,7 @@
 use mathlib.Core.Path.{_∙_, ap}
 use Rattle.policy.specs.declared.Policy.{Policy}
 use Rattle.capi.specs.Policies.{tokenTold, tokenAsked}
-use Rattle.capi.proofs.Telling.{read-stops, read-goes}
+use Rattle.rewriting.proofs.Asking.{read-stops, read-goes}
 use borrow.Author.Needs.{needs}
 use Rattle.capi.proofs.policies.viscrombal_token.Statement.{statement}
 use Rattle.capi.proofs.policies.viscrombal_token.Tie as tie

@@ -1,8 +1,7 @@
 -- `next_token` meets its contract. Assumes nothing.
-use Prim.Native.Nat.{_+_}
 use native.Mathlib.Omega.{arith}
 use borrow.Author.Needs.{needs}
-use Rattle.rewriting.proofs.TokenLaws.{clamp-in, list-fits, token-refused, token-given}
+use Rattle.rewriting.proofs.TokenLaws.{list-fits, token-refused, token-given}
 use Rattle.rewriting.proofs.token.next_token.Statement.{statement}
 use Rattle.rewriting.proofs.token.next_token.Tie as tie
 
@@ -21,10 +20,7 @@ token-at-requires c κs =
     let e = k .before in
     let t = e .before .before in
     let a = t .before .before .args in
-    let f = list-fits (a .s .now) (a .p) (a .d) (t .test-policy .ensures) (e .enum-told .given .1) (k .effective .ensures) in
-    let r = k .effective .result in
-    let i = clamp-in (r .from) (r .from + r .len) (a .from) (omega arith) in
-    (omega (arith, i, c .clamped .ensures), f)
+    list-fits (a .s .now) (a .p) (a .d) (t .test-policy .ensures) (e .enum-told .given .1) (k .effective .ensures)
 
 returns : tie.Need-returns
 returns c =

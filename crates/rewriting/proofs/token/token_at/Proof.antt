@@ -1,6 +1,6 @@
 -- `token_at` meets its contract. Assumes nothing.
 use mathlib.Core.Path.{_≡_, refl, sym, ap, _∙_}
-use Prim.Native.Nat.{_+_, _-_, _≤_}
+use Prim.Native.Nat.{_+_, _-_}
 use native.Mathlib.Omega.{arith}
 use borrow.Author.Needs.{needs}
 use Rattle.refusal.specs.Said.{accepted}
@@ -11,14 +11,13 @@ use Rattle.rewriting.proofs.token.token_at.Statement.{statement}
 use Rattle.rewriting.proofs.token.token_at.Tie as tie
 
 abbrev Inv-loop : tie.InvT-loop
-Inv-loop s from end i₀ i =
-    (i ≤ end + 1) × (tokenFrom from 0 (bytesOf s from end) ≡ tokenFrom i 0 (bytesOf s i end))
+Inv-loop s from end i₀ i = tokenFrom from 0 (bytesOf s from end) ≡ tokenFrom i 0 (bytesOf s i end)
 
 abbrev μ-loop : tie.MeasureT-loop
 μ-loop s from end i₀ i = end + 1 - i
 
 loop-holds : tie.Need-loop-holds Inv-loop μ-loop
-loop-holds c = (omega arith, refl)
+loop-holds c = refl
 
 add-comma : tie.Need-add-comma Inv-loop μ-loop
 add-comma c =
@@ -70,7 +69,7 @@ returns c =
     let k = f .find .result in
     ap accepted
     (sym
-    (l .loop .inv .1
+    (l .loop .inv
     ∙ token-found s i (a .end) (omega arith) (omega arith) k (f .find .ensures) (t .trim .result) (t .trim .ensures)
     (c .before .if1 .taken) (c .past .ensures)))
 
@@ -104,17 +103,15 @@ loop-again c =
     let a = l .before .before .args in
     let s = a .s .now in
     let i = l .loop .i in
-    let k = f .find .result in (
-      omega (arith, comma-near s i (a .end) (omega arith) (omega arith) k (f .find .ensures)),
-      l .loop .inv .1 ∙ token-next s i (a .end) (omega arith) (omega arith) k (f .find .ensures) (t .trim .result) (t .trim .ensures)
-          (c .if1 .left),
-    )
+    let k = f .find .result in
+    l .loop .inv ∙ token-next s i (a .end) (omega arith) (omega arith) k (f .find .ensures) (t .trim .result) (t .trim .ensures)
+    (c .if1 .left)
 
 returns-2 : tie.Need-returns-2 Inv-loop μ-loop
 returns-2 c =
     let l = c .before in
     let a = l .before .before .args in
-    ap accepted (sym (l .loop .inv .1 ∙ token-none (a .s .now) (l .loop .i) (a .end) (omega arith)))
+    ap accepted (sym (l .loop .inv ∙ token-none (a .s .now) (l .loop .i) (a .end) (omega arith)))
 
 pub token-at-spec : {M : Type 1} → statement M
 token-at-spec =

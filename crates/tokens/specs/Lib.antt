@@ -1,0 +1,2 @@
+-- What the promise cites.
+pub mod Tokens
