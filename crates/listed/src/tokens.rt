@@ -41,7 +41,7 @@ fn no_tokens(why: Refusal) -> TokensTold
     }
 }
 
-// The tokens of the bytes from `from` to `end`.
+// How many tokens the bytes from `from` to `end` have.
 fn count_tokens(s: &[u8], from: usize, end: usize) -> usize
     ensures { λ r. ⌜ r ≡ length (tokensIn (now (s .entry)) from end) ⌝ }
     ensures { λ r. ⌜ r ≤ end ⌝ }
@@ -57,7 +57,7 @@ fn count_tokens(s: &[u8], from: usize, end: usize) -> usize
     }
 }
 
-// Their ranges, from the start of a buffer that has room for them all.
+// Their ranges at the start of a buffer, which has room for them all.
 fn put_tokens(s: &[u8], from: usize, end: usize, out: &mut [u8])
     requires { ⌜ length (tokensIn (now s) from end) * 16 ≤ length (now out) ⌝ }
     ensures { λ _. ⌜ now (out .exit) ≡ put (now (out .entry)) 0 (tokensBytes (tokensIn (now (s .entry)) from end)) ⌝ }
@@ -74,7 +74,7 @@ fn put_tokens(s: &[u8], from: usize, end: usize, out: &mut [u8])
     }
 }
 
-// The same, where the buffer has room.
+// The same for any buffer: 16 where it has no room.
 fn lay_tokens(s: &[u8], from: usize, end: usize, out: &mut [u8]) -> TokensTold
     requires { ⌜ end ≤ 65536 ⌝ }
     ensures { λ r. ⌜ Lays (tokensBy (length (tokensIn (now (s .entry)) from end)))

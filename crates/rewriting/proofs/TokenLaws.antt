@@ -122,14 +122,6 @@ rule-fits n p d f h = by (slotOf p d .stance) refl
     by Allow e = unfold effectiveOf in rw (e, effectiveOf) (f d h)
     by Deny e = unfold effectiveOf in rw (e, effectiveOf) (f d h)
 
-pub clamp-in : (a e from : ℕ) → a ≤ e → clampTo a e from ≤ e
-clamp-in a e from h = by (ltb from a) (ltb e from) refl
-  where
-    by : (t u : Bool) → ltb e from ≡ u → pick t a (pick u e from) ≤ e
-    by true u q = h
-    by false true q = omega arith
-    by false false q = ltb-false e from q
-
 module _ (s : List ℕ) (p : Policy) (d : Domain) {a : Answer} (said : saidAnswer a ≡ policyTest s p) where
   pub list-fits : a ≡ Answer.Accepted → {r : Rule} → r ≡ effectiveOf p (numberOf d) → r .from + r .len ≤ length s
   list-fits e {r} f =
