@@ -15,7 +15,7 @@ pub struct Case {
 }
 
 /// Name, rounds for a count of instructions (0: too long to be counted), and how it is made.
-pub const CASES: [(&str, u32, fn() -> Case); 31] = [
+pub const CASES: [(&str, u32, fn() -> Case); 32] = [
     ("module: tiny, tables of its size", 1000, || module(inputs::tiny(), Tables::of([2, 1, 1, 0]))),
     ("module: tiny, tables at the limits", 100, || module(inputs::tiny(), Tables::at_limits())),
     ("module: tiny, viscrombal_module", 1000, || listed(inputs::tiny())),
@@ -36,6 +36,7 @@ pub const CASES: [(&str, u32, fn() -> Case); 31] = [
     ("manifest: small", 1000, || manifest(inputs::manifest(), 1, 3)),
     ("manifest: 64 KiB", 20, || manifest(inputs::long_manifest(), 64, 1024)),
     ("check: tiny module, small policy", 100, || check(inputs::tiny(), inputs::policy())),
+    ("check: a code section of 16 MiB, small policy", 100, || check(inputs::code(), inputs::policy())),
     ("check: 1,000 imports, policy of 64 KiB", 10, || check(inputs::surface_1000(), inputs::long_policy())),
     ("UTF-8: 16 MiB of ASCII", 1, || utf8(inputs::text(false))),
     ("UTF-8: 16 MiB, mixed", 1, || utf8(inputs::text(true))),
