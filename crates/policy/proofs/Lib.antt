@@ -5,4 +5,5 @@ pub mod Lines
 pub mod LoopLaws
 pub mod Meaning
 pub mod EightLaws
+pub mod Fitting
 pub mod Known

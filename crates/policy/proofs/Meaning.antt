@@ -131,7 +131,7 @@ module _ (s : List ℕ) where
       (λ e. ruled-in false (beyond 5 c) (part-beyond s 5 c (begins-le denyW (c .bytes) e) q))
       (λ e. w-wrong))))
 
-  directive-in : (p : Piece) → PartOf s p → Within s (directive p)
+  pub directive-in : (p : Piece) → PartOf s p → Within s (directive p)
   unfolding directive spoken core
   directive-in p q =
       choose (eqb (length (core p .bytes)) 0) _ _ (λ e. w-blank)

@@ -4,7 +4,7 @@ use mathlib.Core.List.{map, List, [], _∷_}
 use Prim.Native.Nat.{ℕ, zero, suc, _+_, _≤_}
 use native.Mathlib.Omega.{arith}
 use lib.ListN.{length, getD, length-set}
-use Rattle.refusal.specs.Said.{Said, accepted, refused}
+use Rattle.refusal.specs.Said.{Said, accepted, refused, follow}
 use Rattle.refusal.proofs.Following.{followed}
 use Rattle.refusal.specs.Pick.{pick}
 use Rattle.pieces.specs.Piece.{Piece}
@@ -17,7 +17,11 @@ use Rattle.policy.specs.declared.Slot.{Slot}
 use Rattle.policy.specs.declared.Policy.{Policy}
 use Rattle.pieces.specs.Whole.{wholeText}
 use Rattle.policy.proofs.Meaning.{view, mapSaid, policy-means}
-use Rattle.rewriting.specs.Writer.{form}
+use Rattle.policy.proofs.Fitting.{read-tested}
+use Rattle.verdicts.specs.Evaluate.{effectiveOf}
+use Rattle.writing.specs.Writing.{roomFor}
+use Rattle.rewriting.specs.Token.{tokensIn, allTokens}
+use Rattle.rewriting.specs.Writer.{form, written}
 use Rattle.rewriting.proofs.Trip.{round-trip}
 
 -- ---- THE ROUND TRIP of the port's policies
@@ -92,12 +96,23 @@ says-view s p e =
     rulesAs : List RuleView → View
     rulesAs rs = record { name = pick (p .named) (range s (p .start) (p .size)) noName; permit = p .permit; rules = rs }
 
+-- a policy as the reader gave it is never refused 15: the writer writes it where there is room, and its tokens are listed
+module _ (s : List ℕ) (p : Policy) (is : readPolicy s ≡ accepted p) where
+  pub written-read : (room : ℕ) → written s p room ≡ roomFor (form (says s p)) room
+  unfolding written follow
+  written-read room = rw (read-tested s p is)
+
+  pub listed-read : (d : ℕ)
+      → allTokens s p d ≡ accepted (tokensIn s (effectiveOf p d .from) (effectiveOf p d .from + effectiveOf p d .len))
+  unfolding allTokens follow
+  listed-read d = rw (read-tested s p is)
+
 -- a policy read from a text, written, read again: the same name, default, stances and tokens; and written again the same bytes
 pub record Rewritten (s : List ℕ) (p : Policy) (o : List ℕ) : Type 0 where
   pub policy : Policy
   pub read : readPolicy o ≡ accepted policy
   pub same : says o policy ≡ says s p
-  pub again : form (says o policy) ≡ o
+  pub again : (room : ℕ) → written o policy room ≡ roomFor o room
 
 pub rewriting : (s : List ℕ) (p : Policy) → readPolicy s ≡ accepted p → length (form (says s p)) ≤ 65536 → Rewritten s p (form (says s p))
 rewriting s p e h =
@@ -105,5 +120,11 @@ rewriting s p e h =
     let a : Again s p (form (view s p)) = reread s p e (rw v at h) in
     let o = form (view s p) in
     let w : says o (a .policy) ≡ view o (a .policy) = says-view o (a .policy) (read-seven o (a .policy) (a .read)) in
-    let r : Rewritten s p o = record { policy = a .policy; read = a .read; same = w ∙ a .same ∙ sym v; again = ap form w ∙ a .form } in
+    let r : Rewritten s p o =
+    record {
+      policy = a .policy;
+      read = a .read;
+      same = w ∙ a .same ∙ sym v;
+      again = λ room. written-read o (a .policy) (a .read) room ∙ ap (λ (x : List ℕ). roomFor x room) (ap form w ∙ a .form);
+    } in
     rw v r
