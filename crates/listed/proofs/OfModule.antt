@@ -12,13 +12,13 @@ use Rattle.wasm.specs.declared.Module.{Module}
 use Rattle.conform.specs.Sound.{limits}
 use Rattle.conform.proofs.Found.{Found, sections-in, imports-in, exports-in, names-in}
 use Rattle.conform.proofs.Found.{sections-taken, imports-taken, exports-taken, names-taken}
-use Rattle.conform.proofs.Larger.{larger-sure, limits-largest}
+use Rattle.conform.proofs.Larger.{larger-sure, limits-largest, limits-decide, refused-same}
 use Rattle.checking.specs.Checking.{few}
 use Rattle.writing.specs.Writing.{roomFor, left}
 use Rattle.listed.specs.declared.modules.ModuleTold.{ModuleTold}
 use Rattle.listed.specs.Delivered.{housed, Lays, Delivers}
-use Rattle.listed.specs.Modules.{moduleBy, moduleBytes, moduleTold, takenBytes, Within, Counted}
-use Rattle.listed.proofs.Laying.{delivers}
+use Rattle.listed.specs.Modules.{noModule, moduleBy, moduleBytes, moduleTold, takenBytes, Within, Counted}
+use Rattle.listed.proofs.Laying.{delivers, delivers-none}
 
 -- ---- a module that was read
 module _ {file : List ℕ} {z : Sizes} {l : Lent} {m : Module} (q : Found file z l m) where
@@ -38,6 +38,20 @@ module _ {file : List ℕ} {z : Sizes} {l : Lent} {m : Module} (q : Found file z
       delivers moduleBytes (moduleTold (length file)) (moduleBy m) (q .what) (q .first)
       (ap (λ (v : Module). moduleBy v (accepted (length (moduleBytes (q .what))))) (q .is)) (λ n p. refl)
       (subst (λ (w : List ℕ). Lays (moduleBy m) (roomFor w (length d)) d r y) same-bytes k)
+
+  -- what is read with any tables is read with those at the limits
+  pub module-settled : {d y : List ℕ} {r : ModuleTold}
+      → Lays (moduleBy m) (roomFor (takenBytes m (l .sections) (l .imports) (l .exports) (l .names)) (length d)) d r y
+      → Delivers moduleBytes (moduleTold (length file)) (moduleAt file limits) d r y
+  module-settled {d} {y} {r} k =
+      subst (λ (x : Said Parsed). Delivers moduleBytes (moduleTold (length file)) x d r y)
+      (q .first ∙ sym (limits-decide file z (q .what) (q .first))) (module-delivered k)
+
+-- what is refused with any tables, but for want of room, is refused with those at the limits
+pub refusal-settled : (file : List ℕ) (z : Sizes) {n p : ℕ} {d : List ℕ} {r : ModuleTold} → moduleAt file z ≡ refused n p
+    → (n ≡ 13 → ⊥) → r ≡ noModule n p → Delivers moduleBytes (moduleTold (length file)) (moduleAt file limits) d r d
+refusal-settled file z {n} {p} e other k =
+    delivers-none moduleBytes (moduleTold (length file)) (refused-same file z limits n p (limits-largest z) other e) k
 
 -- ---- tables for few rows: what is not refused for want of room is the answer, and what is leaves the buffer as it was
 module _ (file : List ℕ) {d y : List ℕ} {r : ModuleTold} (h : Delivers moduleBytes (moduleTold (length file)) (moduleAt file few) d r y) where

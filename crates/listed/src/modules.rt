@@ -158,8 +158,8 @@ fn list_all(file: &[u8], out: &mut [u8]) -> ModuleTold
     )
 }
 
-// What the reader refuses with tables at the limits, then 16. Tables for few rows come first: those are cleared in no time.
-pub fn list_module(file: &[u8], out: &mut [u8]) -> ModuleTold
+// Tables for few rows, 16 to a table, and those at the limits where these are full.
+fn list_more(file: &[u8], out: &mut [u8]) -> ModuleTold
     ensures { λ r. ⌜ Delivers moduleBytes (moduleTold (length (now (file .entry)))) (moduleAt (now (file .entry)) limits)
         (now (out .entry)) r (now (out .exit)) ⌝ }
 {
@@ -168,4 +168,36 @@ pub fn list_module(file: &[u8], out: &mut [u8]) -> ModuleTold
         return list_all(file, out);
     }
     first
+}
+
+// Tables for the smallest modules, and more where these are full. A function that calls itself is not merged with the ones that it
+// calls: so the pages of larger tables are not touched where they are not used.
+fn list_from(file: &[u8], more: bool, out: &mut [u8]) -> ModuleTold
+    ensures { λ r. ⌜ Delivers moduleBytes (moduleTold (length (now (file .entry)))) (moduleAt (now (file .entry)) limits)
+        (now (out .entry)) r (now (out .exit)) ⌝ }
+{
+    if more {
+        return list_more(file, out);
+    }
+    let mut sections = [0usize; 40];
+    let mut imports = [0usize; 20];
+    let mut exports = [0usize; 16];
+    let mut names = [0usize; 0];
+    match wasm::read_module(file, &mut sections, &mut imports, &mut exports, &mut names) {
+        ModuleRead::Module(m) => lay_module(m, &sections, &imports, &exports, &names, out),
+        ModuleRead::Refused(why) => {
+            if refusal::number(why) == 13 {
+                return list_from(file, true, out);
+            }
+            no_module(why)
+        }
+    }
+}
+
+// What the reader refuses with tables at the limits, then 16. Small tables come first: those are cleared in no time.
+pub fn list_module(file: &[u8], out: &mut [u8]) -> ModuleTold
+    ensures { λ r. ⌜ Delivers moduleBytes (moduleTold (length (now (file .entry)))) (moduleAt (now (file .entry)) limits)
+        (now (out .entry)) r (now (out .exit)) ⌝ }
+{
+    list_from(file, false, out)
 }

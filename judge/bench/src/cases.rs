@@ -15,20 +15,24 @@ pub struct Case {
 }
 
 /// Name, rounds for a count of instructions (0: too long to be counted), and how it is made.
-pub const CASES: [(&str, u32, fn() -> Case); 32] = [
+pub const CASES: [(&str, u32, fn() -> Case); 38] = [
     ("module: tiny, tables of its size", 1000, || module(inputs::tiny(), Tables::of([2, 1, 1, 0]))),
     ("module: tiny, tables at the limits", 100, || module(inputs::tiny(), Tables::at_limits())),
     ("module: tiny, viscrombal_module", 1000, || listed(inputs::tiny())),
     ("module: a code section of 16 MiB, a table of its size", 1000, || module(inputs::code(), Tables::of([1, 0, 0, 0]))),
     ("module: a code section of 16 MiB, tables at the limits", 100, || module(inputs::code(), Tables::at_limits())),
     ("module: a code section of 16 MiB, viscrombal_module", 1000, || listed(inputs::code())),
+    ("module: 256 sections, a table of its size", 100, || module(inputs::sections(), Tables::of([256, 0, 0, 0]))),
     ("module: 256 sections", 100, || module(inputs::sections(), Tables::at_limits())),
     ("module: 256 sections, viscrombal_module", 100, || listed(inputs::sections())),
+    ("module: 1,000 imports, 1,000 exports, tables of its size", 20, || module(inputs::surface_1000(), Tables::of([2, 1000, 1000, 0]))),
     ("module: 1,000 imports, 1,000 exports", 20, || module(inputs::surface_1000(), Tables::at_limits())),
     ("module: 1,000 imports, 1,000 exports, viscrombal_module", 20, || listed(inputs::surface_1000())),
+    ("module: 4,000 function names, tables of its size", 20, || module(inputs::symbols(), Tables::of([1, 0, 0, 4000]))),
     ("module: 4,000 function names", 20, || module(inputs::symbols(), Tables::at_limits())),
     ("module: 4,000 function names, viscrombal_module", 20, || listed(inputs::symbols())),
     ("module: 1,000 imports of 16 KiB, mixed UTF-8", 1, || module(inputs::long_names(), Tables::at_limits())),
+    ("module: a sample, viscrombal_module", 1000, || listed(inputs::sample(0))),
     ("policy: small", 1000, || policy(inputs::policy())),
     ("policy: 64 KiB", 20, || policy(inputs::long_policy())),
     ("policy: 64 KiB, 32,760 tokens asked for one by one", 0, || tokens(inputs::token_policy())),
@@ -36,10 +40,12 @@ pub const CASES: [(&str, u32, fn() -> Case); 32] = [
     ("manifest: small", 1000, || manifest(inputs::manifest(), 1, 3)),
     ("manifest: 64 KiB", 20, || manifest(inputs::long_manifest(), 64, 1024)),
     ("check: tiny module, small policy", 100, || check(inputs::tiny(), inputs::policy())),
+    ("check: a sample, its policy", 100, || check(inputs::sample(0), inputs::sample_policy())),
     ("check: a code section of 16 MiB, small policy", 100, || check(inputs::code(), inputs::policy())),
     ("check: 1,000 imports, policy of 64 KiB", 10, || check(inputs::surface_1000(), inputs::long_policy())),
     ("UTF-8: 16 MiB of ASCII", 1, || utf8(inputs::text(false))),
     ("UTF-8: 16 MiB, mixed", 1, || utf8(inputs::text(true))),
+    ("compare: two samples, viscrombal_compare", 100, || compare_files(inputs::sample(0), inputs::sample(1))),
     ("compare: 1,000 + 1,000, equal", 2, || compare(inputs::build(0), inputs::build(0))),
     ("compare: 1,000 + 1,000, a tenth differs", 2, || compare(inputs::build(0), inputs::build(10))),
     ("compare: 1,000 + 1,000, all differ", 2, || compare(inputs::build(0), inputs::build(1))),
@@ -373,3 +379,32 @@ fn compare(baseline: Vec<u8>, candidate: Vec<u8>) -> Case {
         }),
     }
 }
+
+/// Over the C interface: both files are read, and the reasons are written.
+fn compare_files(baseline: Vec<u8>, candidate: Vec<u8>) -> Case {
+    let (a, b) = ([baseline.clone(), candidate.clone()], [baseline.clone(), candidate.clone()]);
+    let read = |f: &[u8]| wasm::parse(f).unwrap();
+    let of = move |f: &[Vec<u8>; 2]| {
+        let c = compat::compare_modules(&read(&f[0]), "baseline", &read(&f[1]), "candidate");
+        (c.is_compatible(), c.export_diffs.len(), c.capability_diffs.len(), c.breaking_reasons())
+    };
+    let mut out = vec![0; ROOM];
+    Case {
+        said: Box::new(move || {
+            let mut out = vec![0; ROOM];
+            let r = port::compare_files(&baseline, &candidate, &mut out);
+            assert_eq!((r.number, r.place), (0, 0));
+            let reasons = String::from_utf8(out[r.bytes - r.reasons..r.bytes].to_vec()).unwrap();
+            let (fine, exports, needs, all) = of(&[baseline.clone(), candidate.clone()]);
+            let lines: String = all.iter().map(|line| format!("{line}\n")).collect();
+            [format!("{fine} {exports} {needs} {lines}"), format!("{} {} {} {reasons}", r.compatible, r.exports, r.capabilities)]
+        }),
+        original: Box::new(move || drop(black_box(of(black_box(&a))))),
+        port: Box::new(move || {
+            black_box(port::compare_files(black_box(&b[0]), black_box(&b[1]), &mut out));
+        }),
+    }
+}
+
+/// Room for the differences of two samples.
+const ROOM: usize = 4096;

@@ -50,6 +50,16 @@ pub fn tiny() -> Vec<u8> {
     surface(&[("wasi_snapshot_preview1".into(), "fd_write".into())], &["_start".into()])
 }
 
+/// Two builds of one layer, as clang makes them: samples/ has their source.
+pub fn sample(build: usize) -> Vec<u8> {
+    let builds: [&[u8]; 2] = [include_bytes!("../../../samples/contours-1.wasm"), include_bytes!("../../../samples/contours-2.wasm")];
+    builds[build].to_vec()
+}
+
+pub fn sample_policy() -> Vec<u8> {
+    include_bytes!("../../../samples/portal.policy").to_vec()
+}
+
 /// One code section that makes the file as long as a file may be.
 pub fn code() -> Vec<u8> {
     let file = module(&[section(10, &vec![0x0b; LONGEST_FILE - 8 - 5])]);

@@ -116,6 +116,18 @@ pub struct ComparedTold {
     pub compatible: bool,
 }
 
+#[repr(C)]
+#[derive(Clone, Copy, Debug)]
+pub struct ComparisonTold {
+    pub number: u32,
+    pub place: usize,
+    pub exports: usize,
+    pub capabilities: usize,
+    pub compatible: bool,
+    pub reasons: usize,
+    pub bytes: usize,
+}
+
 #[rustfmt::skip]
 extern "C" {
     fn judged_module(out: *mut ModuleTold, file: *const u8, length: usize, sections: *mut usize, n1: usize, imports: *mut usize, n2: usize,
@@ -129,6 +141,7 @@ extern "C" {
     fn viscrombal_name(out: *mut RangeTold, s: *const u8, length: usize, at: usize);
     fn viscrombal_policy(out: *mut PolicyTold, text: *const u8, length: usize);
     fn viscrombal_tokens(out: *mut TokensTold, text: *const u8, length: usize, domain: usize, cells: *mut u8, room: usize);
+    fn viscrombal_compare(out: *mut ComparisonTold, baseline: *const u8, length: usize, candidate: *const u8, candidate_length: usize, rows: *mut u8, room: usize);
     fn viscrombal_check(out: *mut EvaluationTold, file: *const u8, length: usize, text: *const u8, text_length: usize);
 }
 
@@ -237,5 +250,14 @@ pub fn compare(b: &Given, c: &Given, xd: &mut [usize], cd: &mut [usize]) -> Comp
             c.file.as_ptr(), c.file.len(), c.imports.as_ptr(), c.imports.len(), c.exports.as_ptr(), c.exports.len(),
             xd.as_mut_ptr(), xd.len(), cd.as_mut_ptr(), cd.len(), b.n, b.m, c.n, c.m,
         )
+    })
+}
+
+/// The differences' rows, eight bytes a cell, then the reasons, in one buffer.
+#[rustfmt::skip]
+pub fn compare_files(baseline: &[u8], candidate: &[u8], out: &mut [u8]) -> ComparisonTold {
+    // SAFETY: as above
+    answered(|told| unsafe {
+        viscrombal_compare(told, baseline.as_ptr(), baseline.len(), candidate.as_ptr(), candidate.len(), out.as_mut_ptr(), out.len())
     })
 }

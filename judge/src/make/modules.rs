@@ -227,20 +227,22 @@ fn around(rooms: [usize; 3], mut f: impl FnMut(&[u8])) {
     }
 }
 
-/// Around the tables for few rows, which the calls over the C interface begin with.
+/// Around the small tables which the calls over the C interface begin with.
 fn few(court: &mut Court) {
     let mut hear = |file: &[u8]| {
-        for room in [0, 639, 640, 2_000] {
+        for room in [0, 159, 160, 639, 640, 2_000] {
             court.hear(Case::new(Call::CModule, &[room], &[file]));
         }
         for policy in [&b""[..], b"default allow", b"bogus"] {
             court.hear(Case::new(Call::Check, &[], &[file, policy]));
         }
     };
-    around([16, 16, 8], &mut hear);
-    for n in 15..=17 {
-        for after in [&b""[..], b"\x01", b"\x02\x01", b"\x02\x00"] {
-            hear(&sections(n, after));
+    for (rooms, many) in [([4, 4, 0], 8), ([16, 16, 8], 16)] {
+        around(rooms, &mut hear);
+        for n in many - 1..=many + 1 {
+            for after in [&b""[..], b"\x01", b"\x02\x01", b"\x02\x00"] {
+                hear(&sections(n, after));
+            }
         }
     }
 }

@@ -1,4 +1,5 @@
 -- `lay_tokens` meets its contract. Assumes nothing.
+use native.Mathlib.Omega.{arith}
 use mathlib.Core.Path.{refl}
 use borrow.Author.Needs.{needs}
 use Rattle.tokens.proofs.Listing.{tokens-full, tokens-laid}
@@ -8,7 +9,7 @@ use Rattle.tokens.proofs.lay_tokens.Tie as tie
 returns : tie.Need-returns
 returns c =
     let k = c .before .before in
-    tokens-full _ _ (k .count-tokens .ensures .0) refl (c .before .if1 .taken) (c .no-tokens .ensures)
+    tokens-full _ _ (k .count-tokens .ensures .0) refl (omega arith) (c .no-tokens .ensures)
 
 returns-2 : tie.Need-returns-2
 returns-2 c =
