@@ -349,20 +349,25 @@ fn compared_says(c: &compat::Compatibility) -> String {
     [c.is_compatible().to_string()].into_iter().chain(exports).chain(needs).collect::<Vec<_>>().join("\n")
 }
 
-fn port_compared_says(sides: &[Read; 2]) -> String {
-    let (mut xd, mut cd) = (vec![usize::MAX; 4096], vec![usize::MAX; 6144]);
-    let r = port::compare(&sides[0].given(), &sides[1].given(), &mut xd, &mut cd);
-    assert_eq!((r.number, r.place), (0, 0));
-    let exports = xd.chunks_exact(2).take(r.exports).map(|d| {
+/// The rows of tables 8 and 9.
+fn rows_say(sides: &[Read; 2], compatible: bool, xd: &[usize], cd: &[usize]) -> String {
+    let exports = xd.chunks_exact(2).map(|d| {
         let (side, row) = (&sides[d[0]], sides[d[0]].row(2, d[1]));
         assert_eq!(row[2], 0);
         format!("{} func {}", d[0], part(&side.file, row[0], row[1]))
     });
-    let needs = cd.chunks_exact(3).take(r.capabilities).map(|d| {
+    let needs = cd.chunks_exact(3).map(|d| {
         let (side, row) = (&sides[d[0]], sides[d[0]].row(1, d[2]));
         format!("{} {} {}", d[0], d[1], part(&side.file, row[0], row[1]))
     });
-    [r.compatible.to_string()].into_iter().chain(exports).chain(needs).collect::<Vec<_>>().join("\n")
+    [compatible.to_string()].into_iter().chain(exports).chain(needs).collect::<Vec<_>>().join("\n")
+}
+
+fn port_compared_says(sides: &[Read; 2]) -> String {
+    let (mut xd, mut cd) = (vec![usize::MAX; 4096], vec![usize::MAX; 6144]);
+    let r = port::compare(&sides[0].given(), &sides[1].given(), &mut xd, &mut cd);
+    assert_eq!((r.number, r.place), (0, 0));
+    rows_say(sides, r.compatible, &xd[..2 * r.exports], &cd[..3 * r.capabilities])
 }
 
 fn compare(baseline: Vec<u8>, candidate: Vec<u8>) -> Case {
@@ -383,10 +388,11 @@ fn compare(baseline: Vec<u8>, candidate: Vec<u8>) -> Case {
 /// Over the C interface: both files are read, and the reasons are written.
 fn compare_files(baseline: Vec<u8>, candidate: Vec<u8>) -> Case {
     let (a, b) = ([baseline.clone(), candidate.clone()], [baseline.clone(), candidate.clone()]);
-    let read = |f: &[u8]| wasm::parse(f).unwrap();
-    let of = move |f: &[Vec<u8>; 2]| {
-        let c = compat::compare_modules(&read(&f[0]), "baseline", &read(&f[1]), "candidate");
-        (c.is_compatible(), c.export_diffs.len(), c.capability_diffs.len(), c.breaking_reasons())
+    let of = |f: &[Vec<u8>; 2]| {
+        let read = |i: usize| wasm::parse(&f[i]).unwrap();
+        let c = compat::compare_modules(&read(0), "baseline", &read(1), "candidate");
+        let reasons = c.breaking_reasons();
+        (c, reasons)
     };
     let mut out = vec![0; ROOM];
     Case {
@@ -394,10 +400,14 @@ fn compare_files(baseline: Vec<u8>, candidate: Vec<u8>) -> Case {
             let mut out = vec![0; ROOM];
             let r = port::compare_files(&baseline, &candidate, &mut out);
             assert_eq!((r.number, r.place), (0, 0));
-            let reasons = String::from_utf8(out[r.bytes - r.reasons..r.bytes].to_vec()).unwrap();
-            let (fine, exports, needs, all) = of(&[baseline.clone(), candidate.clone()]);
+            let (rows, reasons) = out[..r.bytes].split_at(r.bytes - r.reasons);
+            let cells: Vec<usize> = rows.chunks_exact(8).map(|c| u64::from_le_bytes(c.try_into().unwrap()) as usize).collect();
+            let (xd, cd) = cells.split_at(2 * r.exports);
+            assert_eq!(cd.len(), 3 * r.capabilities);
+            let (c, all) = of(&[baseline.clone(), candidate.clone()]);
             let lines: String = all.iter().map(|line| format!("{line}\n")).collect();
-            [format!("{fine} {exports} {needs} {lines}"), format!("{} {} {} {reasons}", r.compatible, r.exports, r.capabilities)]
+            let told = rows_say(&[read(baseline.clone()), read(candidate.clone())], r.compatible, xd, cd);
+            [format!("{}\n{lines}", compared_says(&c)), format!("{told}\n{}", String::from_utf8(reasons.to_vec()).unwrap())]
         }),
         original: Box::new(move || drop(black_box(of(black_box(&a))))),
         port: Box::new(move || {
