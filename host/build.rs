@@ -10,7 +10,7 @@ fn main() {
     println!("cargo:rerun-if-env-changed=VISCROMBAL_ARCHIVE");
     println!("cargo:rerun-if-changed={}", archive.display());
     if !archive.is_file() {
-        eprintln!("no archive {}: run 'rt staticlib capi', or name its folder by VISCROMBAL_ARCHIVE", archive.display());
+        eprintln!("no archive {}: run 'rt staticlib capi', or name its folder by VISCROMBAL_ARCHIVE, as ../proved", archive.display());
         process::exit(1);
     }
     println!("cargo:rustc-link-search=native={}", folder.display());

@@ -1,4 +1,4 @@
-/* The calls of crate judged, which only the comparison drives: tables of any size, policies of any ranges (25 cells). */
+/* The calls of crate judged, which only the comparison and the records drive: tables of any size, policies of any ranges (25 cells). */
 #ifndef JUDGED_H
 #define JUDGED_H
 
@@ -84,6 +84,13 @@ struct judged_name_told judged_kind(uint8_t b, size_t k);
 uint8_t judged_kind_byte(uint8_t b);
 struct judged_name_told judged_section(uint8_t id, size_t k);
 struct judged_name_told judged_change(size_t change, size_t k);
+struct judged_name_told judged_domain(size_t domain, size_t k);
+size_t judged_slug(const uint8_t *word, size_t n);
+struct judged_rule_told {
+    bool allow;
+    size_t from, len;
+};
+struct judged_rule_told judged_effective(const size_t *policy, size_t cells, size_t domain);
 size_t judged_import(const uint8_t *source, size_t n, const uint8_t *field, size_t m);
 size_t judged_path(const uint8_t *path, size_t n);
 

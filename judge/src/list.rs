@@ -1,4 +1,4 @@
-//! The fixed list: cases on which both agree, as records of the programs that run worked cases (their data folders say how a record is read).
+//! The fixed list: cases on which both agree, as records (records/README.md says how a record is read).
 use crate::case::{hex, Answer, Call, Case};
 use std::collections::HashMap;
 

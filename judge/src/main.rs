@@ -23,7 +23,7 @@ const USAGE: &str = "usage: judge run [--seed N] [--long SECONDS]     the fixed 
        judge one CALL NUMBERS STRINGS             one case, as a disagreement prints it
        judge strip < FILE.rt                      a file of Rattle as Rust, unproved
        judge apart [policy] < FILE                the original alone on a module or a policy, in this process
-       judge list [comparisons]                   the fixed list of answers, as records of worked cases
+       judge list [comparisons]                   the fixed list of answers, as records of records/
        judge vectors FOLDER                       the modules below a folder
        judge mistakes LIST; judge plant LIST N CRATES    for tools/teeth
 VISCROMBAL_PORT is the command of the port's process.";

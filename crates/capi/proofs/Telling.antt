@@ -1,56 +1,28 @@
 -- The answers in structs of numbers, from the promises of the calls. Assumes nothing.
 use Prim.Native.Nat.{ℕ}
-use mathlib.Core.Bool.{true, false}
-use mathlib.Core.Path.{_≡_, refl, sym, _∙_, ap, subst}
+use mathlib.Core.Path.{_≡_, _∙_, ap}
 use mathlib.Core.List.{List}
-use lib.ListN.{length}
 use Rattle.refusal.specs.Said.{Said, accepted, refused, saidAnswer, saidWritten}
-use Rattle.refusal.proofs.Following.{never}
-use Rattle.refusal.specs.declared.Answer.{Answer}
 use Rattle.refusal.specs.declared.Written.{Written}
-use Rattle.policy.specs.Reader.{ReadAs}
-use Rattle.verdicts.specs.Evaluate.{Outcome, compliant, acceptedAs, noOutcome, EvaluatedAs}
+use Rattle.policy.specs.Reader.{PolicyReadAs}
 use Rattle.policy.specs.declared.Policy.{Policy}
 use Rattle.policy.specs.declared.PolicyRead.{PolicyRead}
-use Rattle.verdicts.specs.declared.Evaluation.{Evaluation}
-use Rattle.writing.specs.Writing.{Told, counted, left}
-use Rattle.rewriting.specs.Writer.{Writes, written}
-use Rattle.capi.specs.declared.policies.WrittenTold.{WrittenTold}
-use Rattle.capi.specs.Check.{judgedAs, evaluationTold}
-use Rattle.capi.specs.Policies.{numberIn, placeIn, shown, policyTold, writtenTold, WriteTells}
+use Rattle.output.specs.Bytes.{WriterTells, writtenCount, left}
+use Rattle.policy_text.specs.Writer.{written}
+use Rattle.told.specs.declared.policies.WrittenTold.{WrittenTold}
+use Rattle.told.specs.Policies.{numberIn, placeIn, writtenTold, WriteTells}
+use Rattle.capi.specs.Policies.{policyShown, policyTold}
 
-pub policy-told : (d : Said Policy) (r : PolicyRead) → ReadAs d r
-    → shown (numberIn (saidAnswer (r .answer))) (placeIn (saidAnswer (r .answer))) (r .policy) ≡ policyTold d
+pub policy-told : (d : Said Policy) (r : PolicyRead) → PolicyReadAs d r
+    → policyShown (numberIn (saidAnswer (r .answer))) (placeIn (saidAnswer (r .answer))) (r .policy) ≡ policyTold d
 policy-told (accepted v) r h = rw (h .answer, h .policy)
 policy-told (refused n k) r h = rw (h .answer, h .policy)
-
-pub write-told : (s : List ℕ) (p q : Policy) {d x : List ℕ} {r : Written} {t : WrittenTold} → p ≡ q → Writes s p d r x
-    → t ≡ writtenTold (saidWritten r) → WriteTells (written s q (length d)) d t x
-write-told s p q {d} {x} {r} e w h =
-    let v = subst (λ (z : Policy). Writes s z d r x) e w in
-    record { answer-is = h ∙ ap writtenTold (v .answer); output-is = v .output }
 
 -- what follows a policy that was read, for bytes that are written
 module _ {o : Said (List ℕ)} {b : List ℕ} {t : WrittenTold} where
   pub write-stops : {n p : ℕ} → refused n p ≡ o → t ≡ writtenTold (refused n p) → WriteTells o b t b
-  write-stops e h = record { answer-is = h ∙ ap (λ (x : Said (List ℕ)). writtenTold (counted x)) e; output-is = ap (left b) e }
+  write-stops e h = record { answer-is = h ∙ ap (λ (x : Said (List ℕ)). writtenTold (writtenCount x)) e; output-is = ap (left b) e }
 
-  pub write-goes : {q : Said (List ℕ)} {x : List ℕ} {r : Written} → q ≡ o → Told q b r x
+  pub write-goes : {q : Said (List ℕ)} {x : List ℕ} {r : Written} → q ≡ o → WriterTells q b r x
       → t ≡ writtenTold (saidWritten r) → WriteTells o b t x
-  write-goes e w h = record { answer-is = h ∙ ap writtenTold (w .answer ∙ ap counted e); output-is = w .output ∙ ap (left b) e }
-
--- an answer is an acceptance, or is none
-accepted-as : (a : Answer) → saidAnswer a ≡ accepted tt → acceptedAs a ≡ true
-accepted-as Answer.Accepted e = refl
-accepted-as (Answer.Refused w) e = absurd (never e)
-
-refused-as : (a : Answer) {n p : ℕ} → saidAnswer a ≡ refused n p → acceptedAs a ≡ false
-refused-as Answer.Accepted e = absurd (never (sym e))
-refused-as (Answer.Refused w) e = refl
-
-pub evaluation : (d : Said Outcome) (e : Evaluation) → EvaluatedAs d e
-    → judgedAs (numberIn (saidAnswer (e .answer))) (placeIn (saidAnswer (e .answer))) (e .verdicts) (e .set) (e .count) (compliant e)
-    ≡ evaluationTold d
-unfolding compliant noOutcome
-evaluation (accepted o) e h = rw (h .answer, h .verdicts, h .set, h .count, accepted-as (e .answer) (h .answer))
-evaluation (refused n p) e h = rw (h .answer, h .verdicts, h .set, h .count, refused-as (e .answer) (h .answer))
+  write-goes e w h = record { answer-is = h ∙ ap writtenTold (w .answer ∙ ap writtenCount e); output-is = w .output ∙ ap (left b) e }

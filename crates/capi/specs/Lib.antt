@@ -1,4 +1,3 @@
 -- What each call of the C interface answers.
 pub mod Reading
 pub mod Policies
-pub mod Check

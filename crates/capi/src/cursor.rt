@@ -1,22 +1,16 @@
 // leb.rs over the C interface: a read at an offset of a slice.
 use leb::Cursor;
 use leb::I64Read;
-use leb::PartRead;
-use leb::U32Read;
 use leb::U64Read;
+use told::cursor::Range;
+use told::cursor::Unsigned;
+use told::cursor::narrow_of;
+use told::cursor::range_of;
 ghost use mathlib.Core.Path.{_≡_};
-ghost use Rattle.leb.specs.Answers.{heard, saidU32, saidU64, saidI64, saidPart};
+ghost use Rattle.leb.specs.Answers.{findingOf, saidU64, saidI64};
 ghost use Rattle.leb.specs.Reads.{ulebAt, u32At, slebAt, nameAt};
-ghost use Rattle.capi.specs.Reading.{unsignedOf, signedOf, rangeOf};
-
-// What a read answers: number and place, then the value and the offset after it, all zero on a refusal.
-#[repr(C)]
-pub struct Unsigned {
-    pub number: u32,
-    pub place: usize,
-    pub value: u64,
-    pub next: usize,
-}
+ghost use Rattle.told.specs.Reading.{unsignedTold, rangeTold};
+ghost use Rattle.capi.specs.Reading.{signedTold};
 
 #[repr(C)]
 pub struct Signed {
@@ -26,17 +20,8 @@ pub struct Signed {
     pub next: usize,
 }
 
-#[repr(C)]
-pub struct Range {
-    pub number: u32,
-    pub place: usize,
-    pub from: usize,
-    pub len: usize,
-    pub next: usize,
-}
-
 fn unsigned_of(r: U64Read) -> Unsigned
-    ensures { λ x. ⌜ x ≡ unsignedOf (heard (saidU64 r)) ⌝ }
+    ensures { λ x. ⌜ x ≡ unsignedTold (findingOf (saidU64 r)) ⌝ }
 {
     match r {
         U64Read::Read(value, next) => Unsigned {
@@ -54,27 +39,8 @@ fn unsigned_of(r: U64Read) -> Unsigned
     }
 }
 
-fn narrow_of(r: U32Read) -> Unsigned
-    ensures { λ x. ⌜ x ≡ unsignedOf (heard (saidU32 r)) ⌝ }
-{
-    match r {
-        U32Read::Read(value, next) => Unsigned {
-            number: 0,
-            place: 0,
-            value: value as u64,
-            next: next.at,
-        },
-        U32Read::Refused(why, _) => Unsigned {
-            number: refusal::number(why),
-            place: refusal::place(why),
-            value: 0,
-            next: 0,
-        },
-    }
-}
-
 fn signed_of(r: I64Read) -> Signed
-    ensures { λ x. ⌜ x ≡ signedOf (heard (saidI64 r)) ⌝ }
+    ensures { λ x. ⌜ x ≡ signedTold (findingOf (saidI64 r)) ⌝ }
 {
     match r {
         I64Read::Read(value, next) => Signed {
@@ -92,30 +58,9 @@ fn signed_of(r: I64Read) -> Signed
     }
 }
 
-fn range_of(r: PartRead) -> Range
-    ensures { λ x. ⌜ x ≡ rangeOf (heard (saidPart r)) ⌝ }
-{
-    match r {
-        PartRead::Read(part, next) => Range {
-            number: 0,
-            place: 0,
-            from: part.from,
-            len: part.len,
-            next: next.at,
-        },
-        PartRead::Refused(why, _) => Range {
-            number: refusal::number(why),
-            place: refusal::place(why),
-            from: 0,
-            len: 0,
-            next: 0,
-        },
-    }
-}
-
 #[no_mangle]
 pub extern "C" fn viscrombal_uleb128(s: &[u8], at: usize) -> Unsigned
-    ensures { λ r. ⌜ r ≡ unsignedOf (ulebAt (now (s .entry)) at) ⌝ }
+    ensures { λ r. ⌜ r ≡ unsignedTold (ulebAt (now (s .entry)) at) ⌝ }
 {
     let c = Cursor { at };
     unsigned_of(c.uleb128(s))
@@ -123,7 +68,7 @@ pub extern "C" fn viscrombal_uleb128(s: &[u8], at: usize) -> Unsigned
 
 #[no_mangle]
 pub extern "C" fn viscrombal_uleb128_u32(s: &[u8], at: usize) -> Unsigned
-    ensures { λ r. ⌜ r ≡ unsignedOf (u32At (now (s .entry)) at) ⌝ }
+    ensures { λ r. ⌜ r ≡ unsignedTold (u32At (now (s .entry)) at) ⌝ }
 {
     let c = Cursor { at };
     narrow_of(c.uleb128_u32(s))
@@ -131,7 +76,7 @@ pub extern "C" fn viscrombal_uleb128_u32(s: &[u8], at: usize) -> Unsigned
 
 #[no_mangle]
 pub extern "C" fn viscrombal_sleb128(s: &[u8], at: usize) -> Signed
-    ensures { λ r. ⌜ r ≡ signedOf (slebAt (now (s .entry)) at) ⌝ }
+    ensures { λ r. ⌜ r ≡ signedTold (slebAt (now (s .entry)) at) ⌝ }
 {
     let c = Cursor { at };
     signed_of(c.sleb128(s))
@@ -139,7 +84,7 @@ pub extern "C" fn viscrombal_sleb128(s: &[u8], at: usize) -> Signed
 
 #[no_mangle]
 pub extern "C" fn viscrombal_name(s: &[u8], at: usize) -> Range
-    ensures { λ r. ⌜ r ≡ rangeOf (nameAt (now (s .entry)) at) ⌝ }
+    ensures { λ r. ⌜ r ≡ rangeTold (nameAt (now (s .entry)) at) ⌝ }
 {
     let c = Cursor { at };
     range_of(c.name(s))

@@ -2,7 +2,7 @@
 use listed::comparison::ComparisonTold;
 use listed::manifests::ManifestTold;
 use listed::modules::ModuleTold;
-use tokens::TokensTold;
+use listed::tokens::TokensTold;
 ghost use lib.ListN.{length};
 ghost use Rattle.wasm.specs.Module.{moduleAt};
 ghost use Rattle.conform.specs.Sound.{limits};
@@ -10,7 +10,7 @@ ghost use Rattle.listed.specs.Comparisons.{comparisonBytes, comparisonTold, com
 ghost use Rattle.listed.specs.Delivered.{Delivers};
 ghost use Rattle.listed.specs.Modules.{moduleBytes, moduleTold};
 ghost use Rattle.listed.specs.Manifests.{manifestBytes, manifestTold, manifestListed};
-ghost use Rattle.tokens.specs.Tokens.{tokensBytes, tokensTold, tokensRead};
+ghost use Rattle.listed.specs.Tokens.{tokensBytes, tokensTold, tokensRead};
 
 // A module's file: the rows of tables 1 to 4, eight bytes a cell. Refused, nothing is touched; accepted, nothing past the rows.
 #[no_mangle]
@@ -47,5 +47,5 @@ pub extern "C" fn viscrombal_compare<'a, 'b>(
 pub extern "C" fn viscrombal_tokens(text: &[u8], domain: usize, out: &mut [u8]) -> TokensTold
     ensures { λ r. ⌜ Delivers tokensBytes tokensTold (tokensRead (now (text .entry)) domain) (now (out .entry)) r (now (out .exit)) ⌝ }
 {
-    tokens::list_tokens(text, domain, out)
+    listed::tokens::list_tokens(text, domain, out)
 }

@@ -4,13 +4,15 @@ use Prim.Native.Nat.{ℕ}
 use lib.Dec.{ltb}
 use lib.ListN.{length}
 use Rattle.refusal.specs.Pick.{pick}
+use Rattle.refusal.specs.Sizes.{fileLimit}
 use Rattle.refusal.specs.Said.{Said, refused, follow}
 use Rattle.table.specs.Table.{laid, cells}
+use Rattle.table.specs.Shape.{limit}
 use Rattle.wasm.specs.Rows.{importCells}
 use Rattle.wasm.specs.Module.{Sizes, moduleAt}
 use Rattle.conform.specs.Sound.{limits}
 use Rattle.policy.specs.declared.Policy.{Policy}
-use Rattle.pieces.specs.Whole.{wholeText}
+use Rattle.text.specs.Whole.{wholeText}
 use Rattle.policy.specs.Reader.{readPolicy}
 use Rattle.verdicts.specs.Evaluate.{Outcome, evaluated}
 use Rattle.requirements.specs.Requirements.{rowDomain, moduleRows}
@@ -18,8 +20,8 @@ use Rattle.requirements.specs.Requirements.{rowDomain, moduleRows}
 -- the domains that the rows ask for, in columns at the limit, evaluated
 unfoldable pub weighed : List ℕ → List ℕ → ℕ → Policy → Said Outcome
 weighed file imports n p =
-    follow (moduleRows file imports n 1024)
-    (λ rows. evaluated (laid 1024 (map (rowDomain file imports) rows)) (length rows) p)
+    follow (moduleRows file imports n (limit 7))
+    (λ rows. evaluated (laid (limit 7) (map (rowDomain file imports) rows)) (length rows) p)
 
 unfoldable pub heldTo : List ℕ → List ℕ → ℕ → List ℕ → Said Outcome
 heldTo file imports n text = follow (readPolicy text) (λ p. weighed file imports n p)
@@ -32,8 +34,4 @@ readThen z file text =
 -- 14 of either, then 4 of the text; the module's refusals, with tables at the limits; the policy's; then the verdicts
 unfoldable pub checkedOf : List ℕ → List ℕ → Said Outcome
 checkedOf file text =
-    pick (ltb 16777216 (length file)) (refused 14 0) (follow (wholeText text) (λ u. readThen limits file text))
-
--- ---- for the code: tables of 16 rows, and of 8 function names
-abbrev pub few : Sizes
-few = record { sections = 80; imports = 80; exports = 64; names = 24 }
+    pick (ltb fileLimit (length file)) (refused 14 0) (follow (wholeText text) (λ u. readThen limits file text))

@@ -2,27 +2,39 @@
 use policy::Policy;
 use refusal::Answer;
 use refusal::Count;
+use refusal::MAX_FILE;
 use refusal::Refusal;
-use requirements::requirements_from_module;
+use requirements::module::requirements_from_module;
+use table::shape::EXPORT_CELLS;
+use table::shape::FEW_EXPORT_CELLS;
+use table::shape::FEW_IMPORT_CELLS;
+use table::shape::FEW_NAME_CELLS;
+use table::shape::FEW_SECTION_CELLS;
+use table::shape::IMPORT_CELLS;
+use table::shape::IMPORT_WIDTH;
+use table::shape::MAX_REQUIREMENTS;
+use table::shape::NAME_CELLS;
+use table::shape::SECTION_CELLS;
 use verdicts::Evaluation;
 use verdicts::evaluate_domains;
 use verdicts::unjudged;
 use wasm::ModuleRead;
 ghost use Prim.Native.Nat.{_≤_};
 ghost use lib.ListN.{length};
+ghost use Rattle.table.specs.Shape.{fullCells};
 ghost use Rattle.wasm.specs.Module.{sizes};
-ghost use Rattle.conform.specs.Sound.{limits};
+ghost use Rattle.conform.specs.Sound.{few, limits};
 ghost use Rattle.verdicts.specs.Evaluate.{EvaluatedAs};
-ghost use Rattle.checking.specs.Checking.{weighed, heldTo, readThen, few, checkedOf};
+ghost use Rattle.checking.specs.Checking.{weighed, heldTo, readThen, checkedOf};
 
 // 14 of either, 4 of the text; the module's refusals; the policy's; then the verdicts.
 pub fn check_module(file: &[u8], text: &[u8]) -> Evaluation
     ensures { λ r. ⌜ EvaluatedAs (checkedOf (now (file .entry)) (now (text .entry))) r ⌝ }
 {
-    if file.len() > 16777216 {
+    if file.len() > MAX_FILE {
         return unjudged(Refusal::TooLong);
     }
-    match pieces::test_text(text) {
+    match text::pieces::test_text(text) {
         Answer::Refused(why) => unjudged(why),
         Answer::Accepted => check_file(file, text),
     }
@@ -45,10 +57,10 @@ fn check_file(file: &[u8], text: &[u8]) -> Evaluation
 fn check_few(file: &[u8], text: &[u8]) -> Evaluation
     ensures { λ r. ⌜ EvaluatedAs (readThen few (now (file .entry)) (now (text .entry))) r ⌝ }
 {
-    let mut sections = [0usize; 80];
-    let mut imports = [0usize; 80];
-    let mut exports = [0usize; 64];
-    let mut names = [0usize; 24];
+    let mut sections = [0usize; FEW_SECTION_CELLS];
+    let mut imports = [0usize; FEW_IMPORT_CELLS];
+    let mut exports = [0usize; FEW_EXPORT_CELLS];
+    let mut names = [0usize; FEW_NAME_CELLS];
     check_with(
         file,
         text,
@@ -62,10 +74,10 @@ fn check_few(file: &[u8], text: &[u8]) -> Evaluation
 fn check_all(file: &[u8], text: &[u8]) -> Evaluation
     ensures { λ r. ⌜ EvaluatedAs (readThen limits (now (file .entry)) (now (text .entry))) r ⌝ }
 {
-    let mut sections = [0usize; 1280];
-    let mut imports = [0usize; 5120];
-    let mut exports = [0usize; 4096];
-    let mut names = [0usize; 12288];
+    let mut sections = [0usize; SECTION_CELLS];
+    let mut imports = [0usize; IMPORT_CELLS];
+    let mut exports = [0usize; EXPORT_CELLS];
+    let mut names = [0usize; NAME_CELLS];
     check_with(
         file,
         text,
@@ -85,7 +97,7 @@ fn check_with(
     exports: &mut [usize],
     names: &mut [usize],
 ) -> Evaluation
-    requires { ⌜ length (now imports) ≤ 5120 ⌝ }
+    requires { ⌜ length (now imports) ≤ fullCells 2 ⌝ }
     ensures { λ r. ⌜ EvaluatedAs
         (readThen (sizes (now (sections .entry)) (now (imports .entry)) (now (exports .entry)) (now (names .entry)))
         (now (file .entry)) (now (text .entry))) r ⌝ }
@@ -93,7 +105,7 @@ fn check_with(
     match wasm::read_module(file, sections, imports, exports, names) {
         ModuleRead::Refused(why) => unjudged(why),
         ModuleRead::Module(m) => {
-            let end = m.imports * 5;
+            let end = m.imports * IMPORT_WIDTH;
             hold_to(file, &imports[..end], m.imports, text)
         }
     }
@@ -118,8 +130,8 @@ fn hold_to(file: &[u8], imports: &[usize], n: usize, text: &[u8]) -> Evaluation
 fn weigh(file: &[u8], imports: &[usize], n: usize, p: Policy) -> Evaluation
     ensures { λ r. ⌜ EvaluatedAs (weighed (now (file .entry)) (now (imports .entry)) n p) r ⌝ }
 {
-    let mut domains = [0usize; 1024];
-    let mut rows = [0usize; 1024];
+    let mut domains = [0usize; MAX_REQUIREMENTS];
+    let mut rows = [0usize; MAX_REQUIREMENTS];
     match requirements_from_module(file, imports, n, &mut domains, &mut rows) {
         Count::Refused(why) => unjudged(why),
         Count::Rows(k) => evaluate_domains(&domains, k, p),

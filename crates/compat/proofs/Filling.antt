@@ -9,7 +9,7 @@ use lib.ListN.{length, getD, replicate, length-replicate}
 use Rattle.table.specs.Table.{cells, laid, putRow, rowsOf}
 use Rattle.table.proofs.Laws.{put-row-laid, length-rows, rows-back, laid-nil}
 use Rattle.compat.specs.declared.keys.Key.{Key}
-use Rattle.compat.specs.Keying.{keyCells}
+use Rattle.compat.specs.Keying.{keyWidth, keyCells}
 
 module _ {R : Type 0} (f : R → List ℕ) (g : ℕ → R) (size : ℕ) where
   pub no-rows : {t : List ℕ} → t ≡ laid size [] → t ≡ laid size (cells f (rowsOf g 0))
@@ -45,6 +45,6 @@ pub zeros-laid : (n : ℕ) → replicate n 0 ≡ laid (length {A = ℕ} (replica
 zeros-laid n = sym (ap (λ (m : ℕ). laid m []) (zeros-length n) ∙ laid-nil n)
 
 -- a row of a table of keys
-pub key-wide : (k : Key) → length (keyCells k) ≡ 7
+pub key-wide : (k : Key) → length (keyCells k) ≡ keyWidth
 unfolding keyCells
 key-wide k = refl

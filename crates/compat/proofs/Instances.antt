@@ -11,19 +11,19 @@ use Rattle.refusal.specs.Pick.{pick}
 use Rattle.text.specs.Order.{cmpNat, andThen, cmpBytes}
 use Rattle.text.specs.declared.order.Order.{Order}
 use Rattle.text.specs.declared.order.Order.the-variants.{Less, Equal, Greater}
-use Rattle.table.specs.Table.{cellOf}
-use Rattle.sorting.specs.Sort.{sort, keep, upFrom}
+use Rattle.table.specs.Shape.{cellIn}
+use Rattle.sorting.specs.Sort.{sort, selected, upFrom}
 use Rattle.kinds.specs.Kinds.{kindOf}
-use Rattle.imports.specs.Queries.{kindIs}
-use Rattle.differences.specs.View.{Export, Need, exportAt, needAt, exportRows, row}
+use Rattle.import_rows.specs.Queries.{kindIs}
+use Rattle.differences.specs.View.{ExportKey, Need, exportKeyAt, needAt, exportRows, row}
 use Rattle.differences.specs.Rank.{rankOf}
-use Rattle.differences.specs.Differences.{Entry, slugOf, cmpExport, cmpNeed, exportOrder, needOrder, changes}
+use Rattle.differences.specs.Differences.{Entry, kindSlug, cmpExport, cmpNeed, exportOrder, needOrder, changes}
 use Rattle.differences.specs.Numbers.{sided}
 use Rattle.differences.proofs.Ranks.{rank-order}
 use Rattle.differences.proofs.Only.{lawful-export, lawful-exports, lawful-needs}
 use Rattle.differences.proofs.Numbered.{sided-first, sided-second, number-order}
 use Rattle.compat.specs.declared.keys.Key.{Key}
-use Rattle.compat.specs.Keying.{keyIn, keyName, printOf, exportKey, needKey, exportKeys, needKeys, Printed, tableOf, missing}
+use Rattle.compat.specs.Keying.{keySize, keyIn, keyName, printOf, exportKey, needKey, exportKeys, needKeys, Printed, tableOf, missing}
 use Rattle.compat.specs.Listing.{exportsBetween, exportNumbered, needsBetween, needNumbered}
 use Rattle.compat.proofs.Keyed.{keyThen, key-is}
 use Rattle.compat.proofs.Joining.{joined, then-equal}
@@ -54,17 +54,17 @@ wanted-one true = refl
 wanted-one false = refl
 
 module _ (b be c ce : List ℕ) (nb : ℕ) where
-  abbrev ExportSays : Key → Export → Type 0
+  abbrev ExportSays : Key → ExportKey → Type 0
   ExportSays k e = Says b c k 0 (e .name) (rankOf (e .kind)) true
 
   export-says : (i : ℕ) → ExportSays (exportKeys b be nb c ce i) (exportNumbered b be nb c ce i .row .key)
-  unfolding exportKey exportAt keyName Printed
+  unfolding exportKey exportKeyAt keyName Printed
   export-says i = by (ltb i nb) refl
     where
-      first : (j : ℕ) → ExportSays (exportKey 0 b be j) (exportAt b be j)
+      first : (j : ℕ) → ExportSays (exportKey 0 b be j) (exportKeyAt b be j)
       first j = record { major-is = refl; name-is = refl; minor-is = refl; mark-is = refl; printed = refl }
 
-      second : (j : ℕ) → ExportSays (exportKey 1 c ce j) (exportAt c ce j)
+      second : (j : ℕ) → ExportSays (exportKey 1 c ce j) (exportKeyAt c ce j)
       second j = record { major-is = refl; name-is = refl; minor-is = refl; mark-is = refl; printed = refl }
 
       by : (t : Bool) → ltb i nb ≡ t → ExportSays (exportKeys b be nb c ce i) (exportNumbered b be nb c ce i .row .key)
@@ -75,50 +75,52 @@ module _ (b be c ce : List ℕ) (nb : ℕ) where
           let l = ltb-false i nb e in
           rw (sided-second nb (exportKey 0 b be) (exportKey 1 c ce) i l, sided-second nb _ _ i l) (second (i - nb))
 
-  pub export-printed : (n i : ℕ) → i < n → Printed b c (keyIn (tableOf 14336 (exportKeys b be nb c ce) n) i)
-  export-printed n i h = rw (key-is b c 14336 (exportKeys b be nb c ce) n i h) (export-says i .printed)
+  pub export-printed : (n i : ℕ) → i < n → Printed b c (keyIn (tableOf keySize (exportKeys b be nb c ce) n) i)
+  export-printed n i h = rw (key-is b c keySize (exportKeys b be nb c ce) n i h) (export-says i .printed)
 
-  export-orders : {k l : Key} {e f : Export} → ExportSays k e → ExportSays l f → e .kind ≤ 255 → f .kind ≤ 255 → (o : Order)
+  export-orders : {k l : Key} {e f : ExportKey} → ExportSays k e → ExportSays l f → e .kind ≤ 255 → f .kind ≤ 255 → (o : Order)
       → keyThen b c k l o ≡ andThen (cmpExport e f) o
   unfolding cmpExport cmpBytes keyName kindOf
   export-orders {e = e} {f = f} p q h m o =
       rw (p .major-is, q .major-is, p .name-is, q .name-is, p .minor-is, q .minor-is, rank-order (e .kind) (f .kind) h m)
-      (sym (then-assoc (cmpBytes (e .name) (f .name)) (cmpBytes (slugOf (e .kind)) (slugOf (f .kind))) o))
+      (sym (then-assoc (cmpBytes (e .name) (f .name)) (cmpBytes (kindSlug (e .kind)) (kindSlug (f .kind))) o))
 
-keep-all : (l : List ℕ) → keep (λ i. true) l ≡ l
+keep-all : (l : List ℕ) → selected (λ i. true) l ≡ l
 keep-all [] = refl
 keep-all (x ∷ l) = ap (_∷_ x) (keep-all l)
 
-module _ (b be c ce : List ℕ) (nb nc : ℕ) (goodB : (i : ℕ) → i < nb → cellOf be 4 i 2 ≤ 255)
-    (goodC : (i : ℕ) → i < nc → cellOf ce 4 i 2 ≤ 255) where
+module _ (b be c ce : List ℕ) (nb nc : ℕ) (goodB : (i : ℕ) → i < nb → cellIn 3 be i 2 ≤ 255)
+    (goodC : (i : ℕ) → i < nc → cellIn 3 ce i 2 ≤ 255) where
   kind-good : (i : ℕ) → i < nb + nc → exportNumbered b be nb c ce i .row .key .kind ≤ 255
-  unfolding exportAt
+  unfolding exportKeyAt
   kind-good i h = by (ltb i nb) refl
     where
-      first : (j : ℕ) → j < nb → exportAt b be j .kind ≤ 255
+      first : (j : ℕ) → j < nb → exportKeyAt b be j .kind ≤ 255
       first j l = goodB j l
 
-      second : (j : ℕ) → j < nc → exportAt c ce j .kind ≤ 255
+      second : (j : ℕ) → j < nc → exportKeyAt c ce j .kind ≤ 255
       second j l = goodC j l
 
       by : (t : Bool) → ltb i nb ≡ t → exportNumbered b be nb c ce i .row .key .kind ≤ 255
       by true e = let l = ltb-true i nb e in rw (sided-first nb _ _ i l) (first i l)
       by false e = let l = ltb-false i nb e in rw (sided-second nb _ _ i l) (second (i - nb) (omega arith))
 
-  pub exports-listed : map (exportNumbered b be nb c ce) (missing b c (tableOf 14336 (exportKeys b be nb c ce) (nb + nc)) nb (nb + nc) true)
+  pub exports-listed : map (exportNumbered b be nb c ce)
+      (missing b c (tableOf keySize (exportKeys b be nb c ce) (nb + nc)) nb (nb + nc) true)
       ≡ exportsBetween b be nb c ce nc
   unfolding exportsBetween exportOrder
   exports-listed =
-      joined cmpExport (exportAt b be) (exportAt c ce) (λ i. true) (λ i. true) nb nc b c (exportKeys b be nb c ce)
+      joined cmpExport (exportKeyAt b be) (exportKeyAt c ce) (λ i. true) (λ i. true) nb nc b c (exportKeys b be nb c ce)
       (λ i j h k o. export-orders b be c ce nb (export-says b be c ce nb i) (export-says b be c ce nb j) (kind-good i h) (kind-good j k) o)
       (λ i h. export-says b be c ce nb i .mark-is ∙ sym (sided-same nb true i))
       true exportOrder lawful-exports
-      (λ i j h k li lj. number-order cmpExport (exportAt b be) (exportAt c ce) (λ i. true) (λ i. true) nb nc lawful-export i j h k li lj)
+      (λ i j h k li lj. number-order cmpExport (exportKeyAt b be) (exportKeyAt c ce) (λ i. true)
+      (λ i. true) nb nc lawful-export i j h k li lj)
       ∙ ap
       (λ (l : List ℕ). sort exportOrder
-      (changes cmpExport (map (row (exportAt b be)) l) (map (row (exportAt c ce)) (keep (λ i. true) (upFrom 0 nc)))))
+      (changes cmpExport (map (row (exportKeyAt b be)) l) (map (row (exportKeyAt c ce)) (selected (λ i. true) (upFrom 0 nc)))))
       (keep-all (upFrom 0 nb))
-      ∙ ap (λ (l : List ℕ). sort exportOrder (changes cmpExport (exportRows b be nb) (map (row (exportAt c ce)) l)))
+      ∙ ap (λ (l : List ℕ). sort exportOrder (changes cmpExport (exportRows b be nb) (map (row (exportKeyAt c ce)) l)))
       (keep-all (upFrom 0 nc))
 
 -- ---- capability pairs
@@ -152,8 +154,8 @@ module _ (b bi c ci : List ℕ) (nb : ℕ) where
           )
           (second (i - nb))
 
-  pub need-printed : (n i : ℕ) → i < n → Printed b c (keyIn (tableOf 14336 (needKeys b bi nb c ci) n) i)
-  need-printed n i h = rw (key-is b c 14336 (needKeys b bi nb c ci) n i h) (need-says i .printed)
+  pub need-printed : (n i : ℕ) → i < n → Printed b c (keyIn (tableOf keySize (needKeys b bi nb c ci) n) i)
+  need-printed n i h = rw (key-is b c keySize (needKeys b bi nb c ci) n i h) (need-says i .printed)
 
   -- the domain of a number's row
   pub need-major : (i : ℕ) → needKeys b bi nb c ci i .major ≡ needNumbered b bi nb c ci i .row .key .domain
@@ -167,7 +169,7 @@ module _ (b bi c ci : List ℕ) (nb : ℕ) where
       (sym (then-assoc (cmpNat (e .domain) (f .domain)) (cmpBytes (e .source) (f .source)) o))
 
 pub needs-listed : (b bi c ci : List ℕ) (nb nc : ℕ)
-    → map (needNumbered b bi nb c ci) (missing b c (tableOf 14336 (needKeys b bi nb c ci) (nb + nc)) nb (nb + nc) false)
+    → map (needNumbered b bi nb c ci) (missing b c (tableOf keySize (needKeys b bi nb c ci) (nb + nc)) nb (nb + nc) false)
     ≡ needsBetween b bi nb c ci nc
 unfolding needsBetween needOrder
 needs-listed b bi c ci nb nc =

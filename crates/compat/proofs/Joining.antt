@@ -12,13 +12,13 @@ use Rattle.text.specs.declared.order.Order.{Order}
 use Rattle.text.specs.declared.order.Order.the-variants.{Less, Equal, Greater}
 use Rattle.sorting.specs.Order.{Lawful}
 use Rattle.sorting.specs.Sort.{sort}
-use Rattle.sorting.specs.Keys.{rowOrder, marked, sortedRows}
+use Rattle.sorting.specs.Keys.{rowOrder, rowMarked, sortedRows}
 use Rattle.differences.specs.Differences.{Entry, ties, hasKey, changes}
 use Rattle.differences.specs.Numbers.{sided, someFrom}
 use Rattle.differences.proofs.Numbered.{sided-first, sided-second, some-has, rowsB, rowsC, numbered, lostIn, sort-changes}
 use Rattle.compat.specs.declared.keys.Key.{Key}
 use Rattle.compat.specs.declared.marks.Span.{Span}
-use Rattle.compat.specs.Keying.{keyIn, meets, columns, tableOf, missing, othersOf}
+use Rattle.compat.specs.Keying.{keySize, keyIn, meets, columns, tableOf, missing, othersOf}
 use Rattle.compat.proofs.Meeting.{meeting, soughtIn, others-first, others-second}
 use Rattle.compat.proofs.Keyed.{keyThen, key-is, meets-ties, found, lonely, alone-order, alone-marked}
 
@@ -42,13 +42,13 @@ module _ {K : Type 0} (cmp : K → K → Order) (keyB keyC : ℕ → K) (wantB w
     keyed-second i h = ap (λ (e : Entry K). e .row .key) (sided-second nb _ _ i h)
 
     abbrev table : List ℕ
-    table = tableOf 14336 g (nb + nc)
+    table = tableOf keySize g (nb + nc)
 
     meeting-is : (i j : ℕ) → i < nb + nc → j < nb + nc
         → meeting first second table i j ≡ both (sided nb wantB wantC j) (ties (cmp (keyed i) (keyed j)))
     meeting-is i j h k =
-        ap (λ (a : Key). meets first second a (keyIn table j)) (key-is first second 14336 g (nb + nc) i h)
-        ∙ ap (meets first second (g i)) (key-is first second 14336 g (nb + nc) j k)
+        ap (λ (a : Key). meets first second a (keyIn table j)) (key-is first second keySize g (nb + nc) i h)
+        ∙ ap (meets first second (g i)) (key-is first second keySize g (nb + nc) j k)
         ∙ meets-ties first second (g i) (g j)
         ∙ ap (λ (b : Bool). both b (ties (keyThen first second (g i) (g j) Equal))) (wants j k)
         ∙ ap (λ (o : Order). both (sided nb wantB wantC j) (ties o)) (orders i j h k Equal ∙ then-equal (cmp (keyed i) (keyed j)))
@@ -73,7 +73,7 @@ module _ {K : Type 0} (cmp : K → K → Order) (keyB keyC : ℕ → K) (wantB w
         ∙ ap (λ (l : K). both (wantB m) (ties (cmp (keyed i) l))) (keyed-first m k)
 
     found-first : (i : ℕ) → i < nb
-        → found first second 14336 g nb (nb + nc) i ≡ hasKey cmp (keyB i) (rowsC cmp keyB keyC wantB wantC nb nc)
+        → found first second keySize g nb (nb + nc) i ≡ hasKey cmp (keyB i) (rowsC cmp keyB keyC wantB wantC nb nc)
     found-first i h =
         let end : nb + nc - nb ≡ nc = omega arith in
         let start : nb ≡ nb + 0 = omega arith in
@@ -85,7 +85,7 @@ module _ {K : Type 0} (cmp : K → K → Order) (keyB keyC : ℕ → K) (wantB w
         ∙ ap (λ (k : K). hasKey cmp k (rowsC cmp keyB keyC wantB wantC nb nc)) (keyed-first i h)
 
     found-second : (i : ℕ) → nb ≤ i → i < nb + nc
-        → found first second 14336 g nb (nb + nc) i ≡ hasKey cmp (keyC (i - nb)) (rowsB cmp keyB keyC wantB wantC nb nc)
+        → found first second keySize g nb (nb + nc) i ≡ hasKey cmp (keyC (i - nb)) (rowsB cmp keyB keyC wantB wantC nb nc)
     found-second i h l =
         let end : nb - 0 ≡ nb = omega arith in
         ap (soughtIn first second table i) (sym (others-second nb (nb + nc) i h))
@@ -93,11 +93,11 @@ module _ {K : Type 0} (cmp : K → K → Order) (keyB keyC : ℕ → K) (wantB w
         ∙ some-has cmp keyB wantB (keyed i) (meeting first second table i) 0 nb 0 (λ m k. met-first i m l (omega arith))
         ∙ ap (λ (k : K). hasKey cmp k (rowsB cmp keyB keyC wantB wantC nb nc)) (keyed-second i h)
 
-    lost-is : (i : ℕ) → i < nb + nc → both (eqb (g i .mark) 1) (not (found first second 14336 g nb (nb + nc) i))
+    lost-is : (i : ℕ) → i < nb + nc → both (eqb (g i .mark) 1) (not (found first second keySize g nb (nb + nc) i))
         ≡ lostIn cmp keyB keyC wantB wantC nb nc i
     lost-is i h = by (ltb i nb) refl
       where
-        by : (t : Bool) → ltb i nb ≡ t → both (eqb (g i .mark) 1) (not (found first second 14336 g nb (nb + nc) i))
+        by : (t : Bool) → ltb i nb ≡ t → both (eqb (g i .mark) 1) (not (found first second keySize g nb (nb + nc) i))
             ≡ lostIn cmp keyB keyC wantB wantC nb nc i
         by true e =
             let l = ltb-true i nb e in
@@ -115,8 +115,8 @@ module _ {K : Type 0} (cmp : K → K → Order) (keyB keyC : ℕ → K) (wantB w
     unfolding missing sortedRows
     joined every fine laws agree =
         sort-changes cmp keyB keyC wantB wantC nb nc fine laws
-        (rowOrder first second (lonely first second 14336 g nb (nb + nc)) (columns every))
-        (marked first second (lonely first second 14336 g nb (nb + nc)) (columns every))
-        (λ i h. alone-marked first second 14336 g nb (nb + nc) every i h ∙ lost-is i h)
-        (λ i j h k li lj. alone-order first second 14336 g nb (nb + nc) every i j h k
+        (rowOrder first second (lonely first second keySize g nb (nb + nc)) (columns every))
+        (rowMarked first second (lonely first second keySize g nb (nb + nc)) (columns every))
+        (λ i h. alone-marked first second keySize g nb (nb + nc) every i h ∙ lost-is i h)
+        (λ i j h k li lj. alone-order first second keySize g nb (nb + nc) every i j h k
         ∙ orders i j h k (pick every (cmpNat i j) Equal) ∙ agree i j h k li lj)

@@ -17,11 +17,11 @@ use Rattle.text.proofs.OrderLaws.{Tri, below, at, above, tri}
 use borrow.Author.Tests.{eq-eqb, ne-eqb}
 use Rattle.table.specs.Table.{cellOf, rowsOf}
 use Rattle.table.proofs.Laws.{cell-laid, length-rows}
-use Rattle.sorting.specs.Keys.{rowOrder, nameOf, fileOf, marked}
+use Rattle.sorting.specs.Keys.{rowOrder, nameOf, fileOf, rowMarked}
 use Rattle.differences.specs.Differences.{ties}
 use Rattle.differences.specs.Numbers.{someFrom}
 use Rattle.compat.specs.declared.keys.Key.{Key}
-use Rattle.compat.specs.Keying.{keyCells, keyIn, keyName, keyOf, withMark, meets, columns, tableOf, alone, othersOf}
+use Rattle.compat.specs.Keying.{keyWidth, keyCells, keyIn, keyName, keyOf, withMark, meets, columns, tableOf, alone, othersOf}
 use Rattle.compat.proofs.Filling.{key-wide}
 use Rattle.compat.proofs.Meeting.{soughtIn, both-true}
 
@@ -47,15 +47,15 @@ module _ (first second : List ℕ) where
       (andThen (cmpBytes (keyName first second k) (keyName first second l)) (andThen (cmpNat (k .minor) (l .minor)) o))
 
   module _ (size : ℕ) (g : ℕ → Key) (n : ℕ) where
-    cell-is : (i j : ℕ) → i < n → j < 7 → cellOf (tableOf size g n) 7 i j ≡ getD (keyCells (g i)) j 0
+    cell-is : (i j : ℕ) → i < n → j < keyWidth → cellOf (tableOf size g n) keyWidth i j ≡ getD (keyCells (g i)) j 0
     cell-is i j h k =
-        cell-laid keyCells 7 key-wide size (rowsOf g n) i j (g i) (omega (arith, length-rows g n)) k
+        cell-laid keyCells keyWidth key-wide size (rowsOf g n) i j (g i) (omega (arith, length-rows g n)) k
         ∙ ap (λ (r : Key). getD (keyCells r) j 0) (row-of g n i (g i) h)
 
     pub key-is : (i : ℕ) → i < n → keyIn (tableOf size g n) i ≡ g i
     unfolding keyIn keyCells
     key-is i h =
-        let c : (j : ℕ) → j < 7 → cellOf (tableOf size g n) 7 i j ≡ getD (keyCells (g i)) j 0 = λ j k. cell-is i j h k in
+        let c : (j : ℕ) → j < keyWidth → cellOf (tableOf size g n) keyWidth i j ≡ getD (keyCells (g i)) j 0 = λ j k. cell-is i j h k in
         rw (
           c 0 (omega arith),
           c 1 (omega arith),
@@ -83,8 +83,8 @@ module _ (first second : List ℕ) where
           cell-is j 4 k (omega arith),
         )
 
-    pub marked-is : (every : Bool) (i : ℕ) → i < n → marked first second (tableOf size g n) (columns every) i ≡ eqb (g i .mark) 1
-    unfolding marked keyCells
+    pub marked-is : (every : Bool) (i : ℕ) → i < n → rowMarked first second (tableOf size g n) (columns every) i ≡ eqb (g i .mark) 1
+    unfolding rowMarked keyCells
     marked-is every i h = rw (cell-is i 5 h (omega arith))
 
   -- the table whose marks are left where the other module lacks the key
@@ -111,7 +111,7 @@ module _ (first second : List ℕ) where
         ∙ ap (λ (r : Key). keyThen r (alone first second (tableOf size g n) nb n j) (pick every (cmpNat i j) Equal)) (alone-is i h)
         ∙ ap (λ (r : Key). keyThen (withMark (g i) (pick (found i) 0 (g i .mark))) r (pick every (cmpNat i j) Equal)) (alone-is j k)
 
-    pub alone-marked : (every : Bool) (i : ℕ) → i < n → marked first second lonely (columns every) i
+    pub alone-marked : (every : Bool) (i : ℕ) → i < n → rowMarked first second lonely (columns every) i
         ≡ both (eqb (g i .mark) 1) (not (found i))
     alone-marked every i h =
         marked-is size (alone first second (tableOf size g n) nb n) n every i h

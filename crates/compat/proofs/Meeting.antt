@@ -13,7 +13,7 @@ use Rattle.table.specs.Table.{cellOf}
 use Rattle.differences.specs.Numbers.{someFrom}
 use Rattle.compat.specs.declared.keys.Key.{Key}
 use Rattle.compat.specs.declared.marks.Span.{Span}
-use Rattle.compat.specs.Keying.{keyIn, keyName, withMark, printOf, Printed, meets, othersOf, alone}
+use Rattle.compat.specs.Keying.{keyWidth, keyIn, keyName, withMark, printOf, Printed, meets, othersOf, alone}
 
 -- ---- a search, from a row on
 module _ (p : ℕ → Bool) (i n : ℕ) where
@@ -91,7 +91,7 @@ others-end nb n i {o} e h = by (ltb i nb) e
 
 -- a row, by the cell that has its print
 pub differ-cell : (first second table : List ℕ) (k : Key) (j : ℕ) {p : ℕ} → Printed first second k → Printed first second (keyIn table j)
-    → p ≡ cellOf table 7 j 6 → (k .print ≡ p → ⊥) → false ≡ meets first second k (keyIn table j)
+    → p ≡ cellOf table keyWidth j 6 → (k .print ≡ p → ⊥) → false ≡ meets first second k (keyIn table j)
 unfolding keyIn
 differ-cell first second table k j pk pl e d = differ-print first second k (keyIn table j) pk pl (λ q. d (q ∙ sym e))
 

@@ -14,20 +14,20 @@ use Rattle.table.specs.Table.{laid}
 use Rattle.table.specs.Entries.{finished, fitting}
 use Rattle.table.proofs.Laws.{length-laid}
 use Rattle.table.proofs.Reading.{finished-room}
-use Rattle.sorting.specs.Sort.{sort, keep, upFrom}
-use Rattle.sorting.specs.Keys.{sortedRows, rowOrder, marked, saidSorted, Sorts}
+use Rattle.sorting.specs.Sort.{sort, selected, upFrom}
+use Rattle.sorting.specs.Keys.{sortedRows, rowOrder, rowMarked, saidSorted, Sorts}
 use Rattle.sorting.specs.declared.Sorted.{Sorted}
 use Rattle.sorting.specs.declared.Sorted.the-variants.{Rows, Full}
 use Rattle.sorting.proofs.Sorts.{sort-length}
 use Rattle.differences.specs.Differences.{Entry}
-use Rattle.compat.specs.Keying.{tableOf, alone, columns, missing, Sized}
+use Rattle.compat.specs.Keying.{keySize, tableOf, alone, columns, missing, Sized}
 use Rattle.compat.specs.Listing.{Numbers}
 
-keep-length : (p : ℕ → Bool) (l : List ℕ) → length (keep p l) ≤ length l
+keep-length : (p : ℕ → Bool) (l : List ℕ) → length (selected p l) ≤ length l
 keep-length p [] = omega arith
 keep-length p (x ∷ l) = by (p x) (keep-length p l)
   where
-    by : (t : Bool) → length (keep p l) ≤ length l → length (pick t (x ∷ keep p l) (keep p l)) ≤ suc (length l)
+    by : (t : Bool) → length (selected p l) ≤ length l → length (pick t (x ∷ selected p l) (selected p l)) ≤ suc (length l)
     by true h = omega arith
     by false h = omega arith
 
@@ -37,21 +37,21 @@ up-length i (suc n) = ap suc (up-length (suc i) n)
 
 module _ (first second table : List ℕ) (nb n : ℕ) (every : Bool) where
   abbrev lonely : List ℕ
-  lonely = tableOf 14336 (alone first second table nb n) n
+  lonely = tableOf keySize (alone first second table nb n) n
 
   missing-length : length (missing first second table nb n every) ≤ n
   unfolding missing sortedRows
   missing-length =
-      let p = marked first second lonely (columns every) in
+      let p = rowMarked first second lonely (columns every) in
       omega (
         arith,
-        sort-length (rowOrder first second lonely (columns every)) (keep p (upFrom 0 n)),
+        sort-length (rowOrder first second lonely (columns every)) (selected p (upFrom 0 n)),
         keep-length p (upFrom 0 n),
         up-length 0 n,
       )
 
   module _ {keys before after : List ℕ} {size : ℕ} {r : Sorted} (k : keys ≡ tableOf size (alone first second table nb n) n)
-      (z : size ≡ 14336) (s : Sorts (sortedRows first second keys (columns every) n) before after r) (room : n ≤ length before) where
+      (z : size ≡ keySize) (s : Sorts (sortedRows first second keys (columns every) n) before after r) (room : n ≤ length before) where
     same-list : sortedRows first second keys (columns every) n ≡ missing first second table nb n every
     unfolding missing
     same-list =

@@ -1,4 +1,4 @@
--- How the code makes the two lists: the rows of both modules as rows of one table of keys. Assumes nothing.
+-- For the code: how it makes the two lists, the rows of both modules as rows of one table of keys. Assumes nothing.
 use mathlib.Core.Path.{_≡_}
 use mathlib.Core.Bool.{Bool, true, false, _||_}
 use mathlib.Core.List.{List, [], _∷_}
@@ -8,14 +8,25 @@ use lib.ListN.{length}
 use Rattle.refusal.specs.Pick.{pick, both}
 use Rattle.text.specs.Find.{same}
 use Rattle.table.specs.Table.{cellOf, rangeOf, laid, cells, rowsOf}
-use Rattle.sorting.specs.Keys.{nameAt, sortedRows}
+use Rattle.table.specs.Shape.{width, limit, cellIn}
+use Rattle.sorting.specs.Keys.{rowName, sortedRows}
 use Rattle.sorting.specs.declared.Keys.{Keys}
-use Rattle.imports.specs.Queries.{kindIs}
+use Rattle.import_rows.specs.Queries.{kindIs}
 use Rattle.domains.specs.Classify.{importDomain}
 use Rattle.differences.specs.Rank.{rankOf}
 use Rattle.differences.specs.Numbers.{sided, someFrom}
 use Rattle.compat.specs.declared.keys.Key.{Key}
 use Rattle.compat.specs.declared.marks.Span.{Span}
+
+-- a table of keys: the cells of a row, a row for each row of both modules, and the cells of the whole table
+abbrev pub keyWidth : ℕ
+keyWidth = 7
+
+abbrev pub keyLimit : ℕ
+keyLimit = limit 8
+
+abbrev pub keySize : ℕ
+keySize = keyLimit * keyWidth
 
 unfoldable pub keyCells : Key → List ℕ
 keyCells k = k .file ∷ k .from ∷ k .len ∷ k .major ∷ k .minor ∷ k .mark ∷ k .print ∷ []
@@ -27,7 +38,7 @@ keyOf file from len major minor mark print =
 -- row i of a table of keys
 unfoldable pub keyIn : List ℕ → ℕ → Key
 keyIn table i =
-    let cell : ℕ → ℕ = cellOf table 7 i in
+    let cell : ℕ → ℕ = cellOf table keyWidth i in
     keyOf (cell 0) (cell 1) (cell 2) (cell 3) (cell 4) (cell 5) (cell 6)
 
 -- the same row, wanted or not
@@ -45,15 +56,15 @@ printOf p (c ∷ s) = printOf ((p * 257 + c) % 1099511627689) s
 -- an export by its name, then its kind's rank
 unfoldable pub exportKey : ℕ → List ℕ → List ℕ → ℕ → Key
 exportKey side file exports i =
-    keyOf side (cellOf exports 4 i 0) (cellOf exports 4 i 1) 0 (rankOf (cellOf exports 4 i 2)) 1
-    (printOf 0 (nameAt file exports 4 0 1 i))
+    keyOf side (cellIn 3 exports i 0) (cellIn 3 exports i 1) 0 (rankOf (cellIn 3 exports i 2)) 1
+    (printOf 0 (rowName file exports (width 3) 0 1 i))
 
 -- a function import by its domain, then its module's name
 unfoldable pub needKey : ℕ → List ℕ → List ℕ → ℕ → Key
 needKey side file imports i =
-    keyOf side (cellOf imports 5 i 0) (cellOf imports 5 i 1)
-    (importDomain (nameAt file imports 5 0 1 i) (nameAt file imports 5 2 3 i)) 0 (pick (kindIs imports 0 i) 1 0)
-    (printOf 0 (nameAt file imports 5 0 1 i))
+    keyOf side (cellIn 2 imports i 0) (cellIn 2 imports i 1)
+    (importDomain (rowName file imports (width 2) 0 1 i) (rowName file imports (width 2) 2 3 i)) 0 (pick (kindIs imports 0 i) 1 0)
+    (printOf 0 (rowName file imports (width 2) 0 1 i))
 
 -- the rows of both
 abbrev pub exportKeys : List ℕ → List ℕ → ℕ → List ℕ → List ℕ → ℕ → Key
@@ -86,7 +97,7 @@ module _ (first second : List ℕ) where
 
 -- what the sort goes by: the rows whose mark is 1, by the major number, the name, the minor number
 abbrev pub columns : Bool → Keys
-columns every = record { width = 7; mark = 5; value = 1; major = 3; file = 0; from = 1; len = 2; minor = 4; every = every }
+columns every = record { width = keyWidth; mark = 5; value = 1; major = 3; file = 0; from = 1; len = 2; minor = 4; every = every }
 
 -- a table of n keys
 abbrev pub tableOf : ℕ → (ℕ → Key) → ℕ → List ℕ
@@ -95,7 +106,7 @@ tableOf size g n = laid size (cells keyCells (rowsOf g n))
 -- the rows that the other module lacks, in order
 unfoldable pub missing : List ℕ → List ℕ → List ℕ → ℕ → ℕ → Bool → List ℕ
 missing first second table nb n every =
-    sortedRows first second (tableOf 14336 (alone first second table nb n) n) (columns every) n
+    sortedRows first second (tableOf keySize (alone first second table nb n) n) (columns every) n
 
 -- the list's length, and a table that holds it
 pub record Sized (l before after : List ℕ) (r : ℕ) : Type 0 where

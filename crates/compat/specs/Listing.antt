@@ -1,4 +1,4 @@
--- The lists by the numbers of their rows, as the code makes them. Assumes nothing.
+-- For the code: the lists by the numbers of their rows, as it makes them. Assumes nothing.
 use mathlib.Core.Path.{_≡_}
 use mathlib.Core.Bool.{Bool, false, _||_}
 use mathlib.Core.List.{List, [], _∷_, map}
@@ -7,18 +7,18 @@ use lib.Dec.{eqb}
 use lib.ListN.{length, take}
 use Rattle.sorting.specs.Sort.{sort}
 use Rattle.differences.specs.declared.Change.the-variants.{Removed, Added}
-use Rattle.differences.specs.View.{Export, Need, row, exportAt, needAt, exportRows, needRows}
+use Rattle.differences.specs.View.{ExportKey, Need, row, exportKeyAt, needAt, exportRows, needRows}
 use Rattle.differences.specs.Differences.{Entry, entry, changes, cmpExport, cmpNeed, exportOrder, needOrder}
-use Rattle.differences.specs.Compared.{needCells}
+use Rattle.differences.specs.Compared.{needDiffCells}
 use Rattle.differences.specs.Numbers.{sided}
 use Rattle.compat.specs.declared.lists.Place.{Place}
 
 -- exports: those of the baseline are numbered first
-unfoldable pub exportsBetween : List ℕ → List ℕ → ℕ → List ℕ → List ℕ → ℕ → List (Entry Export)
+unfoldable pub exportsBetween : List ℕ → List ℕ → ℕ → List ℕ → List ℕ → ℕ → List (Entry ExportKey)
 exportsBetween b be nb c ce nc = sort exportOrder (changes cmpExport (exportRows b be nb) (exportRows c ce nc))
 
-abbrev pub exportNumbered : List ℕ → List ℕ → ℕ → List ℕ → List ℕ → ℕ → Entry Export
-exportNumbered b be nb c ce = sided nb (λ i. entry Removed (row (exportAt b be) i)) (λ i. entry Added (row (exportAt c ce) i))
+abbrev pub exportNumbered : List ℕ → List ℕ → ℕ → List ℕ → List ℕ → ℕ → Entry ExportKey
+exportNumbered b be nb c ce = sided nb (λ i. entry Removed (row (exportKeyAt b be) i)) (λ i. entry Added (row (exportKeyAt c ce) i))
 
 -- capability pairs
 unfoldable pub needsBetween : List ℕ → List ℕ → ℕ → List ℕ → List ℕ → ℕ → List (Entry Need)
@@ -33,17 +33,17 @@ pub record Numbers {K : Type 0} (at : ℕ → Entry K) (d : List (Entry K)) (tab
   pub these : map at (take r table) ≡ d
 
 -- ---- a number's module and row
-unfoldable pub placeOf : ℕ → ℕ → Place
-placeOf nb = sided nb (λ i. record { side = 0; row = i }) (λ i. record { side = 1; row = i })
+unfoldable pub sideOf : ℕ → ℕ → Place
+sideOf nb = sided nb (λ i. record { side = 0; row = i }) (λ i. record { side = 1; row = i })
 
 abbrev pub placeCells : ℕ → ℕ → List ℕ
-placeCells nb i = placeOf nb i .side ∷ placeOf nb i .row ∷ []
+placeCells nb i = sideOf nb i .side ∷ sideOf nb i .row ∷ []
 
 -- a row of table 9
 abbrev pub needCellsAt : List ℕ → List ℕ → ℕ → List ℕ → List ℕ → ℕ → List ℕ
-needCellsAt b bi nb c ci i = needCells (needNumbered b bi nb c ci i)
+needCellsAt b bi nb c ci i = needDiffCells (needNumbered b bi nb c ci i)
 
 -- one of the numbers is of this module
 unfoldable pub hasSide : ℕ → ℕ → List ℕ → Bool
 hasSide nb side [] = false
-hasSide nb side (i ∷ l) = eqb (placeOf nb i .side) side || hasSide nb side l
+hasSide nb side (i ∷ l) = eqb (sideOf nb i .side) side || hasSide nb side l

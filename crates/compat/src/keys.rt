@@ -2,6 +2,9 @@
 use differences::kind_rank;
 use domains::classify::classify_import;
 use domains::domain_number;
+use table::shape::EXPORT_WIDTH;
+use table::shape::IMPORT_WIDTH;
+use table::shape::MAX_EXPORT_DIFFS;
 ghost use mathlib.Core.Path.{_≡_};
 ghost use mathlib.Core.List.{[]};
 ghost use Prim.Native.Nat.{_+_, _*_, _≤_};
@@ -9,7 +12,14 @@ ghost use lib.Dec.{eqb};
 ghost use lib.ListN.{length};
 ghost use Rattle.refusal.specs.Pick.{pick};
 ghost use Rattle.table.specs.Table.{laid, putRow};
-ghost use Rattle.compat.specs.Keying.{keyCells, keyIn, keyName, printOf, exportKey, exportKeys, needKey, needKeys, tableOf};
+ghost use Rattle.compat.specs.Keying.{keyWidth, keyCells, keyIn, keyName, printOf, exportKey, exportKeys, needKey, needKeys, tableOf};
+
+// A table of keys: the cells of a row, a row for each row of both modules, and the cells of the whole table.
+pub(crate) const KEY_WIDTH: usize = 7;
+
+pub(crate) const MAX_KEYS: usize = MAX_EXPORT_DIFFS;
+
+pub(crate) const KEY_CELLS: usize = MAX_KEYS * KEY_WIDTH;
 
 pub(crate) struct Key {
     // 0 for a row of the baseline, 1 for one of the candidate; and a range of its file
@@ -29,13 +39,13 @@ pub(crate) fn key_at(table: &[usize], i: usize) -> Key
     ensures { λ r. ⌜ r ≡ keyIn (now (table .entry)) i ⌝ }
 {
     Key {
-        file: table::cell(table, 7, i, 0),
-        from: table::cell(table, 7, i, 1),
-        len: table::cell(table, 7, i, 2),
-        major: table::cell(table, 7, i, 3),
-        minor: table::cell(table, 7, i, 4),
-        mark: table::cell(table, 7, i, 5),
-        print: table::cell(table, 7, i, 6),
+        file: table::cell(table, KEY_WIDTH, i, 0),
+        from: table::cell(table, KEY_WIDTH, i, 1),
+        len: table::cell(table, KEY_WIDTH, i, 2),
+        major: table::cell(table, KEY_WIDTH, i, 3),
+        minor: table::cell(table, KEY_WIDTH, i, 4),
+        mark: table::cell(table, KEY_WIDTH, i, 5),
+        print: table::cell(table, KEY_WIDTH, i, 6),
     }
 }
 
@@ -80,9 +90,9 @@ fn fingerprint(name: &[u8]) -> usize
 fn export_key(side: usize, file: &[u8], exports: &[usize], i: usize) -> Key
     ensures { λ r. ⌜ r ≡ exportKey side (now (file .entry)) (now (exports .entry)) i ⌝ }
 {
-    let from = table::cell(exports, 4, i, 0);
-    let len = table::cell(exports, 4, i, 1);
-    let minor = kind_rank(table::cell(exports, 4, i, 2));
+    let from = table::cell(exports, EXPORT_WIDTH, i, 0);
+    let len = table::cell(exports, EXPORT_WIDTH, i, 1);
+    let minor = kind_rank(table::cell(exports, EXPORT_WIDTH, i, 2));
     let print = fingerprint(table::range(file, from, len));
     Key {
         file: side,
@@ -108,14 +118,14 @@ fn wanted(kind: usize) -> usize
 fn need_key(side: usize, file: &[u8], imports: &[usize], i: usize) -> Key
     ensures { λ r. ⌜ r ≡ needKey side (now (file .entry)) (now (imports .entry)) i ⌝ }
 {
-    let from = table::cell(imports, 5, i, 0);
-    let len = table::cell(imports, 5, i, 1);
+    let from = table::cell(imports, IMPORT_WIDTH, i, 0);
+    let len = table::cell(imports, IMPORT_WIDTH, i, 1);
     let source = table::range(file, from, len);
-    let field_from = table::cell(imports, 5, i, 2);
-    let field_len = table::cell(imports, 5, i, 3);
+    let field_from = table::cell(imports, IMPORT_WIDTH, i, 2);
+    let field_len = table::cell(imports, IMPORT_WIDTH, i, 3);
     let field = table::range(file, field_from, field_len);
     let major = domain_number(classify_import(source, field));
-    let mark = wanted(table::cell(imports, 5, i, 4));
+    let mark = wanted(table::cell(imports, IMPORT_WIDTH, i, 4));
     let print = fingerprint(source);
     Key {
         file: side,
@@ -156,7 +166,7 @@ pub(crate) fn fill_exports(
     n: usize,
     keys: &mut [usize],
 )
-    requires { ⌜ (now keys ≡ laid (length (now keys)) []) × (n * 7 ≤ length (now keys)) ⌝ }
+    requires { ⌜ (now keys ≡ laid (length (now keys)) []) × (n * keyWidth ≤ length (now keys)) ⌝ }
     ensures { λ _. ⌜ now (keys .exit) ≡ tableOf (length (now (keys .entry)))
         (exportKeys (now (b .entry)) (now (be .entry)) nb (now (c .entry)) (now (ce .entry))) n ⌝ }
 {
@@ -176,7 +186,7 @@ pub(crate) fn fill_needs(
     n: usize,
     keys: &mut [usize],
 )
-    requires { ⌜ (now keys ≡ laid (length (now keys)) []) × (n * 7 ≤ length (now keys)) ⌝ }
+    requires { ⌜ (now keys ≡ laid (length (now keys)) []) × (n * keyWidth ≤ length (now keys)) ⌝ }
     ensures { λ _. ⌜ now (keys .exit) ≡ tableOf (length (now (keys .entry)))
         (needKeys (now (b .entry)) (now (bi .entry)) nb (now (c .entry)) (now (ci .entry))) n ⌝ }
 {

@@ -3,6 +3,7 @@ mod keys;
 mod lists;
 mod marks;
 
+use crate::keys::MAX_KEYS;
 use crate::lists::breaks_nothing;
 use crate::lists::lay_exports;
 use crate::lists::lay_needs;
@@ -11,10 +12,15 @@ use crate::lists::list_needs;
 use differences::check_both;
 use refusal::Answer;
 use refusal::Refusal;
+use table::shape::EXPORT_DIFF_WIDTH;
+use table::shape::MAX_EXPORT_DIFFS;
+use table::shape::MAX_NEED_DIFFS;
+use table::shape::NEED_DIFF_WIDTH;
 ghost use mathlib.Core.Path.{_≡_};
 ghost use mathlib.Core.List.{[]};
 ghost use lib.ListN.{length};
-ghost use Rattle.table.specs.Table.{laid, capacityOf};
+ghost use Rattle.table.specs.Table.{laid};
+ghost use Rattle.table.specs.Shape.{capacityIn};
 ghost use Rattle.differences.specs.Compared.{given, viewed, Good, lists, roomed, compared, Compares};
 ghost use Rattle.compat.specs.Answer.{saidCompared};
 
@@ -45,19 +51,19 @@ fn compare_tables<'a, 'b, 'c, 'd, 'e, 'f, 'g>(
 ) -> Compared
     requires { ⌜ (Good (given (now baseline) (now bi) nbi (now be) nbe)) × (Good (given (now candidate) (now ci) nci (now ce) nce)) ⌝ }
     requires { ⌜ (now xd ≡ laid (length (now xd)) []) × (now cd ≡ laid (length (now cd)) []) ⌝ }
-    ensures { λ r. ⌜ Compares (roomed (capacityOf (length (now (xd .entry))) 2 2048) (capacityOf (length (now (cd .entry))) 3 2048)
+    ensures { λ r. ⌜ Compares (roomed (capacityIn 8 (length (now (xd .entry)))) (capacityIn 9 (length (now (cd .entry))))
         (lists (viewed (given (now (baseline .entry)) (now (bi .entry)) nbi (now (be .entry)) nbe))
         (viewed (given (now (candidate .entry)) (now (ci .entry)) nci (now (ce .entry)) nce))))
         (now (xd .entry)) (now (xd .exit)) (now (cd .entry)) (now (cd .exit)) (saidCompared r) ⌝ }
 {
-    let mut exports = [0usize; 2048];
+    let mut exports = [0usize; MAX_KEYS];
     let m = list_exports(baseline, be, nbe, candidate, ce, nce, &mut exports);
-    if table::capacity(xd.len(), 2, 2048) < m {
+    if table::capacity(xd.len(), EXPORT_DIFF_WIDTH, MAX_EXPORT_DIFFS) < m {
         return Compared::Refused(Refusal::Full(8));
     }
-    let mut needs = [0usize; 2048];
+    let mut needs = [0usize; MAX_KEYS];
     let n = list_needs(baseline, bi, nbi, candidate, ci, nci, &mut needs);
-    if table::capacity(cd.len(), 3, 2048) < n {
+    if table::capacity(cd.len(), NEED_DIFF_WIDTH, MAX_NEED_DIFFS) < n {
         return Compared::Refused(Refusal::Full(9));
     }
     lay_exports(&exports[..m], nbe, xd);
@@ -87,7 +93,7 @@ pub fn compare_modules<'a, 'b, 'c, 'd, 'e, 'f, 'g>(
 ) -> Compared
     ensures { λ r. ⌜ Compares (compared (given (now (baseline .entry)) (now (bi .entry)) nbi (now (be .entry)) nbe)
         (given (now (candidate .entry)) (now (ci .entry)) nci (now (ce .entry)) nce)
-        (capacityOf (length (now (xd .entry))) 2 2048) (capacityOf (length (now (cd .entry))) 3 2048))
+        (capacityIn 8 (length (now (xd .entry)))) (capacityIn 9 (length (now (cd .entry)))))
         (now (xd .entry)) (now (xd .exit)) (now (cd .entry)) (now (cd .exit)) (saidCompared r) ⌝ }
 {
     table::clear(xd);

@@ -1,4 +1,5 @@
 // The two lists: the numbers of the rows that the other module lacks, in order, and the rows of tables 8 and 9.
+use crate::keys::KEY_CELLS;
 use crate::keys::fill_exports;
 use crate::keys::fill_needs;
 use crate::keys::need_at;
@@ -10,9 +11,10 @@ ghost use Prim.Native.Nat.{_+_, _*_, _≤_};
 ghost use lib.ListN.{length};
 ghost use Rattle.refusal.specs.Said.{accepted};
 ghost use Rattle.table.specs.Table.{laid, cells};
+ghost use Rattle.table.specs.Shape.{width, limit};
 ghost use Rattle.differences.specs.Compared.{exportsTested};
 ghost use Rattle.compat.specs.Listing.{Numbers, exportNumbered, needNumbered, exportsBetween, needsBetween};
-ghost use Rattle.compat.specs.Listing.{placeOf, placeCells, needCellsAt, hasSide};
+ghost use Rattle.compat.specs.Listing.{sideOf, placeCells, needCellsAt, hasSide};
 
 pub(crate) fn list_exports<'a, 'b, 'c, 'd>(
     b: &'a [u8],
@@ -23,12 +25,12 @@ pub(crate) fn list_exports<'a, 'b, 'c, 'd>(
     nc: usize,
     numbers: &'d mut [usize],
 ) -> usize
-    requires { ⌜ (nb ≤ 1024) × (nc ≤ 1024) × (nb + nc ≤ length (now numbers)) ⌝ }
+    requires { ⌜ (nb ≤ limit 3) × (nc ≤ limit 3) × (nb + nc ≤ length (now numbers)) ⌝ }
     requires { ⌜ (exportsTested (length (now b)) (now be) nb ≡ accepted tt) × (exportsTested (length (now c)) (now ce) nc ≡ accepted tt) ⌝ }
     ensures { λ r. ⌜ Numbers (exportNumbered (now (b .entry)) (now (be .entry)) nb (now (c .entry)) (now (ce .entry)))
         (exportsBetween (now (b .entry)) (now (be .entry)) nb (now (c .entry)) (now (ce .entry)) nc) (now (numbers .exit)) r ⌝ }
 {
-    let mut keys = [0usize; 14336];
+    let mut keys = [0usize; KEY_CELLS];
     let n = nb + nc;
     fill_exports(b, be, nb, c, ce, n, &mut keys);
     sort_missing(b, c, &keys, nb, n, true, numbers)
@@ -43,11 +45,11 @@ pub(crate) fn list_needs<'a, 'b, 'c, 'd>(
     nc: usize,
     numbers: &'d mut [usize],
 ) -> usize
-    requires { ⌜ (nb ≤ 1024) × (nc ≤ 1024) × (nb + nc ≤ length (now numbers)) ⌝ }
+    requires { ⌜ (nb ≤ limit 2) × (nc ≤ limit 2) × (nb + nc ≤ length (now numbers)) ⌝ }
     ensures { λ r. ⌜ Numbers (needNumbered (now (b .entry)) (now (bi .entry)) nb (now (c .entry)) (now (ci .entry)))
         (needsBetween (now (b .entry)) (now (bi .entry)) nb (now (c .entry)) (now (ci .entry)) nc) (now (numbers .exit)) r ⌝ }
 {
-    let mut keys = [0usize; 14336];
+    let mut keys = [0usize; KEY_CELLS];
     let n = nb + nc;
     fill_needs(b, bi, nb, c, ci, n, &mut keys);
     sort_missing(b, c, &keys, nb, n, false, numbers)
@@ -60,7 +62,7 @@ struct Place {
 }
 
 fn place_of(nb: usize, i: usize) -> Place
-    ensures { λ r. ⌜ r ≡ placeOf nb i ⌝ }
+    ensures { λ r. ⌜ r ≡ sideOf nb i ⌝ }
 {
     if i < nb {
         return Place { side: 0, row: i };
@@ -73,7 +75,7 @@ fn place_of(nb: usize, i: usize) -> Place
 
 // Table 8.
 pub(crate) fn lay_exports(numbers: &[usize], nb: usize, table: &mut [usize])
-    requires { ⌜ (now table ≡ laid (length (now table)) []) × (length (now numbers) * 2 ≤ length (now table)) ⌝ }
+    requires { ⌜ (now table ≡ laid (length (now table)) []) × (length (now numbers) * width 8 ≤ length (now table)) ⌝ }
     ensures { λ _. ⌜ now (table .exit) ≡ laid (length (now (table .entry))) (cells (placeCells nb) (now (numbers .entry))) ⌝ }
 {
     let mut j = 0;
@@ -94,7 +96,7 @@ pub(crate) fn lay_needs(
     numbers: &[usize],
     table: &mut [usize],
 )
-    requires { ⌜ (now table ≡ laid (length (now table)) []) × (length (now numbers) * 3 ≤ length (now table)) ⌝ }
+    requires { ⌜ (now table ≡ laid (length (now table)) []) × (length (now numbers) * width 9 ≤ length (now table)) ⌝ }
     ensures { λ _. ⌜ now (table .exit) ≡ laid (length (now (table .entry)))
         (cells (needCellsAt (now (b .entry)) (now (bi .entry)) nb (now (c .entry)) (now (ci .entry))) (now (numbers .entry))) ⌝ }
 {

@@ -1,4 +1,6 @@
 // Which rows the other module lacks.
+use crate::keys::KEY_CELLS;
+use crate::keys::KEY_WIDTH;
 use crate::keys::Key;
 use crate::keys::key_at;
 use crate::keys::key_name;
@@ -11,7 +13,7 @@ ghost use mathlib.Core.List.{[]};
 ghost use Prim.Native.Nat.{ℕ, _*_, _≤_, _<_};
 ghost use lib.ListN.{length};
 ghost use Rattle.table.specs.Table.{laid};
-ghost use Rattle.compat.specs.Keying.{keyIn, meets, Printed, othersOf, alone, tableOf, missing, Sized};
+ghost use Rattle.compat.specs.Keying.{keyWidth, keyLimit, keyIn, meets, Printed, othersOf, alone, tableOf, missing, Sized};
 
 // A run of rows, from one to before another.
 pub(crate) struct Span {
@@ -50,7 +52,7 @@ fn same_row<'a, 'b>(first: &'a [u8], second: &'a [u8], plain: &'b [usize], k: Ke
     requires { ⌜ (Printed (now first) (now second) k) × (Printed (now first) (now second) (keyIn (now plain) j)) ⌝ }
     ensures { λ r. ⌜ r ≡ meets (now (first .entry)) (now (second .entry)) k (keyIn (now (plain .entry)) j) ⌝ }
 {
-    if k.print != table::cell(plain, 7, j, 6) {
+    if k.print != table::cell(plain, KEY_WIDTH, j, 6) {
         return false;
     }
     same_key(first, second, k, key_at(plain, j))
@@ -65,7 +67,7 @@ fn mark_missing<'a, 'b, 'c>(
     n: usize,
     keys: &'c mut [usize],
 )
-    requires { ⌜ (now keys ≡ laid (length (now keys)) []) × (n * 7 ≤ length (now keys)) × (nb ≤ n) ⌝ }
+    requires { ⌜ (now keys ≡ laid (length (now keys)) []) × (n * keyWidth ≤ length (now keys)) × (nb ≤ n) ⌝ }
     requires { ⌜ ((i : ℕ) → i < n → Printed (now first) (now second) (keyIn (now plain) i)) ⌝ }
     ensures { λ _. ⌜ now (keys .exit) ≡ tableOf (length (now (keys .entry)))
         (alone (now (first .entry)) (now (second .entry)) (now (plain .entry)) nb n) n ⌝ }
@@ -98,15 +100,15 @@ pub(crate) fn sort_missing<'a, 'b, 'c>(
     every: bool,
     numbers: &'c mut [usize],
 ) -> usize
-    requires { ⌜ (nb ≤ n) × (n ≤ 2048) × (n ≤ length (now numbers)) ⌝ }
+    requires { ⌜ (nb ≤ n) × (n ≤ keyLimit) × (n ≤ length (now numbers)) ⌝ }
     requires { ⌜ ((i : ℕ) → i < n → Printed (now first) (now second) (keyIn (now plain) i)) ⌝ }
     ensures { λ r. ⌜ Sized (missing (now (first .entry)) (now (second .entry)) (now (plain .entry)) nb n every)
         (now (numbers .entry)) (now (numbers .exit)) r ⌝ }
 {
-    let mut keys = [0usize; 14336];
+    let mut keys = [0usize; KEY_CELLS];
     mark_missing(first, second, plain, nb, n, &mut keys);
     let by = Keys {
-        width: 7,
+        width: KEY_WIDTH,
         mark: 5,
         value: 1,
         major: 3,

@@ -6,6 +6,7 @@ use mathlib.Core.List.{List}
 use lib.ListN.{length}
 use borrow.Author.Tests.{le-ltb, le-leb, ne-eqb}
 use Rattle.refusal.specs.Said.{Said, accepted, Got, got, onward}
+use Rattle.refusal.specs.Sizes.{fileLimit}
 use Rattle.table.specs.Walking.{walkFrom}
 use Rattle.table.proofs.Walking.{from-stop, from-go}
 use Rattle.leb.specs.Reads.{byteAt, u32At, takeAt, countedAt}
@@ -72,7 +73,7 @@ long-sizes s at n k u small fits whole =
 comes : (b : List ℕ) (z : Sizes) (at : ℕ) (t : Tables) → Comes b z at t
     → moduleAt b z ≡ onward (walkFrom (sectionAt b z) b at t) (λ u d. accepted (record { version = versionOf b; tables = u }))
 unfolding moduleAt onward
-comes b z at t (start h short) = rw (le-ltb 16777216 (length b) short, header-reads b h)
+comes b z at t (start h short) = rw (le-ltb fileLimit (length b) short, header-reads b h)
 comes b z d u (after {at = at} {t = t} c e) =
     let k = took b z at t u d e in
     comes b z at t c

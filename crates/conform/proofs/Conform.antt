@@ -13,10 +13,10 @@ use borrow.Author.Tests.{lt-ltb, le-ltb, le-leb, eq-eqb}
 use Rattle.refusal.specs.Said.{Said, accepted, Got, got, onward}
 use Rattle.refusal.specs.declared.Part.{Part}
 use Rattle.text.specs.Utf8.{upTo}
-use Rattle.table.specs.Table.{capacityOf}
+use Rattle.table.specs.Shape.{capacityIn}
 use Rattle.table.specs.Entries.{entriesFrom}
 use Rattle.leb.specs.Grammar.{U}
-use Rattle.leb.specs.Reads.{part, bytesOf, byteAt, u32At, takeAt, countedAt, checked, nameAt}
+use Rattle.leb.specs.Reads.{part, partBytes, byteAt, u32At, takeAt, countedAt, checked, nameAt}
 use Rattle.leb.proofs.Beyond.{u32-long}
 use Rattle.leb.proofs.Bounds.{u32-in}
 use Rattle.wasm.specs.Shapes.{Limits, Desc, Import, Export, Symbol}
@@ -26,7 +26,7 @@ use Rattle.conform.specs.Grammar.{Many, none, more, FunctionOf}
 use Rattle.conform.specs.Port.{Number, number, Named, named, Counted, counted, AnyLimits, even, odd, AnyDesc, function, tables}
 use Rattle.conform.specs.Port.{memories}
 use Rattle.conform.specs.Port.{globals, ImportSaid, AnyImport, imported, ExportSaid, AnyExport, exported, AnyAssoc, assoc}
-use Rattle.conform.specs.Claims.{All, nil, cons}
+use Rattle.conform.specs.Claims.{Pairwise, nil, cons}
 
 module _ (s : List ℕ) (size : length s < 18446744073709551616) where
   -- a reading finds v and leaves r
@@ -125,7 +125,7 @@ module _ (s : List ℕ) (size : length s < 18446744073709551616) where
     pub range : Part
     pub next : ℕ
     pub is : nameAt s at ≡ accepted (got range next)
-    pub holds : bytesOf s range ≡ b
+    pub holds : partBytes s range ≡ b
     pub rest : drop next s ≡ r
     pub inside : range .from + range .len ≤ length s
     pub in-s : next ≤ length s
@@ -159,8 +159,8 @@ module _ (s : List ℕ) (size : length s < 18446744073709551616) where
     pub first : Part
     pub second : Part
     pub row-is : row ≡ record { «module» = moved base first; field = moved base second; kind = v .kind; desc = v .desc }
-    pub module-is : bytesOf s first ≡ v .from
-    pub field-is : bytesOf s second ≡ v .name
+    pub module-is : partBytes s first ≡ v .from
+    pub field-is : partBytes s second ≡ v .name
     pub first-in : first .from + first .len ≤ length s
     pub second-in : second .from + second .len ≤ length s
 
@@ -192,7 +192,7 @@ module _ (s : List ℕ) (size : length s < 18446744073709551616) where
   pub record ExportRow (base : ℕ) (row : Export) (v : ExportSaid) : Type 0 where
     pub first : Part
     pub row-is : row ≡ record { name = moved base first; kind = v .kind; index = v .index }
-    pub name-is : bytesOf s first ≡ v .name
+    pub name-is : partBytes s first ≡ v .name
     pub first-in : first .from + first .len ≤ length s
 
   -- an export is read
@@ -214,7 +214,7 @@ module _ (s : List ℕ) (size : length s < 18446744073709551616) where
   pub record FunctionRow (base : ℕ) (row : Symbol) (v : FunctionOf) : Type 0 where
     pub first : Part
     pub row-is : row ≡ record { index = v .index; name = moved base first }
-    pub name-is : bytesOf s first ≡ v .name
+    pub name-is : partBytes s first ≡ v .name
     pub first-in : first .from + first .len ≤ length s
 
   -- a function name is read
@@ -239,7 +239,7 @@ module _ (s : List ℕ) (size : length s < 18446744073709551616) where
     pub record Run (x : Said (Got (List E))) (rows : List E) (vs : List X) (r : List ℕ) : Type 0 where
       pub new : List E
       pub stands : Stands x (rows ++ new) r
-      pub agree : All R new vs
+      pub agree : Pairwise R new vs
 
     many-reads : (n at : ℕ) (l r : List ℕ) (vs : List X) (rows : List E) → drop at s ≡ l → length rows + length vs ≤ room
         → Many B n l vs r → Run (entriesFrom read tn room n at rows) rows vs r
@@ -273,29 +273,29 @@ module _ (s : List ℕ) (size : length s < 18446744073709551616) where
 
   -- payloads, where the tables have room: the rows are exactly what the specification says
   module _ (base cells : ℕ) (r : List ℕ) where
-    pub imports-read : (vs : List ImportSaid) → Counted AnyImport s vs r → length vs ≤ capacityOf cells 5 1024
-        → (es : List Import) × Stands (importsOf s base cells) es r × All (ImportRow base) es vs
+    pub imports-read : (vs : List ImportSaid) → Counted AnyImport s vs r → length vs ≤ capacityIn 2 cells
+        → (es : List Import) × Stands (importsOf s base cells) es r × Pairwise (ImportRow base) es vs
     unfolding importsOf
     imports-read vs w h =
         let i =
-        counted-reads AnyImport (ImportRow base) (importAt s base) (import-reads base) 2 (capacityOf cells 5 1024) r vs []
+        counted-reads AnyImport (ImportRow base) (importAt s base) (import-reads base) 2 (capacityIn 2 cells) r vs []
         (omega arith) w in
         (i .new, i .stands, i .agree)
 
-    pub exports-read : (vs : List ExportSaid) → Counted AnyExport s vs r → length vs ≤ capacityOf cells 4 1024
-        → (es : List Export) × Stands (exportsOf s base cells) es r × All (ExportRow base) es vs
+    pub exports-read : (vs : List ExportSaid) → Counted AnyExport s vs r → length vs ≤ capacityIn 3 cells
+        → (es : List Export) × Stands (exportsOf s base cells) es r × Pairwise (ExportRow base) es vs
     unfolding exportsOf
     exports-read vs w h =
         let i =
-        counted-reads AnyExport (ExportRow base) (exportAt s base) (export-reads base) 3 (capacityOf cells 4 1024) r vs []
+        counted-reads AnyExport (ExportRow base) (exportAt s base) (export-reads base) 3 (capacityIn 3 cells) r vs []
         (omega arith) w in
         (i .new, i .stands, i .agree)
 
     pub functions-read : (vs : List FunctionOf) (rows : List Symbol) → Counted AnyAssoc s vs r
-        → length rows + length vs ≤ capacityOf cells 3 4096
-        → (es : List Symbol) × Stands (symbolsOf s base cells rows) (rows ++ es) r × All (FunctionRow base) es vs
+        → length rows + length vs ≤ capacityIn 4 cells
+        → (es : List Symbol) × Stands (symbolsOf s base cells rows) (rows ++ es) r × Pairwise (FunctionRow base) es vs
     unfolding symbolsOf
     functions-read vs rows w h =
         let i =
-        counted-reads AnyAssoc (FunctionRow base) (symbolAt s base) (function-reads base) 4 (capacityOf cells 3 4096) r vs rows h w in
+        counted-reads AnyAssoc (FunctionRow base) (symbolAt s base) (function-reads base) 4 (capacityIn 4 cells) r vs rows h w in
         (i .new, i .stands, i .agree)

@@ -10,26 +10,28 @@ use lib.Seq.{length-take-le}
 use lib.Dec.{ltb}
 use borrow.Author.Tests.{ltb-false}
 use Rattle.refusal.specs.Pick.{pick}
+use Rattle.refusal.specs.Sizes.{fileLimit}
 use Rattle.refusal.specs.Said.{accepted, refused, got, onward}
 use Rattle.refusal.specs.declared.Part.{Part}
 use Rattle.refusal.proofs.Following.{never, read-on}
 use Rattle.text.specs.Find.{same}
 use Rattle.text.proofs.FindLaws.{same-is, same-self}
-use Rattle.table.specs.Table.{capacityOf}
+use Rattle.table.specs.Shape.{capacityIn}
 use Rattle.table.specs.Walking.{walkFrom}
-use Rattle.table.proofs.Giving.{Gives, Of, Each, no-row, row}
-use Rattle.leb.specs.Reads.{part, bytesOf, nameAt}
+use Rattle.refusal.specs.Each.{Each, each-nil, each-cons}
+use Rattle.table.proofs.Giving.{Gives, Of}
+use Rattle.leb.specs.Reads.{part, partBytes, nameAt}
 use Rattle.wasm.specs.Shapes.{Import, Export, Symbol}
 use Rattle.wasm.specs.Entry.{importAt, exportAt, symbolAt, moved}
 use Rattle.wasm.specs.Rows.{importsOf, exportsOf, symbolsOf}
-use Rattle.wasm.specs.Custom.{Names, labelAt, toldBy, subsectionAt, nameWord, Spoken, customAt}
+use Rattle.wasm.specs.Custom.{Names, labelAt, toldBy, subsectionAt, nameWord, CustomSaid, customAt}
 use Rattle.wasm.specs.Module.{Tables, withNames, Sizes, Inner, contentsAt, sectionAt, headerAt, noTables}
 use Rattle.wasm.specs.Module.{Parsed, moduleAt}
 use Rattle.conform.specs.Grammar.{FunctionOf, SubOf, moduleName, functionNames, nameBytes}
-use Rattle.conform.specs.Port.{Named, AnyImport, AnyExport, AnyAssoc, AnySub, Framed, framed, Row, Held, SectionSaid}
+use Rattle.conform.specs.Port.{Named, AnyImport, AnyExport, AnyAssoc, AnySub, Framed, framed, InARow, Held, SectionSaid}
 use Rattle.conform.specs.Port.{AnyContent, AnySection, AnyModule}
-use Rattle.conform.specs.Claims.{All, ImportHere, ExportHere, functionsOf, nameOr, nameIn, functionsIn, Derives, OnlyThese}
-use Rattle.conform.specs.Claims.{functionsAll, Fits, FitsIn}
+use Rattle.conform.specs.Claims.{Pairwise, ImportHere, ExportHere, functionsOf, nameOr, nameIn, functionsIn, Derives, OnlyThese}
+use Rattle.conform.specs.Claims.{functionsAll, HeldFits, FitsIn}
 use Rattle.conform.specs.Sound.{ModuleOk}
 use Rattle.conform.proofs.Sound.{Few, few-run, rows-sound}
 use Rattle.conform.proofs.Parts.{In, same-part, in-part}
@@ -43,11 +45,11 @@ use Rattle.conform.proofs.Whole.{rows-of}
 use Rattle.conform.proofs.Only.{either, only-byte, only-counted, only-name, only-import, only-export, only-function, only-run}
 
 -- a range that was taken lies in the bytes
-taken-in : (b : List ℕ) (p : Part) (d : ℕ) → p .from + p .len ≡ d → d ≤ length b → In b (p .from) (bytesOf b p)
+taken-in : (b : List ℕ) (p : Part) (d : ℕ) → p .from + p .len ≡ d → d ≤ length b → In b (p .from) (partBytes b p)
 taken-in b p d e h =
-    let n : length (bytesOf b p) ≡ p .len =
+    let n : length (partBytes b p) ≡ p .len =
     length-take-le (p .len) (drop (p .from) b) (omega (arith, length-drop (p .from) b)) in
-    record { holds = ap (λ (k : ℕ). bytesOf b (part (p .from) k)) n; inside = omega (arith, n) }
+    record { holds = ap (λ (k : ℕ). partBytes b (part (p .from) k)) n; inside = omega (arith, n) }
 
 drop-all : (at : ℕ) (l : List ℕ) → length l ≤ at → drop at l ≡ []
 drop-all at l h = nothing (drop at l) (omega (arith, length-drop at l))
@@ -71,9 +73,9 @@ module _ (b q : List ℕ) (a : ℕ) (in-b : In b a q) (size : length q < 1844674
       let o = read-on (nameAt q 0) _ f in
       let p = only-name q size 0 (o .what) (o .next) (o .first) in
       record {
-        value = moduleName (bytesOf q (o .what));
-        derives = subst (λ (i : ℕ). AnySub i q (moduleName (bytesOf q (o .what)))) (sym h) (AnySub.modulename (p .0));
-        adds = subst (λ (x : Names). Adds b t x [] (λ c. nameOr c (moduleName (bytesOf q (o .what))))) (same-got (o .then) .0)
+        value = moduleName (partBytes q (o .what));
+        derives = subst (λ (i : ℕ). AnySub i q (moduleName (partBytes q (o .what)))) (sym h) (AnySub.modulename (p .0));
+        adds = subst (λ (x : Names). Adds b t x [] (λ c. nameOr c (moduleName (partBytes q (o .what))))) (same-got (o .then) .0)
             (label t (o .what) (p .1));
       })
       (λ n0 f.
@@ -101,7 +103,7 @@ module _ (b q : List ℕ) (a : ℕ) (in-b : In b a q) (size : length q < 1844674
 
       label : (t : Names) (p : Part) → p .from + p .len ≤ length q
           → Adds b t (record { label = record { named = true; start = a + p .from; size = p .len }; symbols = t .symbols }) []
-          (λ c. nameOr c (moduleName (bytesOf q p)))
+          (λ c. nameOr c (moduleName (partBytes q p)))
       label t p h =
           record {
             grows = omega arith;
@@ -109,7 +111,7 @@ module _ (b q : List ℕ) (a : ℕ) (in-b : In b a q) (size : length q < 1844674
             name-is = λ c k. (refl, same-part in-b p h);
           }
 
-      rows : (t : Names) (all new : List Symbol) (vs : List FunctionOf) → all ≡ t .symbols ++ new → All (FunctionRow q size a) new vs
+      rows : (t : Names) (all new : List Symbol) (vs : List FunctionOf) → all ≡ t .symbols ++ new → Pairwise (FunctionRow q size a) new vs
           → Adds b t (record { label = t .label; symbols = all }) vs (λ c. c)
       rows t all new vs e h =
           let here = all-map (function-here b q a in-b size) new vs h in
@@ -123,13 +125,13 @@ module _ (b q : List ℕ) (a : ℕ) (in-b : In b a q) (size : length q < 1844674
 module _ (b s : List ℕ) (base : ℕ) (in-b : In b base s) (size : length s < 18446744073709551616) (cells : ℕ) where
   record HeardAll (at : ℕ) (t u : Names) : Type 0 where
     values : List SubOf
-    derives : Row (Framed AnySub) (drop at s) values []
+    derives : InARow (Framed AnySub) (drop at s) values []
     adds : Adds b t u (functionsIn values) (λ c. nameIn c values)
 
   heard-end : (at : ℕ) (t : Names) → length s ≤ at → HeardAll at t t
   unfolding functionsIn nameIn
   heard-end at t h =
-      record { values = []; derives = rw (drop-all at s h) Row.done; adds = adds-nothing b t }
+      record { values = []; derives = rw (drop-all at s h) InARow.done; adds = adds-nothing b t }
 
   heard-on : (at : ℕ) (t v u : Names) (d e : ℕ) → subsectionAt s base cells at t ≡ accepted (got v d) → HeardAll d v u → HeardAll at t u
   unfolding functionsIn nameIn
@@ -138,12 +140,13 @@ module _ (b s : List ℕ) (base : ℕ) (in-b : In b base s) (size : length s < 1
       let p = k .payload in
       let i = taken-in s p d (k .ends) (k .in-s) in
       let o =
-      heard b (bytesOf s p) (base + p .from) (in-part in-b (p .from) (bytesOf s p) i) (omega (arith, i .inside)) cells (k .id) t v (k .end)
+      heard b (partBytes s p) (base + p .from) (in-part in-b (p .from) (partBytes s p) i) (omega (arith, i .inside)) cells (k .id) t v
+      (k .end)
       (k .three) in
       record {
         values = o .value ∷ more .values;
         derives = rw (only-byte s size at (k .id) (k .a) (k .one))
-            (Row.then (framed (only-counted s size (k .a) p d (k .two)) (o .derives)) (more .derives));
+            (InARow.then (framed (only-counted s size (k .a) p d (k .two)) (o .derives)) (more .derives));
         adds = adds-more b t v u _ _ (λ c. nameOr c (o .value)) (λ c. nameIn c (more .values)) (o .adds) (more .adds);
       }
 
@@ -159,16 +162,17 @@ module _ (b s : List ℕ) (base : ℕ) (in-b : In b base s) (size : length s < 1
     value : Held
     derives : AnyContent id s value
     leaves : Leaves b t u value
-    fits : Fits z value
+    fits : HeldFits z value
 
   -- a custom section, by whether it is named `name`
-  module _ (n : ℕ) (t : Tables) (p : Part) (at : ℕ) (first : Named s (bytesOf s p) (drop at s)) (whole : p .from + p .len ≤ length s) where
-    titled : (v : Names) (c : ℕ) (x : Bool) → same nameBytes (bytesOf s p) ≡ x
+  module _ (n : ℕ) (t : Tables) (p : Part) (at : ℕ) (first : Named s (partBytes s p) (drop at s))
+      (whole : p .from + p .len ≤ length s) where
+    titled : (v : Names) (c : ℕ) (x : Bool) → same nameBytes (partBytes s p) ≡ x
         → pick x (walkFrom (subsectionAt s base n) s at (t .names)) (accepted (got (t .names) at)) ≡ accepted (got v c)
         → Contents 0 t (record { name = moved base p; tables = withNames t v })
     unfolding functionsIn nameIn
     titled v c true x e =
-        let is = same-is nameBytes (bytesOf s p) x in
+        let is = same-is nameBytes (partBytes s p) x in
         let o = heard-all b s base in-b size n at (t .names) v c e in
         record {
           value = Held.names (o .values);
@@ -185,7 +189,7 @@ module _ (b s : List ℕ) (base : ℕ) (in-b : In b base s) (size : length s < 1
     titled v c false x e =
         let q = same-got e in
         record {
-          value = Held.custom (bytesOf s p);
+          value = Held.custom (partBytes s p);
           derives = AnyContent.custom first (λ is. differ is);
           leaves = record {
             keeps = refl;
@@ -197,14 +201,14 @@ module _ (b s : List ℕ) (base : ℕ) (in-b : In b base s) (size : length s < 1
           fits = tt;
         }
       where
-        differ : bytesOf s p ≡ nameBytes → ⊥
+        differ : partBytes s p ≡ nameBytes → ⊥
         differ is =
-            let y : same nameBytes (bytesOf s p) ≡ true = rw is (same-self nameBytes) in
+            let y : same nameBytes (partBytes s p) ≡ true = rw is (same-self nameBytes) in
             let z : true ≡ false = sym y ∙ x in
             let n : _≡_ {A = ℕ} 0 1 = cc in
             omega arith
 
-  custom : (n : ℕ) (t : Tables) (u : Spoken) (d : ℕ) → customAt s base n (t .names) ≡ accepted (got u d)
+  custom : (n : ℕ) (t : Tables) (u : CustomSaid) (d : ℕ) → customAt s base n (t .names) ≡ accepted (got u d)
       → Contents 0 t (record { name = u .name; tables = withNames t (u .inner) })
   unfolding customAt nameWord
   custom n t u d e =
@@ -213,8 +217,8 @@ module _ (b s : List ℕ) (base : ℕ) (in-b : In b base s) (size : length s < 1
       let w = only-name s size 0 p (o .next) (o .first) in
       let x = read-on _ _ (o .then) in
       let g = same-got (x .then) in
-      subst (λ (k : Spoken). Contents 0 t (record { name = k .name; tables = withNames t (k .inner) })) (g .0)
-      (titled n t p (o .next) (w .0) (w .1) (x .what) (x .next) (same nameBytes (bytesOf s p)) refl (x .first))
+      subst (λ (k : CustomSaid). Contents 0 t (record { name = k .name; tables = withNames t (k .inner) })) (g .0)
+      (titled n t p (o .next) (w .0) (w .1) (x .what) (x .next) (same nameBytes (partBytes s p)) refl (x .first))
 
   contents : (id : ℕ) (t : Tables) (u : Inner) (d : ℕ) → contentsAt id s base z t ≡ accepted (got u d) → Contents id t u
   unfolding contentsAt importsOf exportsOf functionsIn nameIn Gives Of Few
@@ -237,14 +241,14 @@ module _ (b s : List ℕ) (base : ℕ) (in-b : In b base s) (size : length s < 1
           keeps = refl;
           title-is = refl;
           imports-are = λ xs k.
-              subst (λ (es : List Import). All (ImportHere b) es (i .values)) (sym (i .is))
+              subst (λ (es : List Import). Pairwise (ImportHere b) es (i .values)) (sym (i .is))
               (all-map (import-here b s base in-b size) (i .new) (i .values) (i .agree));
           exports-are = λ xs k. k;
           adds = adds-nothing b (t .names);
         };
         fits = omega (
           arith,
-          few-run (importAt s base) 2 (capacityOf (z .imports) 5 1024) s [] (omega arith) (got (o .what) (o .next)) (o .first),
+          few-run (importAt s base) 2 (capacityIn 2 (z .imports)) s [] (omega arith) (got (o .what) (o .next)) (o .first),
           ap length (i .is),
           all-length (i .new) (i .values) (i .agree),
         );
@@ -264,13 +268,13 @@ module _ (b s : List ℕ) (base : ℕ) (in-b : In b base s) (size : length s < 1
           title-is = refl;
           imports-are = λ xs k. k;
           exports-are = λ xs k.
-              subst (λ (es : List Export). All (ExportHere b) es (i .values)) (sym (i .is))
+              subst (λ (es : List Export). Pairwise (ExportHere b) es (i .values)) (sym (i .is))
               (all-map (export-here b s base in-b size) (i .new) (i .values) (i .agree));
           adds = adds-nothing b (t .names);
         };
         fits = omega (
           arith,
-          few-run (exportAt s base) 3 (capacityOf (z .exports) 4 1024) s [] (omega arith) (got (o .what) (o .next)) (o .first),
+          few-run (exportAt s base) 3 (capacityIn 3 (z .exports)) s [] (omega arith) (got (o .what) (o .next)) (o .first),
           ap length (i .is),
           all-length (i .new) (i .values) (i .agree),
         );
@@ -296,7 +300,7 @@ module _ (b s : List ℕ) (base : ℕ) (in-b : In b base s) (size : length s < 1
 module _ (b : List ℕ) (size : length b < 18446744073709551616) (z : Sizes) where
   record Told (at : ℕ) (t u : Tables) : Type 0 where
     values : List SectionSaid
-    derives : Row (Framed AnySection) (drop at b) values []
+    derives : InARow (Framed AnySection) (drop at b) values []
     tells : Tells b t u values
     fits : Each (FitsIn z) values
 
@@ -306,39 +310,40 @@ module _ (b : List ℕ) (size : length b < 18446744073709551616) (z : Sizes) whe
       let k = took b z at t v d q in
       let p = k .payload in
       let i = taken-in b p d (k .ends) (k .in-b) in
-      let o = contents b (bytesOf b p) (p .from) i (omega (arith, i .inside)) z (k .id) t (k .inner) (k .end) (k .three) in
-      let said : SectionSaid = record { id = k .id; payload = bytesOf b p; holds = o .value } in
+      let o = contents b (partBytes b p) (p .from) i (omega (arith, i .inside)) z (k .id) t (k .inner) (k .end) (k .three) in
+      let said : SectionSaid = record { id = k .id; payload = partBytes b p; holds = o .value } in
       let w : Says b t v said =
-      subst (λ (x : Tables). Says b t x said) (sym (k .is)) (says-of b (bytesOf b p) (k .id) p t (k .inner) (o .value) refl (o .leaves)) in
+      subst (λ (x : Tables). Says b t x said) (sym (k .is)) (says-of b (partBytes b p) (k .id) p t (k .inner) (o .value) refl
+      (o .leaves)) in
       record {
         values = said ∷ more .values;
         derives = rw (only-byte b size at (k .id) (k .a) (k .one))
-            (Row.then (framed (only-counted b size (k .a) p d (k .two)) (AnySection.section (o .derives))) (more .derives));
+            (InARow.then (framed (only-counted b size (k .a) p d (k .two)) (AnySection.section (o .derives))) (more .derives));
         tells = tells-more b t v u said (more .values) w (more .tells);
-        fits = row (o .fits) (more .fits);
+        fits = each-cons (o .fits) (more .fits);
       }
 
   told-all : (at : ℕ) (t u : Tables) (e : ℕ) → walkFrom (sectionAt b z) b at t ≡ accepted (got u e) → Told at t u
   told-all at t u e q =
       walk-out (sectionAt b z) b (λ i t u d f. let k = took b z i t u d f in (omega (arith, k .past, k .ends), k .in-b))
       (λ i t e u. Told i t u)
-      (λ i t h. record { values = []; derives = rw (drop-all i b h) Row.done; tells = tells-nothing b t; fits = no-row })
+      (λ i t h. record { values = []; derives = rw (drop-all i b h) InARow.done; tells = tells-nothing b t; fits = each-nil })
       told-on at t u e q
 
 -- all that is accepted is derived, with those rows
 pub only-these : OnlyThese
 unfolding moduleAt
-only-these b z m bytes e = by (ltb 16777216 (length b)) refl e where
+only-these b z m bytes e = by (ltb fileLimit (length b)) refl e where
   same-said : {v w : Parsed} → accepted v ≡ accepted w → v ≡ w
   same-said e = cc
 
-  by : (x : Bool) → ltb 16777216 (length b) ≡ x
+  by : (x : Bool) → ltb fileLimit (length b) ≡ x
       → pick x (refused 14 0) (onward (headerAt b) (λ v c.
       onward (walkFrom (sectionAt b z) b c noTables) (λ t d. accepted (record { version = v; tables = t })))) ≡ accepted m
       → Derives b z m
   by true x f = absurd (never f)
   by false x f =
-      let short = ltb-false 16777216 (length b) x in
+      let short = ltb-false fileLimit (length b) x in
       let o = read-on (headerAt b) _ f in
       let h = header-only b (o .what) (o .next) (o .first) in
       let y = read-on (walkFrom (sectionAt b z) b (o .next) noTables) _ (o .then) in
@@ -349,7 +354,7 @@ only-these b z m bytes e = by (ltb 16777216 (length b)) refl e where
       subst (Derives b z) is (record {
         sections = w .values;
         derived = AnyModule.modul (h .header)
-            (subst (λ (i : ℕ). Row (Framed AnySection) (drop i b) (w .values) []) (h .next-is) (w .derives));
+            (subst (λ (i : ℕ). InARow (Framed AnySection) (drop i b) (w .values) []) (h .next-is) (w .derives));
         short = short;
         room = record {
           sections = omega (arith, ok .sections-few, all-length (y .what .sections) (w .values) (t .sections-are));

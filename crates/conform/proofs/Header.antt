@@ -13,7 +13,7 @@ use Rattle.refusal.specs.declared.Part.{Part}
 use Rattle.refusal.proofs.Following.{never, read-on}
 use Rattle.text.specs.Find.{same}
 use Rattle.text.proofs.FindLaws.{same-is, same-self}
-use Rattle.leb.specs.Reads.{bytesOf, takeAt, fixedAt}
+use Rattle.leb.specs.Reads.{partBytes, takeAt, fixedAt}
 use Rattle.leb.proofs.Bounds.{take-in}
 use Rattle.wasm.specs.Module.{headerAt, magic}
 use Rattle.conform.specs.Claims.{Bytes}
@@ -52,8 +52,8 @@ unfolding headerAt magic
 header-only b v d e =
     let x = read-on (takeAt b 0 4) _ e in
     let t = take-in b 0 4 (x .what) (x .next) (x .first) in
-    let f : bytesOf b (x .what) ≡ take 4 b = rw (t .start, t .size) in
-    by (x .next) (x .what) f (omega (arith, t .next)) (same (0x00 ∷ 0x61 ∷ 0x73 ∷ 0x6D ∷ []) (bytesOf b (x .what))) refl (x .then)
+    let f : partBytes b (x .what) ≡ take 4 b = rw (t .start, t .size) in
+    by (x .next) (x .what) f (omega (arith, t .next)) (same (0x00 ∷ 0x61 ∷ 0x73 ∷ 0x6D ∷ []) (partBytes b (x .what))) refl (x .then)
   where
     nonzero : (w c : ℕ) → (8 ≤ length b) × (w ≡ versionOf b) × (c ≡ 8) → take 4 b ≡ 0x00 ∷ 0x61 ∷ 0x73 ∷ 0x6D ∷ []
         → (t : Bool) → eqb w 0 ≡ t
@@ -72,12 +72,12 @@ header-only b v d e =
         positive : (i : ℕ) → (i ≡ 0 → ⊥) → 0 < i
         positive i h = omega (arith, h)
 
-    by : (c : ℕ) (p : Part) → bytesOf b p ≡ take 4 b → c ≡ 4 → (t : Bool) → same (0x00 ∷ 0x61 ∷ 0x73 ∷ 0x6D ∷ []) (bytesOf b p) ≡ t
+    by : (c : ℕ) (p : Part) → partBytes b p ≡ take 4 b → c ≡ 4 → (t : Bool) → same (0x00 ∷ 0x61 ∷ 0x73 ∷ 0x6D ∷ []) (partBytes b p) ≡ t
         → pick t (onward (fixedAt b c) (λ w e. pick (eqb w 0) (refused 2 4) (accepted (got w e)))) (refused 2 0) ≡ accepted (got v d)
         → HeaderOnly b v d
     by c p q k true t f =
         let o = read-on (fixedAt b c) _ f in
-        let s = same-is (0x00 ∷ 0x61 ∷ 0x73 ∷ 0x6D ∷ []) (bytesOf b p) t in
+        let s = same-is (0x00 ∷ 0x61 ∷ 0x73 ∷ 0x6D ∷ []) (partBytes b p) t in
         let g = fixed-only b (o .what) (o .next) (subst (λ (i : ℕ). fixedAt b i ≡ accepted (got (o .what) (o .next))) k (o .first)) in
         nonzero (o .what) (o .next) g (sym q ∙ s) (eqb (o .what) 0) refl (o .then)
     by c p q k false t f = absurd (never f)

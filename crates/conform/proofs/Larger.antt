@@ -8,17 +8,19 @@ use lib.ListN.{length}
 use lib.Dec.{ltb, eqb}
 use Rattle.text.specs.Find.{same as sameText}
 use Rattle.refusal.specs.Said.{refused}
+use Rattle.refusal.specs.Sizes.{fileLimit}
 use Rattle.table.specs.Table.{capacityOf}
+use Rattle.table.specs.Shape.{width, limit, capacityIn}
 use Rattle.table.proofs.Larger.{Sure, same, spare, Full, accepts-too, sure-same, sure-pick, sure-room, sure-onward, sure-from}
 use Rattle.table.proofs.Larger.{sure-entries, capacity-up}
-use Rattle.leb.specs.Reads.{bytesOf, byteAt, u32At, nameAt, countedAt}
+use Rattle.leb.specs.Reads.{partBytes, byteAt, u32At, nameAt, countedAt}
 use Rattle.wasm.specs.Entry.{importAt, exportAt, symbolAt}
 use Rattle.wasm.specs.Rows.{importsOf, exportsOf, symbolsOf}
 use Rattle.wasm.specs.Custom.{Names, toldBy, subsectionAt, nameWord, customAt}
 use Rattle.wasm.specs.Module.{Tables, Sizes, contentsAt, addSection, sectionAt, headerAt, noTables, moduleAt}
 use Rattle.conform.specs.Sound.{Larger, LargerSame, RefusedSame, limits, LimitsDecide, OneModule}
 
-sure-told : (id : ℕ) (s : List ℕ) (base n m : ℕ) (t : Names) → capacityOf n 3 4096 ≤ capacityOf m 3 4096
+sure-told : (id : ℕ) (s : List ℕ) (base n m : ℕ) (t : Names) → capacityIn 4 n ≤ capacityIn 4 m
     → Sure Full (toldBy id s base n t) (toldBy id s base m t)
 unfolding toldBy symbolsOf
 sure-told id s base n m t h =
@@ -29,21 +31,21 @@ sure-told id s base n m t h =
     sure-entries (symbolAt s base) 4 _ _ h count at (t .symbols))) (λ rows e. sure-same _))
     (sure-same _))
 
-sure-sub : (s : List ℕ) (base n m : ℕ) → capacityOf n 3 4096 ≤ capacityOf m 3 4096 → (at : ℕ) (t : Names)
+sure-sub : (s : List ℕ) (base n m : ℕ) → capacityIn 4 n ≤ capacityIn 4 m → (at : ℕ) (t : Names)
     → Sure Full (subsectionAt s base n at t) (subsectionAt s base m at t)
 unfolding subsectionAt
 sure-sub s base n m h at t =
     sure-onward _ _ _ _ (sure-same (byteAt s at)) (λ id a.
     sure-onward _ _ _ _ (sure-same (countedAt s a)) (λ p next.
-    sure-onward _ _ _ _ (sure-told id (bytesOf s p) (base + p .from) n m t h) (λ u e. sure-same _)))
+    sure-onward _ _ _ _ (sure-told id (partBytes s p) (base + p .from) n m t h) (λ u e. sure-same _)))
 
-sure-custom : (s : List ℕ) (base n m : ℕ) (t : Names) → capacityOf n 3 4096 ≤ capacityOf m 3 4096
+sure-custom : (s : List ℕ) (base n m : ℕ) (t : Names) → capacityIn 4 n ≤ capacityIn 4 m
     → Sure Full (customAt s base n t) (customAt s base m t)
 unfolding customAt
 sure-custom s base n m t h =
     sure-onward _ _ _ _ (sure-same (nameAt s 0)) (λ p at.
     sure-onward _ _ _ _
-    (sure-pick (sameText nameWord (bytesOf s p)) _ _ _ _
+    (sure-pick (sameText nameWord (partBytes s p)) _ _ _ _
     (sure-from (subsectionAt s base n) (subsectionAt s base m) (sure-sub s base n m h) s at t) (sure-same _)) (λ u e. sure-same _))
 
 sure-contents : (id : ℕ) (s : List ℕ) (base : ℕ) (z w : Sizes) (t : Tables) → Larger z w
@@ -67,14 +69,14 @@ unfolding sectionAt addSection
 sure-section b z w h at t =
     sure-onward _ _ _ _ (sure-same (byteAt b at)) (λ id a.
     sure-onward _ _ _ _ (sure-same (countedAt b a)) (λ p next.
-    sure-onward _ _ _ _ (sure-contents id (bytesOf b p) (p .from) z w t h) (λ u e.
+    sure-onward _ _ _ _ (sure-contents id (partBytes b p) (p .from) z w t h) (λ u e.
     sure-room (length (u .tables .sections)) _ _ 1 _ _ (h .sections) (sure-same _))))
 
 -- a file's answer with some tables is that with larger ones, unless they are full
 pub larger-sure : (b : List ℕ) (z w : Sizes) → Larger z w → Sure Full (moduleAt b z) (moduleAt b w)
 unfolding moduleAt
 larger-sure b z w h =
-    sure-pick (ltb 16777216 (length b)) _ _ _ _ (sure-same _)
+    sure-pick (ltb fileLimit (length b)) _ _ _ _ (sure-same _)
     (sure-onward _ _ _ _ (sure-same (headerAt b)) (λ v c.
     sure-onward _ _ _ _ (sure-from (sectionAt b z) (sectionAt b w) (sure-section b z w h) b c noTables) (λ t d. sure-same _)))
 
@@ -93,10 +95,10 @@ pub more-cells : (z w : Sizes) → z .sections ≤ w .sections → z .imports �
     → Larger z w
 more-cells z w s i e n =
     record {
-      sections = capacity-up (z .sections) (w .sections) 5 256 s;
-      imports = capacity-up (z .imports) (w .imports) 5 1024 i;
-      exports = capacity-up (z .exports) (w .exports) 4 1024 e;
-      names = capacity-up (z .names) (w .names) 3 4096 n;
+      sections = capacity-up (z .sections) (w .sections) (width 1) (limit 1) s;
+      imports = capacity-up (z .imports) (w .imports) (width 2) (limit 2) i;
+      exports = capacity-up (z .exports) (w .exports) (width 3) (limit 3) e;
+      names = capacity-up (z .names) (w .names) (width 4) (limit 4) n;
     }
 
 -- no tables have more room than those at the limits

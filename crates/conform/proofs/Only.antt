@@ -15,7 +15,7 @@ use Rattle.refusal.specs.Said.{Said, accepted, refused, Got, got, onward}
 use Rattle.refusal.specs.declared.Part.{Part}
 use Rattle.refusal.proofs.Following.{never, read-on}
 use Rattle.table.specs.Entries.{entriesFrom}
-use Rattle.leb.specs.Reads.{bytesOf, byteAt, u32At, countedAt, nameAt}
+use Rattle.leb.specs.Reads.{partBytes, byteAt, u32At, countedAt, nameAt}
 use Rattle.leb.proofs.Beyond.{u32-only}
 use Rattle.leb.proofs.Bounds.{take-in}
 use Rattle.leb.proofs.Names.{name-only}
@@ -25,7 +25,7 @@ use Rattle.conform.specs.Grammar.{Many, none, more}
 use Rattle.conform.specs.Port.{Number, number, Named, named, Counted, counted, AnyLimits, even, odd, AnyDesc, function, tables}
 use Rattle.conform.specs.Port.{memories}
 use Rattle.conform.specs.Port.{globals, AnyImport, imported, AnyExport, exported, AnyAssoc, assoc}
-use Rattle.conform.specs.Claims.{All, nil, cons}
+use Rattle.conform.specs.Claims.{Pairwise, nil, cons}
 use Rattle.conform.proofs.Walks.{same-got}
 use Rattle.conform.proofs.Conform.{ImportRow, ExportRow, FunctionRow}
 
@@ -62,21 +62,21 @@ module _ (s : List ℕ) (size : length s < 18446744073709551616) where
 
   -- a range that lies in s, and what comes after it
   split : (p : Part) → p .from + p .len ≤ length s
-      → (length (bytesOf s p) ≡ p .len) × (drop (p .from) s ≡ bytesOf s p ++ drop (p .from + p .len) s)
+      → (length (partBytes s p) ≡ p .len) × (drop (p .from) s ≡ partBytes s p ++ drop (p .from + p .len) s)
   split p h = (
     length-take-le (p .len) (drop (p .from) s) (omega (arith, length-drop (p .from) s)),
-    sym (take-append-drop (p .len) (drop (p .from) s)) ∙ ap (λ (l : List ℕ). bytesOf s p ++ l) (drop-drop (p .len) (p .from) s),
+    sym (take-append-drop (p .len) (drop (p .from) s)) ∙ ap (λ (l : List ℕ). partBytes s p ++ l) (drop-drop (p .len) (p .from) s),
   )
 
   sized : (at : ℕ) (p : Part) (d : ℕ) → p .from + p .len ≡ d → d ≤ length s → Number (drop at s) (p .len) (drop (p .from) s)
-      → Number (drop at s) (length (bytesOf s p)) (bytesOf s p ++ drop d s)
+      → Number (drop at s) (length (partBytes s p)) (partBytes s p ++ drop d s)
   sized at p d e h u =
       let w = split p (omega (arith, e)) in
-      rw (w .0) (subst (Number (drop at s) (p .len)) (w .1 ∙ ap (λ (k : ℕ). bytesOf s p ++ drop k s) e) u)
+      rw (w .0) (subst (Number (drop at s) (p .len)) (w .1 ∙ ap (λ (k : ℕ). partBytes s p ++ drop k s) e) u)
 
   -- a size and bytes that were read
   pub only-counted : (at : ℕ) (p : Part) (d : ℕ) → countedAt s at ≡ accepted (got p d)
-      → Number (drop at s) (length (bytesOf s p)) (bytesOf s p ++ drop d s)
+      → Number (drop at s) (length (partBytes s p)) (partBytes s p ++ drop d s)
   unfolding countedAt
   only-counted at p d e =
       let o = read-on (u32At s at) _ e in
@@ -87,7 +87,7 @@ module _ (s : List ℕ) (size : length s < 18446744073709551616) where
 
   -- a name that was read lies in s
   pub only-name : (at : ℕ) (p : Part) (d : ℕ) → nameAt s at ≡ accepted (got p d)
-      → Named (drop at s) (bytesOf s p) (drop d s) × (p .from + p .len ≤ length s)
+      → Named (drop at s) (partBytes s p) (drop d s) × (p .from + p .len ≤ length s)
   only-name at p d e =
       let o = name-only s at p d e in
       let u : Number (drop at s) (p .len) (drop (p .from) s) =
@@ -208,8 +208,8 @@ module _ (s : List ℕ) (size : length s < 18446744073709551616) where
       let b = only-byte (f .next) (k .what) (k .next) (k .first) in
       let w = only-desc (k .what) (k .next) (c .what) (c .next) (c .first) in
       record {
-        value = record { from = bytesOf s (m .what); name = bytesOf s (f .what); kind = k .what; desc = c .what };
-        derives = imported (p .0) (subst (Named (drop (m .next) s) (bytesOf s (f .what))) b (q .0))
+        value = record { from = partBytes s (m .what); name = partBytes s (f .what); kind = k .what; desc = c .what };
+        derives = imported (p .0) (subst (Named (drop (m .next) s) (partBytes s (f .what))) b (q .0))
             (subst (λ (i : ℕ). AnyDesc (k .what) (drop (k .next) s) (c .what) (drop i s)) r w);
         agrees = record {
           first = m .what;
@@ -235,8 +235,8 @@ module _ (s : List ℕ) (size : length s < 18446744073709551616) where
       let p = only-name at (m .what) (m .next) (m .first) in
       let b = only-byte (m .next) (k .what) (k .next) (k .first) in
       record {
-        value = record { name = bytesOf s (m .what); kind = k .what; index = c .what };
-        derives = exported (subst (Named (drop at s) (bytesOf s (m .what))) b (p .0))
+        value = record { name = partBytes s (m .what); kind = k .what; index = c .what };
+        derives = exported (subst (Named (drop at s) (partBytes s (m .what))) b (p .0))
             (other-end (drop (k .next) s) refl r (only-u32 (k .next) (c .what) (c .next) (c .first)));
         agrees = record { first = m .what; row-is = sym (g .0); name-is = refl; first-in = p .1 };
       }
@@ -252,9 +252,9 @@ module _ (s : List ℕ) (size : length s < 18446744073709551616) where
       let r = g .1 in
       let p = only-name (c .next) (m .what) (m .next) (m .first) in
       record {
-        value = record { index = c .what; name = bytesOf s (m .what) };
+        value = record { index = c .what; name = partBytes s (m .what) };
         derives = assoc (only-u32 at (c .what) (c .next) (c .first))
-            (subst (λ (i : ℕ). Named (drop (c .next) s) (bytesOf s (m .what)) (drop i s)) r (p .0));
+            (subst (λ (i : ℕ). Named (drop (c .next) s) (partBytes s (m .what)) (drop i s)) r (p .0));
         agrees = record { first = m .what; row-is = sym (g .0); name-is = refl; first-in = p .1 };
       }
 
@@ -266,7 +266,7 @@ module _ (s : List ℕ) (size : length s < 18446744073709551616) where
       is : all ≡ rows ++ new
       values : List X
       derives : Many P n (drop at s) values (drop d s)
-      agree : All R new values
+      agree : Pairwise R new values
 
     only-entries : (n at : ℕ) (rows all : List E) (d : ℕ) → entriesFrom read tn room n at rows ≡ accepted (got all d)
         → Ran n at rows all d
@@ -306,7 +306,7 @@ module _ (s : List ℕ) (size : length s < 18446744073709551616) where
       pub is : all ≡ rows ++ new
       pub values : List X
       pub derives : Counted P s values (drop d s)
-      pub agree : All R new values
+      pub agree : Pairwise R new values
 
     pub only-run : (rows all : List E) (d : ℕ) → onward (u32At s 0) (λ n at. entriesFrom read tn room n at rows) ≡ accepted (got all d)
         → OnlyRun rows all d

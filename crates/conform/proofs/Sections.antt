@@ -11,8 +11,8 @@ use Rattle.refusal.specs.Pick.{pick}
 use Rattle.refusal.specs.Said.{accepted, refused, got}
 use Rattle.refusal.specs.declared.Part.{Part}
 use Rattle.refusal.proofs.Following.{never, read-on}
-use Rattle.table.specs.Table.{capacityOf}
-use Rattle.leb.specs.Reads.{bytesOf, byteAt, countedAt}
+use Rattle.table.specs.Shape.{capacityIn}
+use Rattle.leb.specs.Reads.{partBytes, byteAt, countedAt}
 use Rattle.leb.proofs.Bounds.{byte-in, counted-in}
 use Rattle.wasm.specs.Shapes.{Section}
 use Rattle.wasm.specs.Custom.{Names, toldBy, subsectionAt}
@@ -31,22 +31,22 @@ pub record Took (b : List ℕ) (z : Sizes) (at : ℕ) (t u : Tables) (d : ℕ) :
   pub end : ℕ
   pub one : byteAt b at ≡ accepted (got id a)
   pub two : countedAt b a ≡ accepted (got payload d)
-  pub three : contentsAt id (bytesOf b payload) (payload .from) z t ≡ accepted (got inner end)
+  pub three : contentsAt id (partBytes b payload) (payload .from) z t ≡ accepted (got inner end)
   pub is : u ≡ withSection (inner .tables) (rowOf id payload inner)
-  pub room : length (inner .tables .sections) < capacityOf (z .sections) 5 256
+  pub room : length (inner .tables .sections) < capacityIn 1 (z .sections)
   pub past : at < payload .from
   pub ends : payload .from + payload .len ≡ d
   pub in-b : d ≤ length b
 
 -- a row that was added had room
 added : (n : ℕ) (row : Section) (next : ℕ) (t u : Tables) (d : ℕ) → addSection n row next t ≡ accepted (got u d)
-    → (u ≡ withSection t row) × (next ≡ d) × (length (t .sections) < capacityOf n 5 256)
+    → (u ≡ withSection t row) × (next ≡ d) × (length (t .sections) < capacityIn 1 n)
 unfolding addSection
-added n row next t u d e = by (ltb (length (t .sections)) (capacityOf n 5 256)) refl e where
-  by : (x : Bool) → ltb (length (t .sections)) (capacityOf n 5 256) ≡ x
+added n row next t u d e = by (ltb (length (t .sections)) (capacityIn 1 n)) refl e where
+  by : (x : Bool) → ltb (length (t .sections)) (capacityIn 1 n) ≡ x
       → pick x (accepted (got (withSection t row) next)) (refused 13 1) ≡ accepted (got u d)
-      → (u ≡ withSection t row) × (next ≡ d) × (length (t .sections) < capacityOf n 5 256)
-  by true x f = (cc, cc, ltb-true (length (t .sections)) (capacityOf n 5 256) x)
+      → (u ≡ withSection t row) × (next ≡ d) × (length (t .sections) < capacityIn 1 n)
+  by true x f = (cc, cc, ltb-true (length (t .sections)) (capacityIn 1 n) x)
   by false x f = absurd (never f)
 
 -- every accepted section is of this form
@@ -55,7 +55,7 @@ unfolding sectionAt
 took b z at t u d e =
     let x = read-on (byteAt b at) _ e in
     let y = read-on (countedAt b (x .next)) _ (x .then) in
-    let c = read-on (contentsAt (x .what) (bytesOf b (y .what)) (y .what .from) z t) _ (y .then) in
+    let c = read-on (contentsAt (x .what) (partBytes b (y .what)) (y .what .from) z t) _ (y .then) in
     let o = added (z .sections) (rowOf (x .what) (y .what) (c .what)) (y .next) (c .what .tables) u d (c .then) in
     let v = byte-in b at (x .what) (x .next) (x .first) in
     let w = counted-in b (x .next) (y .what) (y .next) (y .first) in
@@ -83,7 +83,7 @@ pub record TookSub (s : List ℕ) (base n at : ℕ) (t u : Names) (d : ℕ) : Ty
   pub end : ℕ
   pub one : byteAt s at ≡ accepted (got id a)
   pub two : countedAt s a ≡ accepted (got payload d)
-  pub three : toldBy id (bytesOf s payload) (base + payload .from) n t ≡ accepted (got u end)
+  pub three : toldBy id (partBytes s payload) (base + payload .from) n t ≡ accepted (got u end)
   pub past : at < payload .from
   pub ends : payload .from + payload .len ≡ d
   pub in-s : d ≤ length s
@@ -95,7 +95,7 @@ unfolding subsectionAt
 took-sub s base n at t u d e =
     let x = read-on (byteAt s at) _ e in
     let y = read-on (countedAt s (x .next)) _ (x .then) in
-    let c = read-on (toldBy (x .what) (bytesOf s (y .what)) (base + y .what .from) n t) _ (y .then) in
+    let c = read-on (toldBy (x .what) (partBytes s (y .what)) (base + y .what .from) n t) _ (y .then) in
     let o = same-got (c .then) in
     let v = byte-in s at (x .what) (x .next) (x .first) in
     let w = counted-in s (x .next) (y .what) (y .next) (y .first) in

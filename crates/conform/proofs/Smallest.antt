@@ -4,12 +4,12 @@ use Rattle.refusal.specs.Said.{onward}
 use Rattle.text.specs.Walk.{walk}
 use Rattle.text.specs.Find.{same}
 use Rattle.text.specs.Scan.{scan}
-use Rattle.text.specs.Utf8.{upTo, seqLen, after, covers, follow, followIn}
+use Rattle.text.specs.Utf8.{upTo, seqLen, after, covers, followers, followIn}
 use Rattle.table.specs.Table.{capacityOf}
 use Rattle.table.specs.Entries.{entriesFrom}
-use Rattle.table.specs.Walking.{turned, walkFrom}
+use Rattle.table.specs.Walking.{turnOf, walkFrom}
 use Rattle.leb.specs.Groups.{uN, grown, spent}
-use Rattle.leb.specs.Reads.{byteAt, u32At, ulebAt, told, narrowed, takeAt, fixedAt, nameAt, checked, countedAt}
+use Rattle.leb.specs.Reads.{byteAt, u32At, ulebAt, toldAt, narrowed, takeAt, fixedAt, nameAt, checked, countedAt}
 use Rattle.wasm.specs.Entry.{limitsAt, funcAt, tableAt, globalAt, descAt, importAt, exportAt}
 use Rattle.wasm.specs.Rows.{importsOf}
 use Rattle.wasm.specs.Custom.{subsectionAt, nameWord, customAt}
@@ -18,8 +18,8 @@ use Rattle.conform.specs.Beyond.{Smallest}
 
 -- each by computing
 pub smallest : Smallest
-unfolding moduleAt headerAt magic takeAt fixedAt onward same walkFrom turned walk sectionAt byteAt countedAt u32At ulebAt told narrowed uN
-    grown spent contentsAt customAt nameWord subsectionAt nameAt checked upTo scan seqLen after covers follow followIn importsOf
+unfolding moduleAt headerAt magic takeAt fixedAt onward same walkFrom turnOf walk sectionAt byteAt countedAt u32At ulebAt toldAt narrowed uN
+    grown spent contentsAt customAt nameWord subsectionAt nameAt checked upTo scan seqLen after covers followers followIn importsOf
     entriesFrom capacityOf importAt descAt funcAt addSection noTables limitsAt exportAt tableAt globalAt
 smallest =
     record {

@@ -9,19 +9,21 @@ use lib.ListN.{length, getD, length-append}
 use lib.Dec.{ltb, eqb}
 use borrow.Author.Tests.{ltb-true, eqb-true}
 use Rattle.refusal.specs.Pick.{pick}
+use Rattle.refusal.specs.Sizes.{fileLimit}
 use Rattle.refusal.specs.Said.{Said, accepted, refused, Got, got, onward}
 use Rattle.refusal.specs.declared.Part.{Part}
 use Rattle.refusal.proofs.Following.{never}
 use Rattle.text.specs.Find.{same}
 use Rattle.table.specs.Entries.{entriesFrom}
 use Rattle.table.specs.Walking.{walkFrom}
-use Rattle.table.proofs.Giving.{Gives, Of, Each, no-row, row, gives-done, gives-stop, gives-pick, gives-onward, gives-from, gives-entries}
-use Rattle.leb.specs.Reads.{bytesOf, byteAt, u32At, nameAt, countedAt}
+use Rattle.refusal.specs.Each.{Each, each-nil, each-cons}
+use Rattle.table.proofs.Giving.{Gives, Of, gives-done, gives-stop, gives-pick, gives-onward, gives-from, gives-entries}
+use Rattle.leb.specs.Reads.{partBytes, byteAt, u32At, nameAt, countedAt}
 use Rattle.leb.proofs.Bounds.{u32-in, counted-in, name-in}
 use Rattle.wasm.specs.Shapes.{Section}
 use Rattle.wasm.specs.Entry.{descAt, importAt, exportAt, symbolAt}
 use Rattle.wasm.specs.Rows.{importsOf, exportsOf, symbolsOf}
-use Rattle.wasm.specs.Custom.{Names, labelAt, toldBy, subsectionAt, nameWord, Spoken, customAt}
+use Rattle.wasm.specs.Custom.{Names, labelAt, toldBy, subsectionAt, nameWord, CustomSaid, customAt}
 use Rattle.wasm.specs.Module.{Tables, Sizes, Inner, contentsAt, sectionAt, headerAt, noTables}
 use Rattle.wasm.specs.Module.{Parsed, moduleAt}
 use Rattle.wasm.proofs.Framing.{contents-keep}
@@ -84,7 +86,7 @@ kind-small s kind at =
     (small-case kind 3 _ _ (omega arith) (gives-stop (Small kind) 5 kind))))
 
 -- ---- entries: s lies in a file of n bytes, from base on
-pub record SpokenOk (n : ℕ) (z : Sizes) (u : Spoken) : Type 0 where
+pub record SpokenOk (n : ℕ) (z : Sizes) (u : CustomSaid) : Type 0 where
   pub name-in-file : InFile n (u .name)
   pub inner-ok : NamesOk n z (u .inner)
 
@@ -148,7 +150,7 @@ module _ (n : ℕ) (z : Sizes) where
 
   -- a part of the payload is a payload
   module _ (s : List ℕ) (bytes : Bytes s) (base : ℕ) (fits : base + length s ≤ n) where
-    part-fits : (at : ℕ) (p : Part) (d : ℕ) → countedAt s at ≡ accepted (got p d) → base + p .from + length (bytesOf s p) ≤ n
+    part-fits : (at : ℕ) (p : Part) (d : ℕ) → countedAt s at ≡ accepted (got p d) → base + p .from + length (partBytes s p) ≤ n
     part-fits at p d e = let w = counted-in s at p d e in omega (arith, w .end, w .in-s, part-length s p)
 
     sub-ok : (at : ℕ) (t : Names) → NamesOk n z t → Gives (Of (NamesOk n z)) (subsectionAt s base (z .names) at t)
@@ -158,7 +160,7 @@ module _ (n : ℕ) (z : Sizes) where
         gives-onward (Of (NamesOk n z)) (countedAt s a) _ (λ p d e2.
         gives-onward (Of (NamesOk n z)) _ _ (λ u e e3.
         gives-done (Of (NamesOk n z)) _
-        (told-ok (bytesOf s p) (part-bytes s p bytes) (base + p .from) (part-fits a p d e2) id t h (got u e) e3))))
+        (told-ok (partBytes s p) (part-bytes s p bytes) (base + p .from) (part-fits a p d e2) id t h (got u e) e3))))
 
     custom-ok : (t : Names) → NamesOk n z t → Gives (Of (SpokenOk n z)) (customAt s base (z .names) t)
     unfolding customAt Gives Of
@@ -168,7 +170,7 @@ module _ (n : ℕ) (z : Sizes) where
         gives-done (Of (SpokenOk n z)) _
         (record {
           name-in-file = ranged s bytes base fits 0 p at e1;
-          inner-ok = gives-pick (Of (NamesOk n z)) (same nameWord (bytesOf s p)) _ _
+          inner-ok = gives-pick (Of (NamesOk n z)) (same nameWord (partBytes s p)) _ _
               (gives-from (NamesOk n z) (subsectionAt s base (z .names)) sub-ok s at t h)
               (gives-done (Of (NamesOk n z)) (got t at) h) (got u e) e2;
         })))
@@ -201,7 +203,7 @@ module _ (n : ℕ) (z : Sizes) where
             sections-ok = h .sections-ok;
             sections-few = h .sections-few;
             imports-ok = gives-onward (Of (Each (ImportOk n))) (u32At s 0) _ (λ count at x.
-                gives-entries (ImportOk n) (importAt s base) (import-ok s bytes base fits) 2 _ count at [] no-row) (got rows e) q;
+                gives-entries (ImportOk n) (importAt s base) (import-ok s bytes base fits) 2 _ count at [] each-nil) (got rows e) q;
             imports-few = few-run (importAt s base) 2 _ s [] (omega arith) (got rows e) q;
             exports-ok = h .exports-ok;
             exports-few = h .exports-few;
@@ -219,7 +221,7 @@ module _ (n : ℕ) (z : Sizes) where
             imports-ok = h .imports-ok;
             imports-few = h .imports-few;
             exports-ok = gives-onward (Of (Each (ExportOk n))) (u32At s 0) _ (λ count at x.
-                gives-entries (ExportOk n) (exportAt s base) (export-ok s bytes base fits) 3 _ count at [] no-row) (got rows e) q;
+                gives-entries (ExportOk n) (exportAt s base) (export-ok s bytes base fits) 3 _ count at [] each-nil) (got rows e) q;
             exports-few = few-run (exportAt s base) 3 _ s [] (omega arith) (got rows e) q;
             names-ok = h .names-ok;
           };
@@ -228,8 +230,8 @@ module _ (n : ℕ) (z : Sizes) where
 
 -- ---- sections
 each-last : {E : Type 0} (P : E → Type 0) (es : List E) (e : E) → Each P es → P e → Each P (es ++ (e ∷ []))
-each-last P [] e no-row h = row h no-row
-each-last P (x ∷ es) e (row p a) h = row p (each-last P es e a h)
+each-last P [] e each-nil h = each-cons h each-nil
+each-last P (x ∷ es) e (each-cons p a) h = each-cons p (each-last P es e a h)
 
 apart-last : (a c e : ℕ) (rs : List Section) (r : Section) → Apart a rs c → c < r .from → r .from + r .size ≤ e
     → Apart a (rs ++ (r ∷ [])) e
@@ -254,11 +256,11 @@ module _ (b : List ℕ) (bytes : Bytes b) (z : Sizes) where
       let p = k .payload in
       let w = k .inner in
       let new = rowOf (k .id) p w in
-      let f : p .from + length (bytesOf b p) ≤ length b = omega (arith, k .ends, k .in-b, part-length b p) in
+      let f : p .from + length (partBytes b p) ≤ length b = omega (arith, k .ends, k .in-b, part-length b p) in
       let o =
-      contents-ok (length b) z (bytesOf b p) (part-bytes b p bytes) (p .from) f (k .id) t (h .rows-ok) (got w (k .end)) (k .three) in
+      contents-ok (length b) z (partBytes b p) (part-bytes b p bytes) (p .from) f (k .id) t (h .rows-ok) (got w (k .end)) (k .three) in
       let r = o .tables-ok in
-      let kept = contents-keep (k .id) (bytesOf b p) (p .from) z t w (k .end) (k .three) in
+      let kept = contents-keep (k .id) (partBytes b p) (p .from) z t w (k .end) (k .three) in
       record {
         rows-ok = rw (k .is) (record {
           sections-ok = each-last (SectionOk (length b)) (w .tables .sections) new (r .sections-ok)
@@ -284,13 +286,13 @@ module _ (b : List ℕ) (bytes : Bytes b) (z : Sizes) where
       let start : 8 ≤ 8 = omega arith in
       record {
         rows-ok = record {
-          sections-ok = no-row;
+          sections-ok = each-nil;
           sections-few = omega arith;
-          imports-ok = no-row;
+          imports-ok = each-nil;
           imports-few = omega arith;
-          exports-ok = no-row;
+          exports-ok = each-nil;
           exports-few = omega arith;
-          names-ok = record { label-in = omega arith; symbols-ok = no-row; symbols-few = omega arith };
+          names-ok = record { label-in = omega arith; symbols-ok = each-nil; symbols-few = omega arith };
         };
         apart = last start;
         in-b = h;
@@ -298,7 +300,7 @@ module _ (b : List ℕ) (bytes : Bytes b) (z : Sizes) where
 
   module-ok : (m : Parsed) → moduleAt b z ≡ accepted m → ModuleOk b z m
   unfolding moduleAt Gives
-  module-ok = gives-pick (ModuleOk b z) (ltb 16777216 (length b)) _ _ (gives-stop (ModuleOk b z) 14 0)
+  module-ok = gives-pick (ModuleOk b z) (ltb fileLimit (length b)) _ _ (gives-stop (ModuleOk b z) 14 0)
       (gives-onward (ModuleOk b z) (headerAt b) _ (λ v c e1.
       gives-onward (ModuleOk b z) (walkFrom (sectionAt b z) b c noTables) _ (λ t d e2.
       let h = header-only b v c e1 in

@@ -15,7 +15,7 @@ use Rattle.refusal.proofs.Following.{read-on}
 use Rattle.table.specs.Entries.{entriesFrom}
 use Rattle.table.proofs.Larger.{Sure, spare, Any, accepts-too, sure-accepts, sure-same, sure-pick, sure-onward}
 use Rattle.leb.specs.Grammar.{U, lastU, moreU}
-use Rattle.leb.specs.Reads.{part, bytesOf, byteAt, u32At, takeAt, countedAt, checked, nameAt}
+use Rattle.leb.specs.Reads.{part, partBytes, byteAt, u32At, takeAt, countedAt, checked, nameAt}
 use Rattle.leb.proofs.Beyond.{u32-long, u32-only}
 use Rattle.leb.proofs.Bounds.{u-takes, counted-in}
 use Rattle.wasm.specs.Entry.{limitsAt, funcAt, tableAt, memoryAt, globalAt, descAt, importAt, exportAt, symbolAt}
@@ -87,7 +87,7 @@ module _ (s more : List ℕ) where
   more-counted at = sure-onward _ _ _ _ (more-u32 at) (λ n next. more-take next n)
 
   -- a range of s is the same range of s and more
-  same-bytes : (p : Part) → p .from + p .len ≤ length s → bytesOf (s ++ more) p ≡ bytesOf s p
+  same-bytes : (p : Part) → p .from + p .len ≤ length s → partBytes (s ++ more) p ≡ partBytes s p
   same-bytes p h =
       let f : p .from ≤ length s = omega arith in
       let w : p .len ≤ length (drop (p .from) s) = omega (arith, length-drop (p .from) s) in

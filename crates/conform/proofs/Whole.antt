@@ -7,23 +7,24 @@ use mathlib.Core.List.{List, [], _∷_, _++_, append-nil}
 use lib.ListN.{length, drop, length-drop, length-append}
 use borrow.Author.Tests.{lt-ltb, le-ltb, ne-eqb}
 use Rattle.refusal.specs.Said.{accepted, got, onward}
+use Rattle.refusal.specs.Sizes.{fileLimit}
 use Rattle.text.specs.Find.{same}
 use Rattle.text.proofs.FindLaws.{same-is, same-self}
-use Rattle.table.specs.Table.{capacityOf}
+use Rattle.table.specs.Shape.{capacityIn}
 use Rattle.table.specs.Walking.{walkFrom}
 use Rattle.table.proofs.Walking.{from-end, from-go}
-use Rattle.table.proofs.Giving.{Each, no-row, row}
-use Rattle.leb.specs.Reads.{part, bytesOf, byteAt}
+use Rattle.refusal.specs.Each.{Each, each-nil, each-cons}
+use Rattle.leb.specs.Reads.{part, partBytes, byteAt}
 use Rattle.wasm.specs.Entry.{moved}
 use Rattle.wasm.specs.Custom.{Names, labelAt, toldBy, subsectionAt, nameWord, customAt}
-use Rattle.wasm.specs.Module.{Tables, withSection, withImports, withExports, withNames, Sizes, Inner, plain, contentsAt, addSection}
+use Rattle.wasm.specs.Module.{Tables, withSection, withImports, withExports, withNames, Sizes, Inner, nameless, contentsAt, addSection}
 use Rattle.wasm.specs.Module.{sectionAt, noTables, moduleAt}
 use Rattle.conform.specs.Grammar.{SubOf, nameBytes}
-use Rattle.conform.specs.Port.{Number, AnySub, Framed, framed, Row, Held, SectionSaid, AnyContent, AnySection}
+use Rattle.conform.specs.Port.{Number, AnySub, Framed, framed, InARow, Held, SectionSaid, AnyContent, AnySection}
 use Rattle.conform.specs.Port.{AnyModule}
 use Rattle.conform.specs.Claims.{nil}
 use Rattle.conform.specs.Claims.{unnamed, nameOr, functionsOf, nameIn, functionsIn}
-use Rattle.conform.specs.Claims.{subsOf, functionsAll, Fits, FitsIn, Rows, AnyConform}
+use Rattle.conform.specs.Claims.{subsOf, functionsAll, HeldFits, FitsIn, Rows, AnyConform}
 use Rattle.conform.proofs.Saying.{all-map, all-append, all-length, import-here, export-here, function-here}
 use Rattle.conform.proofs.Saying.{Adds, adds-nothing, adds-more}
 use Rattle.conform.proofs.Saying.{Leaves, Says, says-of, grown, Tells, tells-nothing, tells-more}
@@ -41,7 +42,7 @@ module _ (b q : List ℕ) (a : ℕ) (in-b : In b a q) (size : length q < 1844674
     is : toldBy id q a cells t ≡ accepted (got names next)
     adds : Adds b t names (functionsOf v) (λ c. nameOr c v)
 
-  sub-tells : (id : ℕ) (t : Names) (v : SubOf) → AnySub id q v → length (t .symbols) + length (functionsOf v) ≤ capacityOf cells 3 4096
+  sub-tells : (id : ℕ) (t : Names) (v : SubOf) → AnySub id q v → length (t .symbols) + length (functionsOf v) ≤ capacityIn 4 cells
       → Telling id t v
   unfolding toldBy labelAt onward
   sub-tells id t v (AnySub.modulename {a = n} {r = r} w) room =
@@ -86,10 +87,10 @@ module _ (b s : List ℕ) (base : ℕ) (in-b : In b base s) (size : length s < 1
     is : walkFrom (subsectionAt s base cells) s at t ≡ accepted (got names next)
     adds : Adds b t names (functionsIn vs) (λ c. nameIn c vs)
 
-  subs-tell : (at : ℕ) (l : List ℕ) (t : Names) (vs : List SubOf) → drop at s ≡ l → at ≤ length s → Row (Framed AnySub) l vs []
-      → length (t .symbols) + length (functionsIn vs) ≤ capacityOf cells 3 4096 → Walked at t vs
+  subs-tell : (at : ℕ) (l : List ℕ) (t : Names) (vs : List SubOf) → drop at s ≡ l → at ≤ length s → InARow (Framed AnySub) l vs []
+      → length (t .symbols) + length (functionsIn vs) ≤ capacityIn 4 cells → Walked at t vs
   unfolding functionsIn nameIn subsectionAt onward
-  subs-tell at l t [] e k Row.done room =
+  subs-tell at l t [] e k InARow.done room =
       let n : length (drop at s) ≡ 0 = ap length e in
       record {
         names = t;
@@ -97,7 +98,7 @@ module _ (b s : List ℕ) (base : ℕ) (in-b : In b base s) (size : length s < 1
         is = from-end (subsectionAt s base cells) s at t (omega (arith, n, length-drop at s));
         adds = adds-nothing b t;
       }
-  subs-tell at l t (v ∷ vs) e k (Row.then (framed {id = id} {l = m} {p = p} {r = r} u x) more) room =
+  subs-tell at l t (v ∷ vs) e k (InARow.then (framed {id = id} {l = m} {p = p} {r = r} u x) more) room =
       let one = byte-reads s size at id m e in
       let g = part-reads s size (at + 1) m p r (one .1) u in
       let in-s : In s (g .start) p = record { holds = g .holds; inside = g .inside } in
@@ -124,15 +125,15 @@ module _ (b : List ℕ) (size : length b < 18446744073709551616) (z : Sizes) whe
     is : contentsAt id p a z t ≡ accepted (got inner next)
     leaves : Leaves b t inner c
 
-  content-reads : (id : ℕ) (p : List ℕ) (a : ℕ) (t : Tables) (c : Held) → In b a p → AnyContent id p c → Fits z c
-      → length (t .names .symbols) + length (functionsIn (subsOf c)) ≤ capacityOf (z .names) 3 4096 → Contained id p a t c
+  content-reads : (id : ℕ) (p : List ℕ) (a : ℕ) (t : Tables) (c : Held) → In b a p → AnyContent id p c → HeldFits z c
+      → length (t .names .symbols) + length (functionsIn (subsOf c)) ≤ capacityIn 4 (z .names) → Contained id p a t c
   unfolding contentsAt customAt onward functionsIn nameIn nameWord
   content-reads id p a t c i (AnyContent.imports {r = r} {vs = vs} w) fits room =
       let ps : length p < 18446744073709551616 = omega (arith, i .inside) in
       let o = imports-read p ps a (z .imports) r vs w fits in
       let st = o .1 in
       record {
-        inner = plain (withImports t (o .0));
+        inner = nameless (withImports t (o .0));
         next = st .next;
         is = rw (st .is);
         leaves = record {
@@ -148,7 +149,7 @@ module _ (b : List ℕ) (size : length b < 18446744073709551616) (z : Sizes) whe
       let o = exports-read p ps a (z .exports) r vs w fits in
       let st = o .1 in
       record {
-        inner = plain (withExports t (o .0));
+        inner = nameless (withExports t (o .0));
         next = st .next;
         is = rw (st .is);
         leaves = record {
@@ -161,7 +162,7 @@ module _ (b : List ℕ) (size : length b < 18446744073709551616) (z : Sizes) whe
       }
   content-reads id p a t c i (AnyContent.unread n0 n2 n7) fits room =
       record {
-        inner = plain t;
+        inner = nameless t;
         next = 0;
         is = rw (ne-eqb id 0 n0, ne-eqb id 2 n2, ne-eqb id 7 n7);
         leaves = record {
@@ -175,7 +176,7 @@ module _ (b : List ℕ) (size : length b < 18446744073709551616) (z : Sizes) whe
   content-reads id p a t c i (AnyContent.custom {n = n} {q = q} w other) fits room =
       let ps : length p < 18446744073709551616 = omega (arith, i .inside) in
       let m = name-reads p ps 0 p n q refl w in
-      let f : same nameBytes (bytesOf p (m .range)) ≡ false = rw (m .holds) (different (same nameBytes n) refl) in
+      let f : same nameBytes (partBytes p (m .range)) ≡ false = rw (m .holds) (different (same nameBytes n) refl) in
       record {
         inner = record { name = moved a (m .range); tables = withNames t (t .names) };
         next = m .next;
@@ -195,7 +196,7 @@ module _ (b : List ℕ) (size : length b < 18446744073709551616) (z : Sizes) whe
   content-reads id p a t c i (AnyContent.names {q = q} {vs = vs} w x) fits room =
       let ps : length p < 18446744073709551616 = omega (arith, i .inside) in
       let m = name-reads p ps 0 p nameBytes q refl w in
-      let f : same nameBytes (bytesOf p (m .range)) ≡ true = rw (m .holds) (same-self nameBytes) in
+      let f : same nameBytes (partBytes p (m .range)) ≡ true = rw (m .holds) (same-self nameBytes) in
       let o = subs-tell b p a i ps (z .names) (m .next) q (t .names) vs (m .rest) (m .in-s) x room in
       record {
         inner = record { name = moved a (m .range); tables = withNames t (o .names) };
@@ -213,13 +214,13 @@ module _ (b : List ℕ) (size : length b < 18446744073709551616) (z : Sizes) whe
   -- a section that was framed and whose contents were read
   frame : (at id e : ℕ) (p r : List ℕ) (t : Tables) (u : Inner) → byteAt b at ≡ accepted (got id (at + 1))
       → (g : PartStands b size (at + 1) p r) → contentsAt id p (g .start) z t ≡ accepted (got u e)
-      → length (u .tables .sections) < capacityOf (z .sections) 5 256
+      → length (u .tables .sections) < capacityIn 1 (z .sections)
       → sectionAt b z at t
       ≡ accepted (got (withSection (u .tables) (rowOf id (part (g .start) (length p)) u)) (g .start + length p))
   unfolding sectionAt onward addSection
   frame at id e p r t u one g c room = rw (one, g .is, g .holds, c, lt-ltb _ _ room)
 
-  -- a section: its row, and what the tables then say
+  -- a section: its each-cons, and what the tables then say
   record Stepped (at : ℕ) (t : Tables) (v : SectionSaid) (r : List ℕ) : Type 0 where
     tables : Tables
     next : ℕ
@@ -230,8 +231,8 @@ module _ (b : List ℕ) (size : length b < 18446744073709551616) (z : Sizes) whe
     says : Says b t tables v
 
   section-reads : (at id : ℕ) (l m p r : List ℕ) (t : Tables) (c : Held) → drop at b ≡ id ∷ m → Number m (length p) (p ++ r)
-      → AnyContent id p c → Fits z c → length (t .sections) < capacityOf (z .sections) 5 256
-      → length (t .names .symbols) + length (functionsIn (subsOf c)) ≤ capacityOf (z .names) 3 4096
+      → AnyContent id p c → HeldFits z c → length (t .sections) < capacityIn 1 (z .sections)
+      → length (t .names .symbols) + length (functionsIn (subsOf c)) ≤ capacityIn 4 (z .names)
       → Stepped at t (record { id = id; payload = p; holds = c }) r
   section-reads at id l m p r t c e u x fits room names =
       let one = byte-reads b size at id m e in
@@ -251,8 +252,8 @@ module _ (b : List ℕ) (size : length b < 18446744073709551616) (z : Sizes) whe
       }
 
   step-reads : (at : ℕ) (l r : List ℕ) (v : SectionSaid) (t : Tables) → drop at b ≡ l → Framed AnySection l v r → FitsIn z v
-      → length (t .sections) < capacityOf (z .sections) 5 256
-      → length (t .names .symbols) + length (functionsIn (subsOf (v .holds))) ≤ capacityOf (z .names) 3 4096 → Stepped at t v r
+      → length (t .sections) < capacityIn 1 (z .sections)
+      → length (t .names .symbols) + length (functionsIn (subsOf (v .holds))) ≤ capacityIn 4 (z .names) → Stepped at t v r
   unfolding FitsIn
   step-reads at l r v t e (framed {id = id} {l = m} {p = p} u (AnySection.section {c = c} x)) fits room names =
       section-reads at id l m p r t c e u x fits room names
@@ -265,10 +266,10 @@ module _ (b : List ℕ) (size : length b < 18446744073709551616) (z : Sizes) whe
     tells : Tells b t tables vs
 
   sections-read : (at : ℕ) (l : List ℕ) (vs : List SectionSaid) (t : Tables) → drop at b ≡ l → at ≤ length b
-      → Row (Framed AnySection) l vs [] → Each (FitsIn z) vs → length (t .sections) + length vs ≤ capacityOf (z .sections) 5 256
-      → length (t .names .symbols) + length (functionsAll vs) ≤ capacityOf (z .names) 3 4096 → Read at t vs
+      → InARow (Framed AnySection) l vs [] → Each (FitsIn z) vs → length (t .sections) + length vs ≤ capacityIn 1 (z .sections)
+      → length (t .names .symbols) + length (functionsAll vs) ≤ capacityIn 4 (z .names) → Read at t vs
   unfolding functionsAll
-  sections-read at l [] t e k Row.done no-row room names =
+  sections-read at l [] t e k InARow.done each-nil room names =
       let n : length (drop at b) ≡ 0 = ap length e in
       record {
         tables = t;
@@ -276,7 +277,7 @@ module _ (b : List ℕ) (size : length b < 18446744073709551616) (z : Sizes) whe
         is = from-end (sectionAt b z) b at t (omega (arith, n, length-drop at b));
         tells = tells-nothing b t;
       }
-  sections-read at l (v ∷ vs) t e k (Row.then {m = m} x more) (row f others) room names =
+  sections-read at l (v ∷ vs) t e k (InARow.then {m = m} x more) (each-cons f others) room names =
       let n = length-append (functionsIn (subsOf (v .holds))) (functionsAll vs) in
       let o = step-reads at l m v t e x f (omega arith) (omega (arith, n)) in
       let i =
@@ -311,6 +312,6 @@ any-conform b z vs short room (AnyModule.modul h s) =
     (omega (arith, room .sections)) (omega (arith, room .functions)) in
     record {
       tables = i .tables;
-      is = rw (le-ltb 16777216 (length b) short, header-reads b h, i .is);
+      is = rw (le-ltb fileLimit (length b) short, header-reads b h, i .is);
       rows = rows-of b (i .tables) vs (i .tells);
     }

@@ -8,13 +8,14 @@ use mathlib.Core.List.{List, [], _∷_, _++_}
 use lib.ListN.{length, drop}
 use Rattle.refusal.specs.Said.{accepted, refused, got}
 use Rattle.refusal.specs.declared.Part.{Part}
+use Rattle.refusal.specs.Sizes.{fileLimit}
 use Rattle.leb.specs.Grammar.{U}
-use Rattle.leb.specs.Reads.{part, bytesOf, byteAt, u32At, nameAt, countedAt}
-use Rattle.wasm.specs.Shapes.{Limits, Import, Export, Section, table, global}
+use Rattle.leb.specs.Reads.{part, partBytes, byteAt, u32At, nameAt, countedAt}
+use Rattle.wasm.specs.Shapes.{Limits, Import, Export, Section, tableDesc, global}
 use Rattle.wasm.specs.Entry.{limitsAt, tableAt, globalAt, exportAt, moved}
 use Rattle.wasm.specs.Rows.{importsOf, exportsOf}
 use Rattle.wasm.specs.Custom.{Names, toldBy, customAt}
-use Rattle.wasm.specs.Module.{Tables, Sizes, withImports, withExports, plain, contentsAt, sectionAt, headerAt, noTables, moduleAt}
+use Rattle.wasm.specs.Module.{Tables, Sizes, withImports, withExports, nameless, contentsAt, sectionAt, headerAt, noTables, moduleAt}
 use Rattle.conform.specs.Port.{versionOf, AnyHeader}
 use Rattle.conform.specs.Sound.{limits}
 
@@ -37,15 +38,15 @@ pub record UnusedBytes (s more : List ℕ) (base n : ℕ) : Type 0 where
 -- an import or export section starts its table anew, whatever the tables t hold
 pub record StartAnew (s : List ℕ) (base : ℕ) (z : Sizes) (t : Tables) : Type 0 where
   pub imports : (rows : List Import) (d : ℕ) → importsOf s base (z .imports) ≡ accepted (got rows d)
-      → contentsAt 2 s base z t ≡ accepted (got (plain (withImports t rows)) d)
+      → contentsAt 2 s base z t ≡ accepted (got (nameless (withImports t rows)) d)
   pub exports : (rows : List Export) (d : ℕ) → exportsOf s base (z .exports) ≡ accepted (got rows d)
-      → contentsAt 7 s base z t ≡ accepted (got (plain (withExports t rows)) d)
+      → contentsAt 7 s base z t ≡ accepted (got (nameless (withExports t rows)) d)
 
 -- a section of any other id, above 12 too, is recorded and not looked into
 abbrev pub AnyId : Type 0
 AnyId =
     (id : ℕ) (s : List ℕ) (base : ℕ) (z : Sizes) (t : Tables) → (id ≡ 0 → ⊥) → (id ≡ 2 → ⊥) → (id ≡ 7 → ⊥)
-    → contentsAt id s base z t ≡ accepted (got (plain t) 0)
+    → contentsAt id s base z t ≡ accepted (got (nameless t) 0)
 
 -- of a limits flag only bit 0 counts
 pub record FlagBits (s : List ℕ) (at f a n c : ℕ) (flag : byteAt s at ≡ accepted (got f a)) (low : u32At s a ≡ accepted (got n c))
@@ -65,7 +66,7 @@ ExportKinds =
 abbrev pub ElementTypes : Type 0
 ElementTypes =
     (s : List ℕ) (at e a : ℕ) (l : Limits) (d : ℕ) → byteAt s at ≡ accepted (got e a) → limitsAt s a ≡ accepted (got l d)
-    → tableAt s at ≡ accepted (got (table e l) d)
+    → tableAt s at ≡ accepted (got (tableDesc e l) d)
 
 -- and a global's value type and mutability
 abbrev pub GlobalTypes : Type 0
@@ -82,7 +83,7 @@ LongSizes =
 -- ---- refused although the specification forgives it
 -- the reader of b comes to an offset with the tables t: from the header on, section after section
 pub data Comes (b : List ℕ) (z : Sizes) : ℕ → Tables → Type 0 where
-  start : AnyHeader b → length b ≤ 16777216 → Comes b z 8 noTables
+  start : AnyHeader b → length b ≤ fileLimit → Comes b z 8 noTables
   after : {at d : ℕ} {t u : Tables} → Comes b z at t → sectionAt b z at t ≡ accepted (got u d) → Comes b z d u
 
 -- the first section that is refused refuses the file
@@ -95,7 +96,7 @@ FirstRefusal =
 abbrev pub FaultyNames : Type 0
 FaultyNames =
     (b : List ℕ) (z : Sizes) (at a d n q : ℕ) (t : Tables) (p : Part) → Comes b z at t → byteAt b at ≡ accepted (got 0 a)
-    → countedAt b a ≡ accepted (got p d) → customAt (bytesOf b p) (p .from) (z .names) (t .names) ≡ refused n q
+    → countedAt b a ≡ accepted (got p d) → customAt (partBytes b p) (p .from) (z .names) (t .names) ≡ refused n q
     → moduleAt b z ≡ refused n q
 
 -- ---- smallest inputs
@@ -122,7 +123,7 @@ pub record Smallest : Type 0 where
   pub flag : limitsAt (0x02 ∷ 0x00 ∷ []) 0 ≡ accepted (got (record { flag = 2; least = 0; bounded = false; most = 0 }) 2)
   pub kind : exportAt (0x00 ∷ 0x04 ∷ 0x00 ∷ []) 0 0 ≡ accepted (got (record { name = part 1 0; kind = 4; index = 0 }) 3)
   pub element : tableAt (0x00 ∷ 0x00 ∷ 0x00 ∷ []) 0
-      ≡ accepted (got (table 0 (record { flag = 0; least = 0; bounded = false; most = 0 })) 3)
+      ≡ accepted (got (tableDesc 0 (record { flag = 0; least = 0; bounded = false; most = 0 })) 3)
   pub mutability : globalAt (0x7F ∷ 0x02 ∷ []) 0 ≡ accepted (got (global 0x7F 2) 2)
   pub size : Sections (file (0x01 ∷ 0x80 ∷ 0x80 ∷ 0x80 ∷ 0x80 ∷ 0x80 ∷ 0x00 ∷ [])) 1 (unnamedSection 1 15 0 ∷ [])
   -- a custom section named `name` that ends in its first subsection's id: 1 at 6 of the payload

@@ -1,13 +1,13 @@
 -- docs/PROMISES.md, "The module": what holds of the rows that the reader leaves, whatever the file; and of the room that it is lent.
 -- docs/RULES.md, "Numbered answers": a row of which this holds never gives 15. Assumes nothing.
-use Prim.Native.Nat.{ℕ, _+_, _^_, _≤_, _<_}
+use Prim.Native.Nat.{ℕ, _+_, _*_, _^_, _≤_, _<_}
 use mathlib.Core.Path.{_≡_}
 use mathlib.Core.List.{List, [], _∷_}
 use lib.ListN.{length}
 use Rattle.refusal.specs.Said.{accepted, refused}
 use Rattle.refusal.specs.declared.Part.{Part}
-use Rattle.table.specs.Table.{capacityOf}
-use Rattle.table.proofs.Giving.{Each}
+use Rattle.table.specs.Shape.{width, fullCells, capacityIn}
+use Rattle.refusal.specs.Each.{Each}
 use Rattle.wasm.specs.Shapes.{Import, Export, Symbol, Section}
 use Rattle.wasm.specs.Custom.{Names}
 use Rattle.wasm.specs.Module.{Tables, Sizes, Parsed, moduleAt}
@@ -40,15 +40,15 @@ pub record SectionOk (n : ℕ) (r : Section) : Type 0 where
 pub record NamesOk (n : ℕ) (z : Sizes) (t : Names) : Type 0 where
   pub label-in : t .label .start + t .label .size ≤ n
   pub symbols-ok : Each (SymbolOk n) (t .symbols)
-  pub symbols-few : length (t .symbols) ≤ capacityOf (z .names) 3 4096
+  pub symbols-few : length (t .symbols) ≤ capacityIn 4 (z .names)
 
 pub record TablesOk (n : ℕ) (z : Sizes) (t : Tables) : Type 0 where
   pub sections-ok : Each (SectionOk n) (t .sections)
-  pub sections-few : length (t .sections) ≤ capacityOf (z .sections) 5 256
+  pub sections-few : length (t .sections) ≤ capacityIn 1 (z .sections)
   pub imports-ok : Each (ImportOk n) (t .imports)
-  pub imports-few : length (t .imports) ≤ capacityOf (z .imports) 5 1024
+  pub imports-few : length (t .imports) ≤ capacityIn 2 (z .imports)
   pub exports-ok : Each (ExportOk n) (t .exports)
-  pub exports-few : length (t .exports) ≤ capacityOf (z .exports) 4 1024
+  pub exports-few : length (t .exports) ≤ capacityIn 3 (z .exports)
   pub names-ok : NamesOk n z (t .names)
 
 -- payloads that lie between a and e, each after the one before it
@@ -68,10 +68,10 @@ RowsSound = (b : List ℕ) (z : Sizes) (m : Parsed) → Bytes b → moduleAt b z
 
 -- w has at least the room of z
 pub record Larger (z w : Sizes) : Type 0 where
-  pub sections : capacityOf (z .sections) 5 256 ≤ capacityOf (w .sections) 5 256
-  pub imports : capacityOf (z .imports) 5 1024 ≤ capacityOf (w .imports) 5 1024
-  pub exports : capacityOf (z .exports) 4 1024 ≤ capacityOf (w .exports) 4 1024
-  pub names : capacityOf (z .names) 3 4096 ≤ capacityOf (w .names) 3 4096
+  pub sections : capacityIn 1 (z .sections) ≤ capacityIn 1 (w .sections)
+  pub imports : capacityIn 2 (z .imports) ≤ capacityIn 2 (w .imports)
+  pub exports : capacityIn 3 (z .exports) ≤ capacityIn 3 (w .exports)
+  pub names : capacityIn 4 (z .names) ≤ capacityIn 4 (w .names)
 
 -- a file that is accepted with some tables is accepted with larger ones: the same version and rows
 abbrev pub LargerSame : Type 0
@@ -84,7 +84,7 @@ RefusedSame =
 
 -- tables at the limits
 abbrev pub limits : Sizes
-limits = record { sections = 1280; imports = 5120; exports = 4096; names = 12288 }
+limits = record { sections = fullCells 1; imports = fullCells 2; exports = fullCells 3; names = fullCells 4 }
 
 -- so "accepted" can be said of the file alone: what some tables accept, tables at the limits do
 abbrev pub LimitsDecide : Type 0
@@ -99,3 +99,7 @@ abbrev pub EnoughRoom : Type 0
 EnoughRoom =
     (b : List ℕ) (z w : Sizes) (m : Parsed) → moduleAt b z ≡ accepted m → (d : Derives b z m) → Room w (d .sections)
     → moduleAt b w ≡ accepted m
+
+-- ---- for the code: tables for few rows, 16 to a table and 8 function names
+abbrev pub few : Sizes
+few = record { sections = 16 * width 1; imports = 16 * width 2; exports = 16 * width 3; names = 8 * width 4 }

@@ -6,9 +6,10 @@ use borrow.Author.Tests.{ltb-false, lt-ltb, le-ltb}
 use lib.Dec.{ltb}
 use lib.ListN.{length}
 use Rattle.refusal.specs.Pick.{pick}
+use Rattle.refusal.specs.Sizes.{fileLimit}
 use Rattle.refusal.specs.Said.{accepted, refused, follow}
 use Rattle.refusal.proofs.Following.{never, followed}
-use Rattle.imports.specs.Queries.{importsTested}
+use Rattle.import_rows.specs.Queries.{importsTested}
 use Rattle.differences.specs.Compared.{Given, exportsTested, tablesTested, bothTested, Good}
 
 -- ---- 15
@@ -28,27 +29,27 @@ module _ (g : Given) where
 
 -- ---- 14, then 15
 module _ (b c : Given) where
-  pub first-long : 16777216 < length (b .file) → refused 14 0 ≡ bothTested b c
+  pub first-long : fileLimit < length (b .file) → refused 14 0 ≡ bothTested b c
   unfolding bothTested
-  first-long h = rw (lt-ltb 16777216 (length (b .file)) h)
+  first-long h = rw (lt-ltb fileLimit (length (b .file)) h)
 
-  module _ (h : length (b .file) ≤ 16777216) where
-    pub second-long : 16777216 < length (c .file) → refused 14 0 ≡ bothTested b c
+  module _ (h : length (b .file) ≤ fileLimit) where
+    pub second-long : fileLimit < length (c .file) → refused 14 0 ≡ bothTested b c
     unfolding bothTested
-    second-long k = rw (le-ltb 16777216 (length (b .file)) h, lt-ltb 16777216 (length (c .file)) k)
+    second-long k = rw (le-ltb fileLimit (length (b .file)) h, lt-ltb fileLimit (length (c .file)) k)
 
-    module _ (k : length (c .file) ≤ 16777216) where
+    module _ (k : length (c .file) ≤ fileLimit) where
       pub first-bad : {n p : ℕ} → tablesTested b ≡ refused n p → refused n p ≡ bothTested b c
       unfolding bothTested follow
-      first-bad e = rw (le-ltb 16777216 (length (b .file)) h, le-ltb 16777216 (length (c .file)) k, e)
+      first-bad e = rw (le-ltb fileLimit (length (b .file)) h, le-ltb fileLimit (length (c .file)) k, e)
 
       pub second-next : {u : Unit {0}} → tablesTested b ≡ accepted u → tablesTested c ≡ bothTested b c
       unfolding bothTested follow
-      second-next e = rw (le-ltb 16777216 (length (b .file)) h, le-ltb 16777216 (length (c .file)) k, e)
+      second-next e = rw (le-ltb fileLimit (length (b .file)) h, le-ltb fileLimit (length (c .file)) k, e)
 
   pub both-good : bothTested b c ≡ accepted tt → Good b × Good c
   unfolding bothTested
-  both-good e = by (ltb 16777216 (length (b .file))) (ltb 16777216 (length (c .file))) e
+  both-good e = by (ltb fileLimit (length (b .file))) (ltb fileLimit (length (c .file))) e
     where
       by : (s t : Bool) → pick s (refused 14 0) (pick t (refused 14 0) (follow (tablesTested b) (λ u. tablesTested c))) ≡ accepted tt
           → Good b × Good c
@@ -57,13 +58,13 @@ module _ (b c : Given) where
       by false false q = let f = followed (tablesTested b) (λ u. tablesTested c) q in (good-of b (f .first), good-of c (f .then))
 
   -- neither file is too long
-  pub both-short : bothTested b c ≡ accepted tt → (length (b .file) ≤ 16777216) × (length (c .file) ≤ 16777216)
+  pub both-short : bothTested b c ≡ accepted tt → (length (b .file) ≤ fileLimit) × (length (c .file) ≤ fileLimit)
   unfolding bothTested
-  both-short e = by (ltb 16777216 (length (b .file))) refl (ltb 16777216 (length (c .file))) refl e
+  both-short e = by (ltb fileLimit (length (b .file))) refl (ltb fileLimit (length (c .file))) refl e
     where
-      by : (s : Bool) → ltb 16777216 (length (b .file)) ≡ s → (t : Bool) → ltb 16777216 (length (c .file)) ≡ t
+      by : (s : Bool) → ltb fileLimit (length (b .file)) ≡ s → (t : Bool) → ltb fileLimit (length (c .file)) ≡ t
           → pick s (refused 14 0) (pick t (refused 14 0) (follow (tablesTested b) (λ u. tablesTested c))) ≡ accepted tt
-          → (length (b .file) ≤ 16777216) × (length (c .file) ≤ 16777216)
+          → (length (b .file) ≤ fileLimit) × (length (c .file) ≤ fileLimit)
       by true p t q e = absurd (never e)
       by false p true q e = absurd (never e)
-      by false p false q e = (ltb-false 16777216 (length (b .file)) p, ltb-false 16777216 (length (c .file)) q)
+      by false p false q e = (ltb-false fileLimit (length (b .file)) p, ltb-false fileLimit (length (c .file)) q)

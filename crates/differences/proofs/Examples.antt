@@ -7,11 +7,11 @@ use Rattle.text.specs.Order.{cmpBytes}
 use Rattle.table.specs.Table.{cellOf, rangeOf}
 use Rattle.text.specs.Find.{begins, same}
 use Rattle.kinds.specs.Kinds.{kindOf}
-use Rattle.imports.specs.Queries.{kindIs}
+use Rattle.import_rows.specs.Queries.{kindIs}
 use Rattle.domains.specs.Classify.{importDomain}
 use Rattle.differences.specs.declared.Change.{Change}
 use Rattle.differences.specs.declared.Change.the-variants.{Removed, Added}
-use Rattle.differences.specs.View.{View, exportAt, needAt, viewOf}
+use Rattle.differences.specs.View.{View, exportKeyAt, needAt, viewOf}
 use Rattle.differences.specs.Differences.{Entry, cmpExport, cmpNeed, hasKey, exportOrder, exportDiff, needOrder, needDiff}
 use Rattle.differences.specs.Differences.{hasNo, compatible}
 
@@ -32,7 +32,7 @@ brief e = (e .change, e .row .at)
 -- by name, then slug (global, memory, other by byte, table), then row; each repeat
 exports-between : map brief (exportDiff old new)
     ≡ (Removed, 3) ∷ (Added, 0) ∷ (Added, 2) ∷ (Added, 1) ∷ (Removed, 1) ∷ (Removed, 0) ∷ (Removed, 2) ∷ []
-unfolding brief old new exportDiff exportOrder cmpExport hasKey exportAt cellOf rangeOf cmpBytes kindOf
+unfolding brief old new exportDiff exportOrder cmpExport hasKey exportKeyAt cellOf rangeOf cmpBytes kindOf
 exports-between = refl
 
 -- each pair once, by its lowest function import
@@ -41,12 +41,12 @@ unfolding brief old new needDiff needOrder cmpNeed hasKey needAt cellOf rangeOf 
 needs-between = refl
 
 not-compatible : compatible old new ≡ false
-unfolding compatible hasNo old new exportDiff exportOrder cmpExport hasKey exportAt cellOf rangeOf cmpBytes kindOf
+unfolding compatible hasNo old new exportDiff exportOrder cmpExport hasKey exportKeyAt cellOf rangeOf cmpBytes kindOf
 not-compatible = refl
 
 -- a module against itself
 no-export : exportDiff old old ≡ []
-unfolding old exportDiff exportOrder cmpExport hasKey exportAt cellOf rangeOf cmpBytes kindOf
+unfolding old exportDiff exportOrder cmpExport hasKey exportKeyAt cellOf rangeOf cmpBytes kindOf
 no-export = refl
 
 no-need : needDiff old old ≡ []

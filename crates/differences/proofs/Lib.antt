@@ -5,3 +5,4 @@ pub mod Ranks
 pub mod Numbered
 pub mod Only
 pub mod Examples
+pub mod Places

@@ -12,7 +12,7 @@ use Rattle.text.specs.Order.{cmpNat, andThen}
 use Rattle.text.specs.declared.order.Order.{Order}
 use Rattle.text.specs.declared.order.Order.the-variants.{Less, Equal, Greater}
 use Rattle.sorting.specs.Order.{Lawful, on}
-use Rattle.sorting.specs.Sort.{_∈_, sort, keep, upFrom}
+use Rattle.sorting.specs.Sort.{_∈_, sort, selected, upFrom}
 use Rattle.text.specs.Order.{flip}
 use Rattle.text.proofs.OrderLaws.{Tri, below, at, above, tri}
 use Rattle.sorting.proofs.Orders.{lawful-on, nat-less, nat-same, nat-greater}
@@ -44,7 +44,7 @@ up-append s (suc a) b =
     let d : suc s + a ≡ s + suc a = omega arith in
     ap (upFrom s) e ∙ ap (_∷_ s) (up-append (suc s) a b ∙ ap (λ (t : ℕ). upFrom (suc s) a ++ upFrom t b) d)
 
-keep-agree : {A : Type 0} (p q : A → Bool) (l : List A) → ((x : A) → x ∈ l → p x ≡ q x) → keep p l ≡ keep q l
+keep-agree : {A : Type 0} (p q : A → Bool) (l : List A) → ((x : A) → x ∈ l → p x ≡ q x) → selected p l ≡ selected q l
 keep-agree p q [] h = refl
 keep-agree p q (x ∷ l) h = rw (h x (List·Memᴰ·head refl), keep-agree p q l (λ y m. h y (List·Memᴰ·tail m)))
 
@@ -58,11 +58,11 @@ or-true false c h = h
 module _ {K : Type 0} (cmp : K → K → Order) (key : ℕ → K) (want : ℕ → Bool) where
   -- the rows of one module, by t and how many
   abbrev wanted : ℕ → ℕ → List (Row K)
-  wanted t m = map (row key) (keep want (upFrom t m))
+  wanted t m = map (row key) (selected want (upFrom t m))
 
   -- a search by numbers is a search of the rows
   pub some-has : (k : K) (p : ℕ → Bool) (s m t : ℕ) → ((i : ℕ) → i < t + m → p (s + i) ≡ both (want i) (ties (cmp k (key i))))
-      → someFrom p (s + t) m ≡ hasKey cmp k (map (row key) (keep want (upFrom t m)))
+      → someFrom p (s + t) m ≡ hasKey cmp k (map (row key) (selected want (upFrom t m)))
   unfolding someFrom hasKey
   some-has k p s zero t h = refl
   some-has k p s (suc m) t h =
@@ -71,24 +71,24 @@ module _ {K : Type 0} (cmp : K → K → Order) (key : ℕ → K) (want : ℕ �
       rw (h t (omega arith), r) (go (want t))
     where
       go : (b : Bool) → both b (ties (cmp k (key t))) || hasKey cmp k (wanted (suc t) m)
-          ≡ hasKey cmp k (map (row key) (pick b (t ∷ keep want (upFrom (suc t) m)) (keep want (upFrom (suc t) m))))
+          ≡ hasKey cmp k (map (row key) (pick b (t ∷ selected want (upFrom (suc t) m)) (selected want (upFrom (suc t) m))))
       go true = refl
       go false = refl
 
   -- a wanted row with the key is found
   has-at : (k : K) (i m t : ℕ) → t ≤ i → i < t + m → want i ≡ true → cmp k (key i) ≡ Equal
-      → hasKey cmp k (map (row key) (keep want (upFrom t m))) ≡ true
+      → hasKey cmp k (map (row key) (selected want (upFrom t m))) ≡ true
   unfolding hasKey
   has-at k i zero t h l w e = absurd (omega arith)
   has-at k i (suc m) t h l w e = by (ltb t i) refl (λ r. has-at k i m (suc t) r (omega arith) w e)
     where
-      further : (b : Bool) → hasKey cmp k (map (row key) (keep want (upFrom (suc t) m))) ≡ true
-          → hasKey cmp k (map (row key) (pick b (t ∷ keep want (upFrom (suc t) m)) (keep want (upFrom (suc t) m)))) ≡ true
+      further : (b : Bool) → hasKey cmp k (map (row key) (selected want (upFrom (suc t) m))) ≡ true
+          → hasKey cmp k (map (row key) (pick b (t ∷ selected want (upFrom (suc t) m)) (selected want (upFrom (suc t) m)))) ≡ true
       further true r = or-true (ties (cmp k (key t))) _ r
       further false r = r
 
-      by : (b : Bool) → ltb t i ≡ b → (suc t ≤ i → hasKey cmp k (map (row key) (keep want (upFrom (suc t) m))) ≡ true)
-          → hasKey cmp k (map (row key) (keep want (upFrom t (suc m)))) ≡ true
+      by : (b : Bool) → ltb t i ≡ b → (suc t ≤ i → hasKey cmp k (map (row key) (selected want (upFrom (suc t) m))) ≡ true)
+          → hasKey cmp k (map (row key) (selected want (upFrom t (suc m)))) ≡ true
       by true d r = further (want t) (r (ltb-true t i d))
       by false d r = let q : i ≡ t = omega (arith, ltb-false t i d) in rw (← q, w, e)
 
@@ -96,19 +96,21 @@ module _ {K : Type 0} (cmp : K → K → Order) (key : ℕ → K) (want : ℕ �
   pub side-is : (h : Change) (other : List (Row K)) (f : ℕ → Entry K) (lost : ℕ → Bool) (s m t : ℕ)
       → ((i : ℕ) → i < t + m → f (s + i) ≡ entry h (row key i))
       → ((i : ℕ) → i < t + m → lost (s + i) ≡ both (want i) (not (hasKey cmp (key i) other)))
-      → map f (keep lost (upFrom (s + t) m)) ≡ map (entry h) (without cmp (map (row key) (keep want (upFrom t m))) other)
+      → map f (selected lost (upFrom (s + t) m)) ≡ map (entry h) (without cmp (map (row key) (selected want (upFrom t m))) other)
   side-is h other f lost s zero t a q = refl
   side-is h other f lost s (suc m) t a q =
       let e : suc (s + t) ≡ s + suc t = omega arith in
-      let r = ap (λ (j : ℕ). map f (keep lost (upFrom j m))) e
+      let r = ap (λ (j : ℕ). map f (selected lost (upFrom j m))) e
       ∙ side-is h other f lost s m (suc t) (λ i l. a i (omega arith)) (λ i l. q i (omega arith)) in
       rw (q t (omega arith)) (go (want t) (hasKey cmp (key t) other) refl r)
     where
       go : (b k : Bool) → hasKey cmp (key t) other ≡ k
-          → map f (keep lost (upFrom (suc (s + t)) m)) ≡ map (entry h) (without cmp (map (row key) (keep want (upFrom (suc t) m))) other)
+          → map f (selected lost (upFrom (suc (s + t)) m)) ≡ map (entry h)
+          (without cmp (map (row key) (selected want (upFrom (suc t) m))) other)
           → map f (pick (both b (not (hasKey cmp (key t) other)))
-          ((s + t) ∷ keep lost (upFrom (suc (s + t)) m)) (keep lost (upFrom (suc (s + t)) m)))
-          ≡ map (entry h) (without cmp (map (row key) (pick b (t ∷ keep want (upFrom (suc t) m)) (keep want (upFrom (suc t) m)))) other)
+          ((s + t) ∷ selected lost (upFrom (suc (s + t)) m)) (selected lost (upFrom (suc (s + t)) m)))
+          ≡ map (entry h) (without cmp (map (row key) (pick b (t ∷ selected want (upFrom (suc t) m))
+          (selected want (upFrom (suc t) m)))) other)
       go true true e r = rw e r
       go true false e r = rw (e, a t (omega arith), r)
       go false k e r = r
@@ -130,10 +132,10 @@ lost-want false k e = absurd (never e)
 
 module _ {K : Type 0} (cmp : K → K → Order) (keyB keyC : ℕ → K) (wantB wantC : ℕ → Bool) (nb nc : ℕ) where
   abbrev pub rowsB : List (Row K)
-  rowsB = map (row keyB) (keep wantB (upFrom 0 nb))
+  rowsB = map (row keyB) (selected wantB (upFrom 0 nb))
 
   abbrev pub rowsC : List (Row K)
-  rowsC = map (row keyC) (keep wantC (upFrom 0 nc))
+  rowsC = map (row keyC) (selected wantC (upFrom 0 nc))
 
   -- the entry with a number, and whether it is a difference
   abbrev pub numbered : ℕ → Entry K
@@ -144,7 +146,7 @@ module _ {K : Type 0} (cmp : K → K → Order) (keyB keyC : ℕ → K) (wantB w
       sided nb (λ i. both (wantB i) (not (hasKey cmp (keyB i) rowsC)))
       (λ i. both (wantC i) (not (hasKey cmp (keyC i) rowsB)))
 
-  changes-numbered : map numbered (keep lostIn (upFrom 0 (nb + nc))) ≡ changes cmp rowsB rowsC
+  changes-numbered : map numbered (selected lostIn (upFrom 0 (nb + nc))) ≡ changes cmp rowsB rowsC
   changes-numbered =
       let front : (i : ℕ) → 0 + i ≡ i = λ i. omega arith in
       let back : (i : ℕ) → nb + i - nb ≡ i = λ i. omega arith in
@@ -157,21 +159,21 @@ module _ {K : Type 0} (cmp : K → K → Order) (keyB keyC : ℕ → K) (wantB w
       (λ i l. sided-second nb _ _ (nb + i) (omega arith) ∙ ap (λ (j : ℕ). entry Added (row keyC j)) (back i))
       (λ i l. sided-second nb _ _ (nb + i) (omega arith)
       ∙ ap (λ (j : ℕ). both (wantC j) (not (hasKey cmp (keyC j) rowsB))) (back i)) in
-      ap (λ (l : List ℕ). map numbered (keep lostIn l)) (up-append 0 nb nc)
+      ap (λ (l : List ℕ). map numbered (selected lostIn l)) (up-append 0 nb nc)
       ∙ ap (map numbered) (keep-append lostIn (upFrom 0 nb) (upFrom (0 + nb) nc))
-      ∙ map-append numbered (keep lostIn (upFrom 0 nb)) (keep lostIn (upFrom (0 + nb) nc))
-      ∙ ap (λ (l : List (Entry K)). l ++ map numbered (keep lostIn (upFrom (0 + nb) nc))) removed
+      ∙ map-append numbered (selected lostIn (upFrom 0 nb)) (selected lostIn (upFrom (0 + nb) nc))
+      ∙ ap (λ (l : List (Entry K)). l ++ map numbered (selected lostIn (upFrom (0 + nb) nc))) removed
       ∙ ap (λ (l : List (Entry K)). map (entry Removed) (without cmp rowsB rowsC) ++ l)
-      (ap (λ (j : ℕ). map numbered (keep lostIn (upFrom j nc))) turn ∙ added)
+      (ap (λ (j : ℕ). map numbered (selected lostIn (upFrom j nc))) turn ∙ added)
 
   -- the kept numbers, sorted, name the sorted differences
   pub sort-changes : (fine : Entry K → Entry K → Order) → Lawful fine → (order : ℕ → ℕ → Order) (test : ℕ → Bool)
       → ((i : ℕ) → i < nb + nc → test i ≡ lostIn i)
       → ((i j : ℕ) → i < nb + nc → j < nb + nc → lostIn i ≡ true → lostIn j ≡ true → order i j ≡ fine (numbered i) (numbered j))
-      → map numbered (sort order (keep test (upFrom 0 (nb + nc)))) ≡ sort fine (changes cmp rowsB rowsC)
+      → map numbered (sort order (selected test (upFrom 0 (nb + nc)))) ≡ sort fine (changes cmp rowsB rowsC)
   sort-changes fine laws order test t o =
       let n : ℕ = nb + nc in
-      let l : List ℕ = keep lostIn (upFrom 0 n) in
+      let l : List ℕ = selected lostIn (upFrom 0 n) in
       let below : (i : ℕ) → i ∈ upFrom 0 n → i < n = λ i m. let u = up-to i 0 n m in omega arith in
       let has : (i : ℕ) → i ∈ l → (i < n) × (lostIn i ≡ true) = λ i m. let k = keep-to lostIn i (upFrom 0 n) m in (below i (k .0), k .1) in
       ap (λ (k : List ℕ). map numbered (sort order k)) (keep-agree test lostIn (upFrom 0 n) (λ i m. t i (below i m)))

@@ -8,13 +8,13 @@ use Rattle.sorting.specs.Sort.{_∈_, sort, Ascending, First}
 use Rattle.sorting.proofs.Orders.{lawful-nat, lawful-bytes, lawful-on, lawful-then}
 use Rattle.sorting.proofs.Sorts.{sort-ascends, ascending-unique}
 use Rattle.sorting.proofs.Firsts.{sort-first}
-use Rattle.differences.specs.View.{Export, Need, View}
-use Rattle.differences.specs.Differences.{slugOf, cmpExport, cmpNeed, Entry, changes, exportOrder, exportDiff, needOrder, needDiff}
+use Rattle.differences.specs.View.{ExportKey, Need, View}
+use Rattle.differences.specs.Differences.{kindSlug, cmpExport, cmpNeed, Entry, changes, exportOrder, exportDiff, needOrder, needDiff}
 
 -- ---- the orders are lawful
 pub lawful-export : Lawful cmpExport
 unfolding cmpExport
-lawful-export = lawful-then (lawful-on lawful-bytes (λ e. e .name)) (lawful-on lawful-bytes (λ e. slugOf (e .kind)))
+lawful-export = lawful-then (lawful-on lawful-bytes (λ e. e .name)) (lawful-on lawful-bytes (λ e. kindSlug (e .kind)))
 
 pub lawful-exports : Lawful exportOrder
 unfolding exportOrder
@@ -37,8 +37,8 @@ sorted-only cmp laws l m a each =
 
 module _ (b c : View) where
   -- the list of exports: by name, kind and row, strictly, and its entries are the rows that the other module lacks
-  pub exports-only : (l : List (Entry Export)) → Ascending exportOrder l
-      → ((e : Entry Export) → e ∈ l ↔ First exportOrder e (changes cmpExport (b .exports) (c .exports))) → l ≡ exportDiff b c
+  pub exports-only : (l : List (Entry ExportKey)) → Ascending exportOrder l
+      → ((e : Entry ExportKey) → e ∈ l ↔ First exportOrder e (changes cmpExport (b .exports) (c .exports))) → l ≡ exportDiff b c
   unfolding exportDiff
   exports-only l a each = sorted-only exportOrder lawful-exports (changes cmpExport (b .exports) (c .exports)) l a each
 

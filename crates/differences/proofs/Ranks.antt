@@ -15,7 +15,7 @@ use Rattle.sorting.proofs.Orders.{nat-less, nat-greater, nat-same}
 use Rattle.kinds.specs.Kinds.{kindOf, kindWord, hexOf}
 use Rattle.kinds.specs.declared.ExternalKind.the-variants.{Other}
 use Rattle.differences.specs.Rank.{rankOf}
-use Rattle.differences.specs.Differences.{slugOf}
+use Rattle.differences.specs.Differences.{kindSlug}
 
 -- a comparison of numbers is kept by a function that keeps their order
 kept : (f : ℕ → ℕ) → ((x y : ℕ) → x < y → f x < f y) → (x y : ℕ) → cmpNat (f x) (f y) ≡ cmpNat x y
@@ -52,7 +52,7 @@ data Kind (k : ℕ) : Type 0 where
   table : k ≡ 1 → Kind k
   memory : k ≡ 2 → Kind k
   global : k ≡ 3 → Kind k
-  other : 3 < k → rankOf k ≡ k → slugOf k ≡ kindWord (Other k) → Kind k
+  other : 3 < k → rankOf k ≡ k → kindSlug k ≡ kindWord (Other k) → Kind k
 
 kind : (k : ℕ) → Kind k
 unfolding rankOf kindOf
@@ -70,11 +70,11 @@ others : (a b : ℕ) → cmpNat a b ≡ cmpBytes (kindWord (Other a)) (kindWord 
 unfolding cmpBytes
 others a b = rw (kept hexOf hex-up (a / 16) (b / 16), kept hexOf hex-up (a % 16) (b % 16)) (sym (digits a b))
 
-pub rank-order : (a b : ℕ) → a ≤ 255 → b ≤ 255 → cmpNat (rankOf a) (rankOf b) ≡ cmpBytes (slugOf a) (slugOf b)
+pub rank-order : (a b : ℕ) → a ≤ 255 → b ≤ 255 → cmpNat (rankOf a) (rankOf b) ≡ cmpBytes (kindSlug a) (kindSlug b)
 unfolding rankOf kindOf cmpBytes
 rank-order a b h k = by (kind a) (kind b)
   where
-    by : Kind a → Kind b → cmpNat (rankOf a) (rankOf b) ≡ cmpBytes (slugOf a) (slugOf b)
+    by : Kind a → Kind b → cmpNat (rankOf a) (rankOf b) ≡ cmpBytes (kindSlug a) (kindSlug b)
     by (func p) (func q) = rw (p, q)
     by (func p) (table q) = rw (p, q)
     by (func p) (memory q) = rw (p, q)

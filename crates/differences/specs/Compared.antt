@@ -1,30 +1,29 @@
 -- docs/RULES.md, "Differences": what the comparison of two modules answers, and what tables 8 and 9 then hold. Assumes nothing.
 use mathlib.Core.Path.{_≡_}
-use mathlib.Core.Bool.{Bool, true, false, _&&_}
+use mathlib.Core.Bool.{Bool, _&&_}
 use mathlib.Core.List.{List, [], _∷_}
 use Prim.Native.Nat.{ℕ, _+_}
 use lib.Dec.{leb, ltb}
 use lib.ListN.{length}
 use Rattle.refusal.specs.Pick.{pick, both}
+use Rattle.refusal.specs.Sizes.{fileLimit, fitsIn}
 use Rattle.refusal.specs.Said.{Said, accepted, refused, follow}
-use Rattle.table.specs.Table.{cellOf, capacityOf, laid, cells}
-use Rattle.table.specs.Testing.{tested}
+use Rattle.table.specs.Table.{laid, cells}
+use Rattle.table.specs.Shape.{capacityIn, cellIn}
+use Rattle.table.specs.Testing.{bad, tested}
 use Rattle.table.specs.Entries.{finished}
-use Rattle.imports.specs.Queries.{importsTested}
+use Rattle.import_rows.specs.Queries.{importsTested}
 use Rattle.differences.specs.declared.Change.{Change}
 use Rattle.differences.specs.declared.Change.the-variants.{Removed, Added}
-use Rattle.differences.specs.View.{Export, Need, View, viewOf}
+use Rattle.differences.specs.View.{ExportKey, Need, View, viewOf}
 use Rattle.differences.specs.Differences.{Entry, exportDiff, needDiff, hasNo}
 
 -- the name of row i of table 3 lies in a file of n bytes, and its kind is a byte
 unfoldable pub exportFits : ℕ → List ℕ → ℕ → Bool
-exportFits n exports i = both (leb (cellOf exports 4 i 0 + cellOf exports 4 i 1) n) (leb (cellOf exports 4 i 2) 255)
-
-unfoldable pub exportBad : ℕ → List ℕ → ℕ → Bool
-exportBad n exports i = pick (exportFits n exports i) false true
+exportFits n exports i = both (fitsIn n (cellIn 3 exports i 0) (cellIn 3 exports i 1)) (leb (cellIn 3 exports i 2) 255)
 
 unfoldable pub exportsTested : ℕ → List ℕ → ℕ → Said (Unit {0})
-exportsTested n exports rows = tested (capacityOf (length exports) 4 1024) rows (exportBad n exports)
+exportsTested n exports rows = tested (capacityIn 3 (length exports)) rows (bad (exportFits n exports))
 
 -- what is handed in of a module: its file, table 2 and a count, table 3 and a count
 pub record Given : Type 0 where
@@ -50,8 +49,8 @@ tablesTested g =
 -- 14, of either file; 15, the baseline's tables and then the candidate's
 unfoldable pub bothTested : Given → Given → Said (Unit {0})
 bothTested b c =
-    pick (ltb 16777216 (length (b .file))) (refused 14 0)
-    (pick (ltb 16777216 (length (c .file))) (refused 14 0)
+    pick (ltb fileLimit (length (b .file))) (refused 14 0)
+    (pick (ltb fileLimit (length (c .file))) (refused 14 0)
     (follow (tablesTested b) (λ u. tablesTested c)))
 
 -- tables that passed
@@ -60,7 +59,7 @@ pub record Good (g : Given) : Type 0 where
   pub exports-good : exportsTested (length (g .file)) (g .exports) (g .exportCount) ≡ accepted tt
 
 pub record Lists : Type 0 where
-  pub exports : List (Entry Export)
+  pub exports : List (Entry ExportKey)
   pub needs : List (Entry Need)
 
 abbrev pub lists : View → View → Lists
@@ -73,8 +72,8 @@ roomed room8 room9 l = follow (finished 8 room8 (l .exports)) (λ m. follow (fin
 -- 14, of either file; 15, the baseline's tables and then the candidate's; 13
 unfoldable pub compared : Given → Given → ℕ → ℕ → Said Lists
 compared b c room8 room9 =
-    pick (ltb 16777216 (length (b .file))) (refused 14 0)
-    (pick (ltb 16777216 (length (c .file))) (refused 14 0)
+    pick (ltb fileLimit (length (b .file))) (refused 14 0)
+    (pick (ltb fileLimit (length (c .file))) (refused 14 0)
     (follow (tablesTested b)
     (λ u. follow (tablesTested c)
     (λ v. roomed room8 room9 (lists (viewed b) (viewed c))))))
@@ -86,8 +85,8 @@ pub record Verdict : Type 0 where
   pub compatible : Bool
 
 -- how long the lists are, and that no export was removed and no capability added
-unfoldable pub verdictOf : Lists → Verdict
-verdictOf l =
+unfoldable pub verdictOn : Lists → Verdict
+verdictOn l =
     record {
       exports = length (l .exports);
       capabilities = length (l .needs);
@@ -99,11 +98,11 @@ changeNumber Removed = 0
 changeNumber Added = 1
 
 -- a row of table 8, and of table 9
-abbrev pub exportCells : Entry Export → List ℕ
-exportCells e = changeNumber (e .change) ∷ e .row .at ∷ []
+abbrev pub exportDiffCells : Entry ExportKey → List ℕ
+exportDiffCells e = changeNumber (e .change) ∷ e .row .at ∷ []
 
-abbrev pub needCells : Entry Need → List ℕ
-needCells e = changeNumber (e .change) ∷ e .row .key .domain ∷ e .row .at ∷ []
+abbrev pub needDiffCells : Entry Need → List ℕ
+needDiffCells e = changeNumber (e .change) ∷ e .row .key .domain ∷ e .row .at ∷ []
 
 -- after a refusal both tables are zero throughout
 abbrev pub listed : Said Lists → Lists
@@ -111,6 +110,6 @@ listed (accepted l) = l
 listed (refused n p) = record { exports = []; needs = [] }
 
 pub record Compares (x : Said Lists) (before8 after8 before9 after9 : List ℕ) (a : Said Verdict) : Type 0 where
-  pub answer-is : a ≡ follow x (λ l. accepted (verdictOf l))
-  pub table8-is : after8 ≡ laid (length before8) (cells exportCells (listed x .exports))
-  pub table9-is : after9 ≡ laid (length before9) (cells needCells (listed x .needs))
+  pub answer-is : a ≡ follow x (λ l. accepted (verdictOn l))
+  pub table8-is : after8 ≡ laid (length before8) (cells exportDiffCells (listed x .exports))
+  pub table9-is : after9 ≡ laid (length before9) (cells needDiffCells (listed x .needs))

@@ -7,19 +7,19 @@ use Rattle.text.specs.Order.{cmpNat, cmpBytes}
 use Rattle.text.specs.declared.order.Order.{Order}
 use Rattle.text.specs.declared.order.Order.the-variants.{Less, Equal, Greater}
 use Rattle.sorting.specs.Order.{on, thenBy}
-use Rattle.sorting.specs.Sort.{sort, keep}
+use Rattle.sorting.specs.Sort.{sort, selected}
 use Rattle.kinds.specs.Kinds.{kindOf, kindWord}
 use Rattle.differences.specs.declared.Change.{Change}
 use Rattle.differences.specs.declared.Change.the-variants.{Removed, Added}
-use Rattle.differences.specs.View.{Export, Need, Row, View}
+use Rattle.differences.specs.View.{ExportKey, Need, Row, View}
 
 -- the slug of a kind byte
-abbrev pub slugOf : ℕ → List ℕ
-slugOf kind = kindWord (kindOf kind)
+abbrev pub kindSlug : ℕ → List ℕ
+kindSlug kind = kindWord (kindOf kind)
 
 -- by name bytes, then kind slug
-unfoldable pub cmpExport : Export → Export → Order
-cmpExport = thenBy (on cmpBytes (λ e. e .name)) (on cmpBytes (λ e. slugOf (e .kind)))
+unfoldable pub cmpExport : ExportKey → ExportKey → Order
+cmpExport = thenBy (on cmpBytes (λ e. e .name)) (on cmpBytes (λ e. kindSlug (e .kind)))
 
 -- by domain order, then source
 unfoldable pub cmpNeed : Need → Need → Order
@@ -46,17 +46,17 @@ module _ {K : Type 0} (cmp : K → K → Order) where
 
   -- the rows of b, each repeat too, whose key no row of c has
   abbrev pub without : List (Row K) → List (Row K) → List (Row K)
-  without b c = keep (λ r. not (hasKey (r .key) c)) b
+  without b c = selected (λ r. not (hasKey (r .key) c)) b
 
   -- the rows that the other lacks, of both
   abbrev pub changes : List (Row K) → List (Row K) → List (Entry K)
   changes b c = map (entry Removed) (without b c) ++ map (entry Added) (without c b)
 
 -- by name and kind, repeats in row order
-unfoldable pub exportOrder : Entry Export → Entry Export → Order
+unfoldable pub exportOrder : Entry ExportKey → Entry ExportKey → Order
 exportOrder = thenBy (on cmpExport (λ e. e .row .key)) (on cmpNat (λ e. e .row .at))
 
-unfoldable pub exportDiff : View → View → List (Entry Export)
+unfoldable pub exportDiff : View → View → List (Entry ExportKey)
 exportDiff b c = sort exportOrder (changes cmpExport (b .exports) (c .exports))
 
 -- by pair: of rows with one pair only the first, which is the lowest, is kept

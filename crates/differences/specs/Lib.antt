@@ -4,3 +4,4 @@ pub mod Differences
 pub mod Rank
 pub mod Compared
 pub mod Numbers
+pub mod Part

@@ -1,4 +1,4 @@
--- The rows of two modules numbered one after another, as the code goes through them. Assumes nothing.
+-- For the code: the rows of two modules numbered one after another, as it goes through them. Assumes nothing.
 use mathlib.Core.Bool.{Bool, false, _||_}
 use Prim.Native.Nat.{ℕ, zero, suc, _+_, _-_}
 use lib.Dec.{ltb}

@@ -1,9 +1,14 @@
-// compat.rs: what changed from a baseline to a candidate, and what both hand in.
-use imports::check_imports;
+// compat.rs: what changed from a baseline to a candidate, what both hand in, and the name of a difference (parts).
+pub mod parts;
+
+use import_rows::check_imports;
 use refusal::Answer;
+use refusal::MAX_FILE;
 use refusal::Refusal;
 use refusal::Slug;
 use refusal::slug_of;
+use table::shape::EXPORT_WIDTH;
+use table::shape::MAX_EXPORTS;
 ghost use mathlib.Core.Path.{_≡_};
 ghost use Rattle.refusal.specs.Said.{saidAnswer};
 ghost use Rattle.refusal.specs.Slug.{slugOf};
@@ -49,21 +54,21 @@ pub fn kind_rank(kind: usize) -> usize
 fn export_fits(length: usize, exports: &[usize], i: usize) -> bool
     ensures { λ r. ⌜ r ≡ exportFits length (now (exports .entry)) i ⌝ }
 {
-    if !imports::fits(
+    if !refusal::fits(
         length,
-        table::cell(exports, 4, i, 0),
-        table::cell(exports, 4, i, 1),
+        table::cell(exports, EXPORT_WIDTH, i, 0),
+        table::cell(exports, EXPORT_WIDTH, i, 1),
     ) {
         return false;
     }
-    table::cell(exports, 4, i, 2) <= 255
+    table::cell(exports, EXPORT_WIDTH, i, 2) <= 255
 }
 
 // 15 for table 3, handed in with a file of so many bytes: the count, then each row's range and kind.
 pub fn check_exports(length: usize, exports: &[usize], n: usize) -> Answer
     ensures { λ r. ⌜ saidAnswer r ≡ exportsTested length (now (exports .entry)) n ⌝ }
 {
-    let room = table::capacity(exports.len(), 4, 1024);
+    let room = table::capacity(exports.len(), EXPORT_WIDTH, MAX_EXPORTS);
     if room < n {
         return Answer::Refused(Refusal::BadTable(room));
     }
@@ -103,10 +108,10 @@ pub fn check_both(
     ensures { λ r. ⌜ saidAnswer r ≡ bothTested (given (now (baseline .entry)) (now (bi .entry)) nbi (now (be .entry)) nbe)
         (given (now (candidate .entry)) (now (ci .entry)) nci (now (ce .entry)) nce) ⌝ }
 {
-    if baseline.len() > 16777216 {
+    if baseline.len() > MAX_FILE {
         return Answer::Refused(Refusal::TooLong);
     }
-    if candidate.len() > 16777216 {
+    if candidate.len() > MAX_FILE {
         return Answer::Refused(Refusal::TooLong);
     }
     match check_tables(baseline, bi, nbi, be, nbe) {

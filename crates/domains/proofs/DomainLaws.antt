@@ -10,7 +10,7 @@ use Rattle.refusal.specs.Pick.{pick, both}
 use Rattle.text.specs.Find.{same}
 use Rattle.domains.specs.declared.Domain.{Domain}
 use Rattle.domains.specs.declared.Domain.the-variants.{Filesystem, Environment, Clock, Network, Random, Stdio, Unknown}
-use Rattle.domains.specs.Domain.{numbered, numberOf, Word, word, words, Perhaps, nothing, just, wordIn, domainOf}
+use Rattle.domains.specs.Domain.{numbered, domainNumber, Word, word, words, Perhaps, nothing, just, wordIn, domainOf}
 
 -- ---- a test that a name passed, and one that it failed
 module _ {A : Type 0} {t u : Bool} (a b : A) (e : u ≡ t) where
@@ -55,7 +55,7 @@ numberedAs n =
     (pick (ltb n 6) Stdio
     Unknown)))))
 
-pub back : (d : Domain) → numberedAs (numberOf d) ≡ d
+pub back : (d : Domain) → numberedAs (domainNumber d) ≡ d
 back Filesystem = refl
 back Environment = refl
 back Clock = refl
@@ -64,10 +64,10 @@ back Random = refl
 back Stdio = refl
 back Unknown = refl
 
-pub same-domain : (a b : Domain) → numberOf a ≡ numberOf b → a ≡ b
+pub same-domain : (a b : Domain) → domainNumber a ≡ domainNumber b → a ≡ b
 same-domain a b e = sym (back a) ∙ ap numberedAs e ∙ back b
 
-pub number-small : (d : Domain) → numberOf d < 7
+pub number-small : (d : Domain) → domainNumber d < 7
 number-small Filesystem = omega arith
 number-small Environment = omega arith
 number-small Clock = omega arith

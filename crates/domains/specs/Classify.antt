@@ -18,16 +18,16 @@ passes (front w) s = begins w s
 passes (exact w) s = same w s
 
 -- a test, and the number of the domain of a name that passes it
-pub data Entry : Type 0 where
-  entry : Test → ℕ → Entry
+pub data Clue : Type 0 where
+  entry : Test → ℕ → Clue
 
 -- the domain of the first entry that a name passes, 6 (unknown) where there is none
-unfoldable pub judged : List Entry → List ℕ → ℕ
-judged [] s = 6
-judged (entry t d ∷ es) s = pick (passes t s) d (judged es s)
+unfoldable pub classedBy : List Clue → List ℕ → ℕ
+classedBy [] s = 6
+classedBy (entry t d ∷ es) s = pick (passes t s) d (classedBy es s)
 
 -- ---- fields of preview 1: fd_, path_, environ_, args_, clock_, sock_, random_get
-unfoldable pub preview : List Entry
+unfoldable pub preview : List Clue
 preview =
     entry (front (102 ∷ 100 ∷ 95 ∷ [])) 0
     ∷ entry (front (112 ∷ 97 ∷ 116 ∷ 104 ∷ 95 ∷ [])) 0
@@ -39,7 +39,7 @@ preview =
     ∷ []
 
 -- ---- the first part of a path: filesystem, cli, clocks, sockets, random, io
-unfoldable pub heads : List Entry
+unfoldable pub heads : List Clue
 heads =
     entry (exact (102 ∷ 105 ∷ 108 ∷ 101 ∷ 115 ∷ 121 ∷ 115 ∷ 116 ∷ 101 ∷ 109 ∷ [])) 0
     ∷ entry (exact (99 ∷ 108 ∷ 105 ∷ [])) 1
@@ -71,13 +71,13 @@ headOf s = upToByte 64 (upToByte 47 s)
 
 -- of a path: one leading `wasi:` is dropped, and what stands up to `/` or `@` decides
 unfoldable pub pathDomain : List ℕ → ℕ
-pathDomain s = judged heads (headOf (pick (begins wasi s) (drop 5 s) s))
+pathDomain s = classedBy heads (headOf (pick (begins wasi s) (drop 5 s) s))
 
 -- of a function import, by its module name and its field
 unfoldable pub importDomain : List ℕ → List ℕ → ℕ
 importDomain m f =
-    pick (begins preview1 m) (judged preview f)
-    (pick (same unstable m) (judged preview f)
+    pick (begins preview1 m) (classedBy preview f)
+    (pick (same unstable m) (classedBy preview f)
     (pick (begins wasi m) (pathDomain m)
     6))
 

@@ -10,14 +10,14 @@ use Rattle.domains.specs.declared.Domain.the-variants.{Filesystem, Envir
 use Rattle.domains.specs.declared.DomainFound.{DomainFound}
 use Rattle.domains.specs.declared.DomainFound.the-variants as found-as
 
-abbrev pub numberOf : Domain → ℕ
-numberOf Filesystem = 0
-numberOf Environment = 1
-numberOf Clock = 2
-numberOf Network = 3
-numberOf Random = 4
-numberOf Stdio = 5
-numberOf Unknown = 6
+abbrev pub domainNumber : Domain → ℕ
+domainNumber Filesystem = 0
+domainNumber Environment = 1
+domainNumber Clock = 2
+domainNumber Network = 3
+domainNumber Random = 4
+domainNumber Stdio = 5
+domainNumber Unknown = 6
 
 -- a domain's number, or nothing
 pub data Perhaps : Type 0 where
@@ -25,7 +25,7 @@ pub data Perhaps : Type 0 where
   just : ℕ → Perhaps
 
 abbrev pub found : DomainFound → Perhaps
-found (found-as.Domain d) = just (numberOf d)
+found (found-as.Domain d) = just (domainNumber d)
 found found-as.Nothing = nothing
 
 -- the domain with a number

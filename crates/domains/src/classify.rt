@@ -4,8 +4,8 @@ use text::find::find;
 use text::order::equal;
 use text::order::starts;
 ghost use mathlib.Core.Path.{_≡_};
-ghost use Rattle.domains.specs.Domain.{numberOf};
-ghost use Rattle.domains.specs.Classify.{passes, testBy, judged, preview, heads, headOf, upToByte, pathDomain, importDomain};
+ghost use Rattle.domains.specs.Domain.{domainNumber};
+ghost use Rattle.domains.specs.Classify.{passes, testBy, classedBy, preview, heads, headOf, upToByte, pathDomain, importDomain};
 
 // How a name is held against a word: it begins with the word, or it is the word.
 enum Fit {
@@ -24,7 +24,7 @@ fn passes(s: &[u8], fit: Fit, word: &[u8]) -> bool
 
 // A field of preview 1. Descriptors of streams cannot be told from those of files: `fd_` is filesystem.
 fn preview_of(s: &[u8]) -> Domain
-    ensures { λ r. ⌜ numberOf r ≡ judged preview (now (s .entry)) ⌝ }
+    ensures { λ r. ⌜ domainNumber r ≡ classedBy preview (now (s .entry)) ⌝ }
 {
     if passes(s, Fit::Front, b"fd_") {
         return Domain::Filesystem;
@@ -52,7 +52,7 @@ fn preview_of(s: &[u8]) -> Domain
 
 // The first part of a path.
 fn head_of(s: &[u8]) -> Domain
-    ensures { λ r. ⌜ numberOf r ≡ judged heads (now (s .entry)) ⌝ }
+    ensures { λ r. ⌜ domainNumber r ≡ classedBy heads (now (s .entry)) ⌝ }
 {
     if equal(s, b"filesystem") {
         return Domain::Filesystem;
@@ -77,7 +77,7 @@ fn head_of(s: &[u8]) -> Domain
 
 // A path without `wasi:`, up to `/` or `@`.
 fn body_of(s: &[u8]) -> Domain
-    ensures { λ r. ⌜ numberOf r ≡ judged heads (headOf (now (s .entry))) ⌝ }
+    ensures { λ r. ⌜ domainNumber r ≡ classedBy heads (headOf (now (s .entry))) ⌝ }
 {
     let slash = find(s, b'/');
     versioned(&s[..slash])
@@ -85,14 +85,14 @@ fn body_of(s: &[u8]) -> Domain
 
 // The same, where it has no `/`.
 fn versioned(s: &[u8]) -> Domain
-    ensures { λ r. ⌜ numberOf r ≡ judged heads (upToByte 64 (now (s .entry))) ⌝ }
+    ensures { λ r. ⌜ domainNumber r ≡ classedBy heads (upToByte 64 (now (s .entry))) ⌝ }
 {
     let at = find(s, b'@');
     head_of(&s[..at])
 }
 
 pub fn classify_path(path: &[u8]) -> Domain
-    ensures { λ r. ⌜ numberOf r ≡ pathDomain (now (path .entry)) ⌝ }
+    ensures { λ r. ⌜ domainNumber r ≡ pathDomain (now (path .entry)) ⌝ }
 {
     if starts(path, b"wasi:") {
         let a = 5;
@@ -102,7 +102,7 @@ pub fn classify_path(path: &[u8]) -> Domain
 }
 
 pub fn classify_import(source: &[u8], field: &[u8]) -> Domain
-    ensures { λ r. ⌜ numberOf r ≡ importDomain (now (source .entry)) (now (field .entry)) ⌝ }
+    ensures { λ r. ⌜ domainNumber r ≡ importDomain (now (source .entry)) (now (field .entry)) ⌝ }
 {
     if passes(source, Fit::Front, b"wasi_snapshot_preview1") {
         return preview_of(field);

@@ -5,7 +5,7 @@ use refusal::Slug;
 use text::order::equal;
 ghost use mathlib.Core.Path.{_≡_};
 ghost use Rattle.refusal.specs.Slug.{slugOf};
-ghost use Rattle.domains.specs.Domain.{numberOf, found, numbered, slug, domainOf};
+ghost use Rattle.domains.specs.Domain.{domainNumber, found, numbered, slug, domainOf};
 
 pub enum Domain {
     Filesystem,
@@ -23,7 +23,7 @@ pub enum DomainFound {
 }
 
 pub fn domain_number(d: Domain) -> usize
-    ensures { λ r. ⌜ r ≡ numberOf d ⌝ }
+    ensures { λ r. ⌜ r ≡ domainNumber d ⌝ }
 {
     match d {
         Domain::Filesystem => 0,
@@ -52,7 +52,7 @@ pub fn domain_of(n: usize) -> DomainFound
 }
 
 pub fn domain_slug(d: Domain) -> Slug
-    ensures { λ r. ⌜ r ≡ slugOf (slug (numberOf d)) ⌝ }
+    ensures { λ r. ⌜ r ≡ slugOf (slug (domainNumber d)) ⌝ }
 {
     match d {
         Domain::Filesystem => Slug {

@@ -7,12 +7,12 @@ use Rattle.verdicts.specs.Evaluate.{evaluated, compliant, EvaluatedAs}
 use Rattle.policy.specs.declared.Policy.{Policy}
 use Rattle.policy.specs.declared.Stance.the-variants.{Deny}
 use Rattle.verdicts.specs.declared.Evaluation.{Evaluation}
-use Rattle.capi.specs.Policies.{numberIn, placeIn}
-use Rattle.capi.specs.Check.{judgedAs, evaluationTold}
-use Rattle.capi.proofs.Telling.{evaluation}
+use Rattle.told.specs.Policies.{numberIn, placeIn}
+use Rattle.told.specs.Check.{evaluationAs, evaluationTold}
+use Rattle.told.proofs.Telling.{evaluation}
 use Rattle.differences.specs.declared.Change.{Change}
 use Rattle.differences.specs.declared.Change.the-variants.{Added}
-use Rattle.parts.specs.Part.{diffBytes}
+use Rattle.differences.specs.Part.{diffBytes}
 use Rattle.judged.specs.Policies.{stanceAt}
 use Rattle.judged.specs.Compares.{changeAt, nameTold}
 
@@ -22,7 +22,7 @@ denied (suc zero) a b = absurd (b refl)
 denied (suc (suc m)) a b = refl
 
 pub evaluation-told : (ns : List ℕ) (n : ℕ) (p q : Policy) (e : Evaluation) → p ≡ q → EvaluatedAs (evaluated ns n p) e
-    → judgedAs (numberIn (saidAnswer (e .answer))) (placeIn (saidAnswer (e .answer))) (e .verdicts) (e .set) (e .count) (compliant e)
+    → evaluationAs (numberIn (saidAnswer (e .answer))) (placeIn (saidAnswer (e .answer))) (e .verdicts) (e .set) (e .count) (compliant e)
     ≡ evaluationTold (evaluated ns n q)
 evaluation-told ns n p q e i h = evaluation (evaluated ns n q) e (subst (λ (z : Policy). EvaluatedAs (evaluated ns n z) e) i h)
 
@@ -33,6 +33,6 @@ added (suc m) a = refl
 pub name-same : (k : ℕ) {l m : List ℕ} → l ≡ m → nameTold l k ≡ nameTold m k
 name-same k i = ap (λ z. nameTold z k) i
 
-pub name-told : (b bt : List ℕ) (nb : ℕ) (c ct : List ℕ) (nc w : ℕ) (x y : Change) (row k : ℕ) {l : List ℕ} → x ≡ y
-    → l ≡ diffBytes b bt nb c ct nc w x row → nameTold l k ≡ nameTold (diffBytes b bt nb c ct nc w y row) k
-name-told b bt nb c ct nc w x y row k i h = name-same k (h ∙ ap (λ z. diffBytes b bt nb c ct nc w z row) i)
+pub name-told : (b bt : List ℕ) (nb : ℕ) (c ct : List ℕ) (nc t : ℕ) (x y : Change) (row k : ℕ) {l : List ℕ} → x ≡ y
+    → l ≡ diffBytes b bt nb c ct nc t x row → nameTold l k ≡ nameTold (diffBytes b bt nb c ct nc t y row) k
+name-told b bt nb c ct nc t x y row k i h = name-same k (h ∙ ap (λ z. diffBytes b bt nb c ct nc t z row) i)

@@ -11,10 +11,7 @@ use Rattle.table.specs.Table.{laid, cells, rangeOf}
 use Rattle.refusal.specs.declared.Slug.{Slug}
 use Rattle.differences.specs.declared.Change.{Change}
 use Rattle.differences.specs.declared.Change.the-variants.{Removed, Added}
-use Rattle.differences.specs.Compared.{Lists, Verdict, verdictOf, exportCells, needCells, listed}
-use Rattle.writing.specs.Writing.{counted, left}
-use Rattle.capi.specs.Policies.{writtenTold}
-use Rattle.capi.specs.declared.policies.WrittenTold.{WrittenTold}
+use Rattle.differences.specs.Compared.{Lists, Verdict, verdictOn, exportDiffCells, needDiffCells, listed}
 use Rattle.judged.specs.declared.compares.CompareTold.{CompareTold}
 use Rattle.judged.specs.declared.compares.NameTold.{NameTold}
 
@@ -25,14 +22,9 @@ compareTold (refused n p) = record { number = n; place = p; exports = 0; capabil
 
 -- the answer, and what tables 8 and 9 hold at the end
 pub record CompareTells (x : Said Lists) (before8 after8 before9 after9 : List ℕ) (r : CompareTold) : Type 0 where
-  pub answer-is : r ≡ compareTold (follow x (λ l. accepted (verdictOf l)))
-  pub table8-is : after8 ≡ laid (length before8) (cells exportCells (listed x .exports))
-  pub table9-is : after9 ≡ laid (length before9) (cells needCells (listed x .needs))
-
--- reasons: the answer, and the buffer, which was d and is x
-pub record ReasonsTell (o : Said (List ℕ)) (d : List ℕ) (r : WrittenTold) (x : List ℕ) : Type 0 where
-  pub answer-is : r ≡ writtenTold (counted o)
-  pub output-is : x ≡ left d o
+  pub answer-is : r ≡ compareTold (follow x (λ l. accepted (verdictOn l)))
+  pub table8-is : after8 ≡ laid (length before8) (cells exportDiffCells (listed x .exports))
+  pub table9-is : after9 ≡ laid (length before9) (cells needDiffCells (listed x .needs))
 
 -- a change that is handed in as a number
 abbrev pub changeAt : ℕ → Change

@@ -4,3 +4,4 @@ pub mod Policies
 pub mod Manifests
 pub mod Compares
 pub mod Cursors
+pub mod Words

@@ -3,11 +3,11 @@ use mathlib.Core.Bool.{false}
 use mathlib.Core.Path.{_≡_}
 use Rattle.refusal.specs.Said.{Said, accepted, refused, follow}
 use Rattle.wit.specs.declared.Manifest.{Manifest}
-use Rattle.wit.specs.Manifest.{Sizes, State, Lent, Holds, heldOf, manifestOf}
+use Rattle.wit.specs.Manifest.{ManifestSizes, State, ManifestLent, ManifestHolds, manifestHeld, manifestOf}
 use Rattle.judged.specs.declared.manifests.ManifestTold.{ManifestTold}
 
-abbrev pub manifestTold : Said Manifest → ManifestTold
-manifestTold (accepted m) =
+abbrev pub manifestAnswer : Said Manifest → ManifestTold
+manifestAnswer (accepted m) =
     record {
       number = 0;
       place = 0;
@@ -17,9 +17,9 @@ manifestTold (accepted m) =
       worlds = m .worlds;
       references = m .references;
     }
-manifestTold (refused n p) = record { number = n; place = p; packaged = false; start = 0; size = 0; worlds = 0; references = 0 }
+manifestAnswer (refused n p) = record { number = n; place = p; packaged = false; start = 0; size = 0; worlds = 0; references = 0 }
 
 -- the answer, and what both tables hold at the end
-pub record ManifestTells (z : Sizes) (x : Said State) (l : Lent) (r : ManifestTold) : Type 0 where
-  pub answer-is : r ≡ manifestTold (follow x (λ t. accepted (manifestOf t)))
-  pub tables-are : Holds l z (heldOf x)
+pub record ManifestTells (z : ManifestSizes) (x : Said State) (l : ManifestLent) (r : ManifestTold) : Type 0 where
+  pub answer-is : r ≡ manifestAnswer (follow x (λ t. accepted (manifestOf t)))
+  pub tables-are : ManifestHolds l z (manifestHeld x)

@@ -12,8 +12,8 @@ use Rattle.wasm.specs.Module.{Sizes, Lent, Parsed, Holds, tablesOf, moduleOf}
 use Rattle.judged.specs.declared.rows.ModuleTold.{ModuleTold}
 use Rattle.judged.specs.declared.rows.CountTold.{CountTold}
 
-abbrev pub moduleTold : Said Module → ModuleTold
-moduleTold (accepted m) =
+abbrev pub moduleAnswer : Said Module → ModuleTold
+moduleAnswer (accepted m) =
     record {
       number = 0;
       place = 0;
@@ -27,7 +27,7 @@ moduleTold (accepted m) =
       exports = m .exports;
       symbols = m .symbols;
     }
-moduleTold (refused n p) =
+moduleAnswer (refused n p) =
     record {
       number = n;
       place = p;
@@ -48,7 +48,7 @@ countTold (refused n p) = record { number = n; place = p; count = 0 }
 
 -- of a file of n bytes: the answer, and what every table holds at the end
 pub record ModuleTells (n : ℕ) (z : Sizes) (x : Said Parsed) (l : Lent) (r : ModuleTold) : Type 0 where
-  pub answer-is : r ≡ moduleTold (follow x (λ m. accepted (moduleOf n m)))
+  pub answer-is : r ≡ moduleAnswer (follow x (λ m. accepted (moduleOf n m)))
   pub tables-are : Holds l z (tablesOf x)
 
 -- the length of a list, and what its table holds at the end

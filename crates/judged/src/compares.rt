@@ -1,16 +1,17 @@
 // compat.rs with lent tables.
-use capi::policies::WrittenTold;
-use capi::policies::written_of;
 use compat::Compared;
 use differences::Change;
+use told::policies::WrittenTold;
+use told::policies::written_of;
 ghost use mathlib.Core.Path.{_≡_};
 ghost use lib.ListN.{length};
-ghost use Rattle.table.specs.Table.{capacityOf};
+ghost use Rattle.table.specs.Shape.{capacityIn};
 ghost use Rattle.differences.specs.Compared.{given, compared};
 ghost use Rattle.compat.specs.Answer.{saidCompared};
-ghost use Rattle.parts.specs.Part.{diffBytes};
+ghost use Rattle.differences.specs.Part.{diffBytes};
 ghost use Rattle.reasons.specs.Reasons.{diffs, reasoned};
-ghost use Rattle.judged.specs.Compares.{compareTold, CompareTells, ReasonsTell, changeAt, nameTold};
+ghost use Rattle.told.specs.Policies.{WriteTells};
+ghost use Rattle.judged.specs.Compares.{compareTold, CompareTells, changeAt, nameTold};
 
 #[repr(C)]
 pub struct CompareTold {
@@ -95,7 +96,7 @@ pub extern "C" fn judged_compare<'a, 'b, 'c, 'd, 'e, 'f, 'g>(
 ) -> CompareTold
     ensures { λ r. ⌜ CompareTells (compared (given (now (baseline .entry)) (now (bi .entry)) nbi (now (be .entry)) nbe)
         (given (now (candidate .entry)) (now (ci .entry)) nci (now (ce .entry)) nce)
-        (capacityOf (length (now (xd .entry))) 2 2048) (capacityOf (length (now (cd .entry))) 3 2048))
+        (capacityIn 8 (length (now (xd .entry)))) (capacityIn 9 (length (now (cd .entry)))))
         (now (xd .entry)) (now (xd .exit)) (now (cd .entry)) (now (cd .exit)) r ⌝ }
 {
     compare_of(compat::compare_modules(
@@ -128,9 +129,9 @@ pub extern "C" fn judged_export_name<'a, 'b, 'c>(
     k: usize,
 ) -> NameTold
     ensures { λ r. ⌜ r ≡ nameTold (diffBytes (now (baseline .entry)) (now (be .entry)) nbe
-        (now (candidate .entry)) (now (ce .entry)) nce 4 (changeAt change) row) k ⌝ }
+        (now (candidate .entry)) (now (ce .entry)) nce 3 (changeAt change) row) k ⌝ }
 {
-    let name = parts::export_diff_name(
+    let name = differences::parts::export_diff_name(
         baseline,
         be,
         nbe,
@@ -157,9 +158,9 @@ pub extern "C" fn judged_source_name<'a, 'b, 'c>(
     k: usize,
 ) -> NameTold
     ensures { λ r. ⌜ r ≡ nameTold (diffBytes (now (baseline .entry)) (now (bi .entry)) nbi
-        (now (candidate .entry)) (now (ci .entry)) nci 5 (changeAt change) row) k ⌝ }
+        (now (candidate .entry)) (now (ci .entry)) nci 2 (changeAt change) row) k ⌝ }
 {
-    let name = parts::capability_diff_source(
+    let name = differences::parts::capability_diff_source(
         baseline,
         bi,
         nbi,
@@ -191,7 +192,7 @@ pub extern "C" fn judged_reasons(
     nxd: usize,
     ncd: usize,
 ) -> WrittenTold
-    ensures { λ r. ⌜ ReasonsTell (reasoned (given (now (baseline .entry)) (now (bi .entry)) nbi (now (be .entry)) nbe)
+    ensures { λ r. ⌜ WriteTells (reasoned (given (now (baseline .entry)) (now (bi .entry)) nbi (now (be .entry)) nbe)
         (given (now (candidate .entry)) (now (ci .entry)) nci (now (ce .entry)) nce)
         (diffs (now (xd .entry)) nxd (now (cd .entry)) ncd) (length (now (out .entry)))) (now (out .entry)) r (now (out .exit)) ⌝ }
 {

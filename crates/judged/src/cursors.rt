@@ -1,18 +1,18 @@
 // leb.rs: the cursor's functions that the C interface does not hand out.
-use capi::cursor::Range;
-use capi::cursor::Unsigned;
 use leb::ByteRead;
 use leb::Cursor;
-use leb::PartRead;
 use leb::Skipped;
-use leb::U32Read;
+use told::cursor::Range;
+use told::cursor::Unsigned;
+use told::cursor::narrow_of;
+use told::cursor::range_of;
 ghost use mathlib.Core.Path.{_≡_};
 ghost use Prim.Native.Nat.{_-_};
 ghost use lib.Dec.{leb};
 ghost use lib.ListN.{length};
-ghost use Rattle.leb.specs.Answers.{heard, saidByte, saidU32, saidPart, saidSkip};
+ghost use Rattle.leb.specs.Answers.{findingOf, saidByte, saidSkip};
 ghost use Rattle.leb.specs.Reads.{byteAt, fixedAt, takeAt, skipAt};
-ghost use Rattle.capi.specs.Reading.{unsignedOf, rangeOf};
+ghost use Rattle.told.specs.Reading.{unsignedTold, rangeTold};
 ghost use Rattle.judged.specs.Cursors.{skipTold, leftTold};
 
 #[repr(C)]
@@ -31,7 +31,7 @@ pub struct LeftTold {
 }
 
 fn byte_of(r: ByteRead) -> Unsigned
-    ensures { λ x. ⌜ x ≡ unsignedOf (heard (saidByte r)) ⌝ }
+    ensures { λ x. ⌜ x ≡ unsignedTold (findingOf (saidByte r)) ⌝ }
 {
     match r {
         ByteRead::Read(value, next) => Unsigned {
@@ -49,48 +49,8 @@ fn byte_of(r: ByteRead) -> Unsigned
     }
 }
 
-fn fixed_of(r: U32Read) -> Unsigned
-    ensures { λ x. ⌜ x ≡ unsignedOf (heard (saidU32 r)) ⌝ }
-{
-    match r {
-        U32Read::Read(value, next) => Unsigned {
-            number: 0,
-            place: 0,
-            value: value as u64,
-            next: next.at,
-        },
-        U32Read::Refused(why, _) => Unsigned {
-            number: refusal::number(why),
-            place: refusal::place(why),
-            value: 0,
-            next: 0,
-        },
-    }
-}
-
-fn part_of(r: PartRead) -> Range
-    ensures { λ x. ⌜ x ≡ rangeOf (heard (saidPart r)) ⌝ }
-{
-    match r {
-        PartRead::Read(part, next) => Range {
-            number: 0,
-            place: 0,
-            from: part.from,
-            len: part.len,
-            next: next.at,
-        },
-        PartRead::Refused(why, _) => Range {
-            number: refusal::number(why),
-            place: refusal::place(why),
-            from: 0,
-            len: 0,
-            next: 0,
-        },
-    }
-}
-
 fn skip_of(r: Skipped) -> SkipTold
-    ensures { λ x. ⌜ x ≡ skipTold (heard (saidSkip r)) ⌝ }
+    ensures { λ x. ⌜ x ≡ skipTold (findingOf (saidSkip r)) ⌝ }
 {
     match r {
         Skipped::To(next) => SkipTold {
@@ -108,7 +68,7 @@ fn skip_of(r: Skipped) -> SkipTold
 
 #[no_mangle]
 pub extern "C" fn judged_u8(s: &[u8], at: usize) -> Unsigned
-    ensures { λ r. ⌜ r ≡ unsignedOf (byteAt (now (s .entry)) at) ⌝ }
+    ensures { λ r. ⌜ r ≡ unsignedTold (byteAt (now (s .entry)) at) ⌝ }
 {
     let c = Cursor { at };
     byte_of(c.u8(s))
@@ -116,18 +76,18 @@ pub extern "C" fn judged_u8(s: &[u8], at: usize) -> Unsigned
 
 #[no_mangle]
 pub extern "C" fn judged_u32_le(s: &[u8], at: usize) -> Unsigned
-    ensures { λ r. ⌜ r ≡ unsignedOf (fixedAt (now (s .entry)) at) ⌝ }
+    ensures { λ r. ⌜ r ≡ unsignedTold (fixedAt (now (s .entry)) at) ⌝ }
 {
     let c = Cursor { at };
-    fixed_of(c.u32_le(s))
+    narrow_of(c.u32_le(s))
 }
 
 #[no_mangle]
 pub extern "C" fn judged_take(s: &[u8], at: usize, n: usize) -> Range
-    ensures { λ r. ⌜ r ≡ rangeOf (takeAt (now (s .entry)) at n) ⌝ }
+    ensures { λ r. ⌜ r ≡ rangeTold (takeAt (now (s .entry)) at n) ⌝ }
 {
     let c = Cursor { at };
-    part_of(c.take(s, n))
+    range_of(c.take(s, n))
 }
 
 #[no_mangle]

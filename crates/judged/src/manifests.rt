@@ -4,12 +4,12 @@ use crate::rows::count_of;
 use wit::ManifestRead;
 ghost use mathlib.Core.Path.{_≡_};
 ghost use lib.ListN.{length};
-ghost use Rattle.wit.specs.Manifest.{sizes, lend, saidManifest, manifestAt};
+ghost use Rattle.wit.specs.Manifest.{manifestSizes, lendManifest, saidManifest, manifestAt};
 ghost use mathlib.Core.Bool.{true, false};
-ghost use Rattle.references.specs.Queries.{pathsOf};
-ghost use Rattle.judged.specs.Manifests.{manifestTold, ManifestTells};
+ghost use Rattle.reference_rows.specs.Queries.{pathsOf};
+ghost use Rattle.judged.specs.Manifests.{manifestAnswer, ManifestTells};
 ghost use Rattle.requirements.specs.Requirements.{roomOf};
-ghost use Rattle.interfaces.specs.Interfaces.{referenceDomain, manifestRows};
+ghost use Rattle.requirements.specs.Interfaces.{referenceDomain, manifestRows};
 ghost use Rattle.judged.specs.Rows.{ListTells, RequireTells};
 
 #[repr(C)]
@@ -24,7 +24,7 @@ pub struct ManifestTold {
 }
 
 fn manifest_of(r: ManifestRead) -> ManifestTold
-    ensures { λ x. ⌜ x ≡ manifestTold (saidManifest r) ⌝ }
+    ensures { λ x. ⌜ x ≡ manifestAnswer (saidManifest r) ⌝ }
 {
     match r {
         ManifestRead::Manifest(m) => ManifestTold {
@@ -54,9 +54,9 @@ pub extern "C" fn judged_manifest(
     worlds: &mut [usize],
     references: &mut [usize],
 ) -> ManifestTold
-    ensures { λ r. ⌜ ManifestTells (sizes (now (worlds .entry)) (now (references .entry)))
-        (manifestAt (now (text .entry)) (sizes (now (worlds .entry)) (now (references .entry))))
-        (lend (now (worlds .exit)) (now (references .exit))) r ⌝ }
+    ensures { λ r. ⌜ ManifestTells (manifestSizes (now (worlds .entry)) (now (references .entry)))
+        (manifestAt (now (text .entry)) (manifestSizes (now (worlds .entry)) (now (references .entry))))
+        (lendManifest (now (worlds .exit)) (now (references .exit))) r ⌝ }
 {
     manifest_of(wit::read_manifest(text, worlds, references))
 }
@@ -74,7 +74,7 @@ pub extern "C" fn judged_imports(
     ensures { λ r. ⌜ ListTells (pathsOf false (now (text .entry)) (now (worlds .entry)) n5 (now (references .entry)) n6
         (length (now (sorted .entry)))) (now (sorted .entry)) (now (sorted .exit)) r ⌝ }
 {
-    count_of(references::all_imports(text, worlds, n5, references, n6, sorted))
+    count_of(reference_rows::all_imports(text, worlds, n5, references, n6, sorted))
 }
 
 // And of each that is exported.
@@ -90,7 +90,7 @@ pub extern "C" fn judged_exports(
     ensures { λ r. ⌜ ListTells (pathsOf true (now (text .entry)) (now (worlds .entry)) n5 (now (references .entry)) n6
         (length (now (sorted .entry)))) (now (sorted .entry)) (now (sorted .exit)) r ⌝ }
 {
-    count_of(references::all_exports(text, worlds, n5, references, n6, sorted))
+    count_of(reference_rows::all_exports(text, worlds, n5, references, n6, sorted))
 }
 
 // Table 7: of each path that is imported the domain and the lowest row, by bytes.
@@ -109,7 +109,7 @@ pub extern "C" fn judged_needs(
         (roomOf (length (now (domains .entry))) (length (now (rows .entry)))))
         (now (domains .entry)) (now (domains .exit)) (now (rows .entry)) (now (rows .exit)) r ⌝ }
 {
-    count_of(interfaces::requirements_from_manifest(
+    count_of(requirements::manifest::requirements_from_manifest(
         text,
         worlds,
         n5,

@@ -1,27 +1,37 @@
 // policy.rs, with policies of any ranges, handed in as cells.
-use capi::check::EvaluationTold;
-use capi::check::judged_of;
-use capi::policies::TokenTold;
-use capi::policies::WrittenTold;
-use capi::policies::token_for;
-use capi::policies::written_of;
+use domains::DomainFound;
 use domains::classify::classify_import;
 use domains::classify::classify_path;
 use domains::domain_number;
-use evaluation::Requirement;
+use domains::domain_of;
 use policy::Policy;
 use policy::Slot;
 use policy::Stance;
+use told::check::EvaluationTold;
+use told::check::evaluation_of;
+use told::policies::TokenTold;
+use told::policies::WrittenTold;
+use told::policies::token_for;
+use told::policies::written_of;
+use verdicts::Rule;
+use verdicts::records::Requirement;
 ghost use mathlib.Core.Path.{_≡_};
 ghost use Prim.Native.Nat.{_≤_};
 ghost use lib.ListN.{length};
 ghost use Rattle.domains.specs.Classify.{importDomain, pathDomain};
 ghost use Rattle.verdicts.specs.Evaluate.{evaluated};
-ghost use Rattle.evaluation.specs.Evaluate.{numbers};
-ghost use Rattle.rewriting.specs.Writer.{written};
-ghost use Rattle.capi.specs.Policies.{tokenTold, tokenAsked, WriteTells};
-ghost use Rattle.capi.specs.Check.{evaluationTold};
-ghost use Rattle.judged.specs.Policies.{cell, stanceAt, slotAt, policyIn};
+ghost use Rattle.verdicts.specs.Records.{numbers};
+ghost use Rattle.policy_text.specs.Writer.{written};
+ghost use Rattle.told.specs.Policies.{tokenTold, tokenAsked, WriteTells};
+ghost use Rattle.told.specs.Check.{evaluationTold};
+ghost use Rattle.judged.specs.Policies.{cell, stanceAt, slotAt, policyIn, effectiveTold, effectiveAsked};
+
+#[repr(C)]
+pub struct EffectiveTold {
+    pub allow: bool,
+    pub from: usize,
+    pub len: usize,
+}
 
 // Cell k of the 25 of a policy: named, start, size, permit, then stance, from, len of each rule.
 fn at(cells: &[usize], k: usize) -> usize
@@ -73,6 +83,33 @@ fn policy_of(cells: &[usize]) -> Policy
     }
 }
 
+fn rule_of(r: Rule) -> EffectiveTold
+    ensures { λ x. ⌜ x ≡ effectiveTold r ⌝ }
+{
+    EffectiveTold {
+        allow: r.allow,
+        from: r.from,
+        len: r.len,
+    }
+}
+
+// The rule that holds for a domain; of a number above 6 there is none.
+#[no_mangle]
+pub extern "C" fn judged_effective(cells: &[usize], domain: usize) -> EffectiveTold
+    ensures { λ r. ⌜ r ≡ effectiveAsked (policyIn (now (cells .entry))) domain ⌝ }
+{
+    let p = policy_of(cells);
+    let found = domain_of(domain);
+    let DomainFound::Domain(d) = found else {
+        return EffectiveTold {
+            allow: false,
+            from: 0,
+            len: 0,
+        };
+    };
+    rule_of(verdicts::effective(p, d))
+}
+
 #[no_mangle]
 pub extern "C" fn judged_token(
     text: &[u8],
@@ -92,7 +129,7 @@ pub extern "C" fn judged_write(text: &[u8], cells: &[usize], out: &mut [u8]) -> 
         (now (out .entry)) r (now (out .exit)) ⌝ }
 {
     let p = policy_of(cells);
-    written_of(rewriting::write_policy(text, p, out))
+    written_of(policy_text::write_policy(text, p, out))
 }
 
 #[no_mangle]
@@ -100,7 +137,7 @@ pub extern "C" fn judged_evaluate(domains: &[usize], n: usize, cells: &[usize]) 
     ensures { λ r. ⌜ r ≡ evaluationTold (evaluated (now (domains .entry)) n (policyIn (now (cells .entry)))) ⌝ }
 {
     let p = policy_of(cells);
-    judged_of(verdicts::evaluate_domains(domains, n, p))
+    evaluation_of(verdicts::evaluate_domains(domains, n, p))
 }
 
 #[no_mangle]
@@ -112,7 +149,7 @@ pub extern "C" fn judged_evaluate_records(
     ensures { λ r. ⌜ r ≡ evaluationTold (evaluated (numbers (now (list .entry))) n (policyIn (now (cells .entry)))) ⌝ }
 {
     let p = policy_of(cells);
-    judged_of(evaluation::evaluate(list, n, p))
+    evaluation_of(verdicts::records::evaluate(list, n, p))
 }
 
 #[no_mangle]

@@ -5,9 +5,9 @@ ghost use mathlib.Core.Path.{_≡_};
 ghost use lib.ListN.{length};
 ghost use Rattle.refusal.specs.Said.{saidCount};
 ghost use Rattle.wasm.specs.Module.{sizes, lend, saidModule, moduleAt};
-ghost use Rattle.imports.specs.Queries.{importedOf, namespacesOf};
+ghost use Rattle.import_rows.specs.Queries.{importedOf, namespacesOf};
 ghost use Rattle.requirements.specs.Requirements.{roomOf, rowDomain, moduleRows};
-ghost use Rattle.judged.specs.Rows.{moduleTold, countTold, ModuleTells, ListTells, RequireTells};
+ghost use Rattle.judged.specs.Rows.{moduleAnswer, countTold, ModuleTells, ListTells, RequireTells};
 
 #[repr(C)]
 pub struct ModuleTold {
@@ -32,7 +32,7 @@ pub struct CountTold {
 }
 
 fn module_of(r: ModuleRead) -> ModuleTold
-    ensures { λ x. ⌜ x ≡ moduleTold (saidModule r) ⌝ }
+    ensures { λ x. ⌜ x ≡ moduleAnswer (saidModule r) ⌝ }
 {
     match r {
         ModuleRead::Module(m) => ModuleTold {
@@ -101,14 +101,14 @@ pub extern "C" fn judged_module(
 pub extern "C" fn judged_functions(imports: &[usize], n: usize) -> CountTold
     ensures { λ r. ⌜ r ≡ countTold (importedOf (now (imports .entry)) n 0) ⌝ }
 {
-    count_of(imports::imported_functions(imports, n))
+    count_of(import_rows::imported_functions(imports, n))
 }
 
 #[no_mangle]
 pub extern "C" fn judged_memories(imports: &[usize], n: usize) -> CountTold
     ensures { λ r. ⌜ r ≡ countTold (importedOf (now (imports .entry)) n 2) ⌝ }
 {
-    count_of(imports::imported_memories(imports, n))
+    count_of(import_rows::imported_memories(imports, n))
 }
 
 #[no_mangle]
@@ -121,7 +121,7 @@ pub extern "C" fn judged_namespaces(
     ensures { λ r. ⌜ ListTells (namespacesOf (now (file .entry)) (now (imports .entry)) n (length (now (sorted .entry))))
         (now (sorted .entry)) (now (sorted .exit)) r ⌝ }
 {
-    count_of(imports::import_namespaces(file, imports, n, sorted))
+    count_of(import_rows::import_namespaces(file, imports, n, sorted))
 }
 
 // Table 7: of each function that is imported the domain and the row.
@@ -137,5 +137,5 @@ pub extern "C" fn judged_requirements(
         (moduleRows (now (file .entry)) (now (imports .entry)) n (roomOf (length (now (domains .entry))) (length (now (rows .entry)))))
         (now (domains .entry)) (now (domains .exit)) (now (rows .entry)) (now (rows .exit)) r ⌝ }
 {
-    count_of(requirements::requirements_from_module(file, imports, n, domains, rows))
+    count_of(requirements::module::requirements_from_module(file, imports, n, domains, rows))
 }

@@ -15,7 +15,7 @@ use Rattle.refusal.specs.declared.Part.{Part}
 use Rattle.refusal.proofs.Following.{never, read-on}
 use Rattle.leb.specs.Grammar.{U, lastU, moreU}
 use Rattle.leb.specs.Groups.{Out, value, ends, bad, uN}
-use Rattle.leb.specs.Reads.{part, bytesOf, told, narrowed, ulebAt, u32At, byteAt, takeAt, countedAt, checked, nameAt}
+use Rattle.leb.specs.Reads.{part, partBytes, toldAt, narrowed, ulebAt, u32At, byteAt, takeAt, countedAt, checked, nameAt}
 use Rattle.leb.proofs.Conform.{u64-only, narrow-only}
 
 pub record Ahead (s : List ℕ) (at d : ℕ) : Type 0 where
@@ -106,23 +106,23 @@ counted-in s at p d e =
 
 checked-is : (s : List ℕ) (p q : Part) (d e : ℕ) → checked s p d ≡ accepted (got q e) → (p ≡ q) × (d ≡ e)
 unfolding checked
-checked-is s p q d e h = go (eqb (upTo (bytesOf s p)) (p .len)) h where
+checked-is s p q d e h = go (eqb (upTo (partBytes s p)) (p .len)) h where
   go : (b : Bool) → pick b (accepted (got p d)) (refused 4 (p .from)) ≡ accepted (got q e) → (p ≡ q) × (d ≡ e)
   go true f = (cc, cc)
   go false f = absurd (never f)
 
 -- the test of a name, by what `valid_up_to` answers of its bytes
 module _ (s : List ℕ) (p : Part) (next : ℕ) {r : ℕ} (e : r ≡ upTo (take (p .from + p .len - p .from) (drop (p .from) s))) where
-  up-to : r ≡ upTo (bytesOf s p)
+  up-to : r ≡ upTo (partBytes s p)
   up-to = e ∙ ap (λ (n : ℕ). upTo (take n (drop (p .from) s))) (add-sub-cancel-left (p .from) (p .len))
 
   pub name-good : r ≡ p .len → accepted (got p next) ≡ checked s p next
   unfolding checked
-  name-good h = simp (eq-eqb (upTo (bytesOf s p)) (p .len) (sym up-to ∙ h))
+  name-good h = simp (eq-eqb (upTo (partBytes s p)) (p .len) (sym up-to ∙ h))
 
   pub name-bad : (r ≡ p .len → ⊥) → refused 4 (p .from) ≡ checked s p next
   unfolding checked
-  name-bad h = simp (ne-eqb (upTo (bytesOf s p)) (p .len) (λ q. h (up-to ∙ q)))
+  name-bad h = simp (ne-eqb (upTo (partBytes s p)) (p .len) (λ q. h (up-to ∙ q)))
 
 pub name-in : (s : List ℕ) (at : ℕ) (p : Part) (d : ℕ) → nameAt s at ≡ accepted (got p d) → Whole s at p d
 unfolding nameAt

@@ -17,7 +17,7 @@ use Rattle.refusal.specs.Said.{Said, accepted, refused, Got, got, onward}
 use Rattle.refusal.proofs.Following.{never, read-on}
 use Rattle.leb.specs.Grammar.{U, lastU, moreU, S, plusS, minusS, moreS}
 use Rattle.leb.specs.Groups.{Out, value, ends, bad, grown, spent, uN, sN, twos}
-use Rattle.leb.specs.Reads.{told, narrowed, ulebAt, u32At, slebAt}
+use Rattle.leb.specs.Reads.{toldAt, narrowed, ulebAt, u32At, slebAt}
 
 pub accepts : {N v k : ℕ} {l : List ℕ} → U N l v k → uN N l ≡ value v k
 unfolding uN grown
@@ -79,13 +79,13 @@ only N (n ∷ l) v k e = both N n l v k (λ m j. only (N - 7) l m j) e (ltb n 12
 
 -- `uleb128` accepts exactly the u64 of the specification, with their values
 pub u64-read : (s : List ℕ) (at v k : ℕ) → U 64 (drop at s) v k → ulebAt s at ≡ accepted (got v (at + k))
-unfolding ulebAt told
+unfolding ulebAt toldAt
 u64-read s at v k r = rw (accepts r)
 
 -- a number that was told was there
-pub told-value : {X : Type 0} (at : ℕ) (o : Out X) {v : X} {d : ℕ} → told at o ≡ accepted (got v d) → (k : ℕ) × (o ≡ value v k) ×
+pub told-value : {X : Type 0} (at : ℕ) (o : Out X) {v : X} {d : ℕ} → toldAt at o ≡ accepted (got v d) → (k : ℕ) × (o ≡ value v k) ×
     (d ≡ at + k)
-unfolding told
+unfolding toldAt
 told-value at (value w k) e = (k, cc, cc)
 told-value at (ends k) e = absurd (never e)
 told-value at bad e = absurd (never e)
@@ -121,7 +121,7 @@ below bytes (moreU {N = N} {n = n} {m = m} a b r) =
 -- so every u32 of the specification is read as its value
 pub u32-read : (s : List ℕ) (at v k : ℕ) → ((i : ℕ) → getD (drop at s) i 0 < 256) → U 32 (drop at s) v k
     → u32At s at ≡ accepted (got v (at + k))
-unfolding u32At ulebAt told narrowed onward
+unfolding u32At ulebAt toldAt narrowed onward
 u32-read s at v k bytes r = simp (accepts (wider {M = 64} (omega arith) r), le-leb v 4294967295 (omega (arith, below bytes r)))
 
 twos-small : (N n : ℕ) → n < 64 → n < 2 ^ (N - 1) → twos (min N 7) n ≡ pos n
@@ -179,5 +179,5 @@ acceptsS (minusS {N = N} {n = n} z a b c) = simp (lt-ltb n 128 b, twos-minus N n
 acceptsS (moreS {N = N} {n = n} a b r) = simp (le-ltb n 128 a, lt-ltb 7 N b, acceptsS r)
 
 pub s64-read : (s : List ℕ) (at k : ℕ) (z : ℤ) → S 64 (drop at s) z k → slebAt s at ≡ accepted (got z (at + k))
-unfolding slebAt told
+unfolding slebAt toldAt
 s64-read s at k z r = rw (acceptsS r)

@@ -1,6 +1,5 @@
 -- The loop of `sleb128`, on values: the invariant `SReading` over the bits of the i64, how a turn keeps it, and the answer at each way
--- out.
--- Assumes nothing.
+-- out. Assumes nothing.
 use Prim.Native.Nat.{ℕ, suc, _+_, _-_, _*_, _%_, _^_, _≤_, _<_, min}
 use native.Mathlib.Nat.{add-zero, mul-comm, mul-add, mul-assoc, lt-of-le-of-lt, lt-of-lt-of-le, mod-le, mod-lt, mod-eq-of-lt, min-eq-left}
 use native.Mathlib.Nat.{min-eq-right, sub-add-eq}
@@ -22,7 +21,7 @@ use mir.ValLaws.{toZ-pos}
 use Rattle.refusal.specs.Pick.{pick}
 use Rattle.refusal.specs.Said.{accepted, refused, got}
 use Rattle.leb.specs.Groups.{Out, value, ends, bad, grown, spent, sN, twos}
-use Rattle.leb.specs.Reads.{told, slebAt}
+use Rattle.leb.specs.Reads.{toldAt, slebAt}
 use Rattle.bits.proofs.Masks.{or-place, or-fits, or-ones, place-lt, top-clear, top-set, low-small, low-large, low-lt}
 use Rattle.bits.proofs.Integers.{diff-neg, lin, as-diff, toZ-upper, extended}
 use Rattle.leb.proofs.Groups.{left, left-none, left-over, grown-none, grown-twice, grown-same, grown-spent}
@@ -138,14 +137,14 @@ begins s begin = record {
 module _ (s : List ℕ) (begin i shift acc : ℕ) (r : SReading s begin i shift acc) where
   -- the bytes end
   pub at-end : length s ≤ i → refused 1 i ≡ slebAt s begin
-  unfolding slebAt told grown sN
+  unfolding slebAt toldAt grown sN
   at-end h =
       let e : begin + (i - begin + 0) ≡ i = omega (arith, r .from) in
       rw (r .sofar, drop-of-length-le s h, left-none sN (λ N. refl) shift, e)
 
   -- no bits are left, and there is a byte more
   pub too-long : 64 ≤ shift → i < length s → refused 3 begin ≡ slebAt s begin
-  unfolding slebAt told grown
+  unfolding slebAt toldAt grown
   too-long h l = rw (r .sofar, drop-cons s i 0 l, left-over sN shift (getD s i 0) (drop (suc i) s) h)
 
   module _ (h : shift < 64) (l : i < length s) (byte : getD s i 0 < 256) where
@@ -187,7 +186,7 @@ module _ (s : List ℕ) (begin i shift acc : ℕ) (r : SReading s begin i shift 
     module _ (z : bitAnd (getD s i 0) 128 ≡ 0) where
       -- the answer for a last group whose value is v
       answer : (v : ℤ) → v ≡ aboveZ acc shift (twos (min (64 - shift) 7) (getD s i 0)) → accepted (got v (i + 1)) ≡ slebAt s begin
-      unfolding slebAt told grown
+      unfolding slebAt toldAt grown
       answer v e =
           let hb = top-clear 7 (getD s i 0) byte z in
           let p : begin + (i - begin + 1) ≡ i + 1 = omega (arith, r .from) in

@@ -1,5 +1,4 @@
--- The loop of `uleb128`, on values: the invariant `Reading`, how a turn keeps it, and the answer at each way out.
--- Assumes nothing.
+-- The loop of `uleb128`, on values: the invariant `Reading`, how a turn keeps it, and the answer at each way out. Assumes nothing.
 use Prim.Native.Nat.{ℕ, suc, _+_, _-_, _*_, _%_, _^_, _≤_, _<_}
 use native.Mathlib.Nat.{lt-of-lt-of-le}
 use native.Mathlib.Numerals.{add-one}
@@ -15,7 +14,7 @@ use lib.ListN.{length, getD, drop, drop-of-length-le}
 use lib.Seq.{drop-cons}
 use Rattle.refusal.specs.Said.{accepted, refused, got}
 use Rattle.leb.specs.Groups.{Out, value, ends, bad, grown, spent, uN}
-use Rattle.leb.specs.Reads.{told, ulebAt}
+use Rattle.leb.specs.Reads.{toldAt, ulebAt}
 use Rattle.bits.proofs.Masks.{or-fits, place-lt, top-clear, top-set, low-small, low-large, low-lt}
 use Rattle.leb.proofs.Groups.{above, above-group, left, grown-none, grown-twice, grown-same, left-none, left-over, left-last}
 use Rattle.leb.proofs.Groups.{left-big, left-big', left-more}
@@ -54,20 +53,20 @@ begins s begin = record {
 module _ (s : List ℕ) (begin i shift acc : ℕ) (r : Reading s begin i shift acc) where
   -- the bytes end
   pub at-end : length s ≤ i → refused 1 i ≡ ulebAt s begin
-  unfolding ulebAt told grown uN
+  unfolding ulebAt toldAt grown uN
   at-end h =
       let e : begin + (i - begin + 0) ≡ i = omega (arith, r .from) in
       rw (r .sofar, drop-of-length-le s h, left-none uN (λ N. refl) shift, e)
 
   -- no bits are left, and there is a byte more
   pub too-long : 64 ≤ shift → i < length s → refused 3 begin ≡ ulebAt s begin
-  unfolding ulebAt told grown
+  unfolding ulebAt toldAt grown
   too-long h l = rw (r .sofar, drop-cons s i 0 l, left-over uN shift (getD s i 0) (drop (suc i) s) h)
 
   module _ (h : shift < 64) (l : i < length s) (byte : getD s i 0 < 256) where
     -- the tenth group is too big
     pub too-big : shift ≡ 63 → 1 < bitAnd (getD s i 0) 127 → refused 3 begin ≡ ulebAt s begin
-    unfolding ulebAt told grown
+    unfolding ulebAt toldAt grown
     too-big e g =
         rw (r .sofar, drop-cons s i 0 l, e, big (getD s i 0) (drop (suc i) s) byte g)
 
@@ -84,7 +83,7 @@ module _ (s : List ℕ) (begin i shift acc : ℕ) (r : Reading s begin i shift a
 
       pub last : bitAnd (getD s i 0) 128 ≡ 0
           → accepted (got (bitOr acc ((bitAnd (getD s i 0) 127 * 2 ^ shift) % 2 ^ 64)) (i + 1)) ≡ ulebAt s begin
-      unfolding ulebAt told grown
+      unfolding ulebAt toldAt grown
       last z =
           let hb = top-clear 7 (getD s i 0) byte z in
           let hf : getD s i 0 < 2 ^ (64 - shift) = rw (low-small (getD s i 0) hb) at room in

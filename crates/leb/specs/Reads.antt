@@ -15,8 +15,8 @@ abbrev pub part : ℕ → ℕ → Part
 part a n = record { from = a; len = n }
 
 -- the bytes of a range
-abbrev pub bytesOf : List ℕ → Part → List ℕ
-bytesOf s p = take (p .len) (drop (p .from) s)
+abbrev pub partBytes : List ℕ → Part → List ℕ
+partBytes s p = take (p .len) (drop (p .from) s)
 
 unfoldable pub byteAt : List ℕ → ℕ → Said (Got ℕ)
 byteAt s at = pick (ltb at (length s)) (accepted (got (getD s at 0) (at + 1))) (refused 1 at)
@@ -39,16 +39,16 @@ unfoldable pub skipAt : List ℕ → ℕ → ℕ → Said (Got (Unit {0}))
 skipAt s at n = onward (takeAt s at n) (λ p next. accepted (got tt next))
 
 -- a number at `at`: bytes that end are told where they end, a bad number where it starts
-unfoldable pub told : {X : Type 0} → ℕ → Out X → Said (Got X)
-told at (value v k) = accepted (got v (at + k))
-told at (ends k) = refused 1 (at + k)
-told at bad = refused 3 at
+unfoldable pub toldAt : {X : Type 0} → ℕ → Out X → Said (Got X)
+toldAt at (value v k) = accepted (got v (at + k))
+toldAt at (ends k) = refused 1 (at + k)
+toldAt at bad = refused 3 at
 
 unfoldable pub ulebAt : List ℕ → ℕ → Said (Got ℕ)
-ulebAt s at = told at (uN 64 (drop at s))
+ulebAt s at = toldAt at (uN 64 (drop at s))
 
 unfoldable pub slebAt : List ℕ → ℕ → Said (Got ℤ)
-slebAt s at = told at (sN 64 (drop at s))
+slebAt s at = toldAt at (sN 64 (drop at s))
 
 -- a number that is too big for a u32 is told where it ends
 unfoldable pub narrowed : ℕ → ℕ → Said (Got ℕ)
@@ -63,7 +63,7 @@ countedAt s at = onward (u32At s at) (λ n next. takeAt s next n)
 
 -- a range of well-formed UTF-8; one that is not is told where it begins
 unfoldable pub checked : List ℕ → Part → ℕ → Said (Got Part)
-checked s p next = pick (eqb (upTo (bytesOf s p)) (p .len)) (accepted (got p next)) (refused 4 (p .from))
+checked s p next = pick (eqb (upTo (partBytes s p)) (p .len)) (accepted (got p next)) (refused 4 (p .from))
 
 unfoldable pub nameAt : List ℕ → ℕ → Said (Got Part)
 nameAt s at = onward (countedAt s at) (checked s)

@@ -6,7 +6,7 @@ ghost use Prim.Native.Nat.{_-_, _<_};
 ghost use lib.Dec.{leb};
 ghost use lib.ListN.{length};
 ghost use Rattle.leb.specs.Reads.{byteAt, fixedAt, takeAt, skipAt, ulebAt, u32At, slebAt, countedAt, nameAt};
-ghost use Rattle.leb.specs.Answers.{to, from, saidByte, saidPart, saidSkip, saidU32, saidU64, saidI64};
+ghost use Rattle.leb.specs.Answers.{cursorAt, answerFrom, saidByte, saidPart, saidSkip, saidU32, saidU64, saidI64};
 ghost use Rattle.leb.specs.Answers.{whyByte, whyPart, whyU32, whyU64};
 
 // A position in a slice.
@@ -98,7 +98,7 @@ fn wide(b: u8) -> u32
 
 impl Cursor {
     pub fn new() -> Self
-        ensures { λ r. ⌜ r ≡ to 0 ⌝ }
+        ensures { λ r. ⌜ r ≡ cursorAt 0 ⌝ }
     {
         Cursor { at: 0 }
     }
@@ -124,7 +124,7 @@ impl Cursor {
     }
 
     pub fn u8(self, s: &[u8]) -> ByteRead
-        ensures { λ r. ⌜ saidByte r ≡ from (self .at) (byteAt (now (s .entry)) (self .at)) ⌝ }
+        ensures { λ r. ⌜ saidByte r ≡ answerFrom (self .at) (byteAt (now (s .entry)) (self .at)) ⌝ }
     {
         let at = self.at;
         if at < s.len() {
@@ -136,7 +136,7 @@ impl Cursor {
 
     // A fixed little-endian u32.
     pub fn u32_le(self, s: &[u8]) -> U32Read
-        ensures { λ r. ⌜ saidU32 r ≡ from (self .at) (fixedAt (now (s .entry)) (self .at)) ⌝ }
+        ensures { λ r. ⌜ saidU32 r ≡ answerFrom (self .at) (fixedAt (now (s .entry)) (self .at)) ⌝ }
     {
         let at = self.at;
         if self.remaining(s) < 4 {
@@ -151,7 +151,7 @@ impl Cursor {
 
     // The next n bytes. A cursor past the end is told before a sum that leaves the address range.
     pub fn take(self, s: &[u8], n: usize) -> PartRead
-        ensures { λ r. ⌜ saidPart r ≡ from (self .at) (takeAt (now (s .entry)) (self .at) n) ⌝ }
+        ensures { λ r. ⌜ saidPart r ≡ answerFrom (self .at) (takeAt (now (s .entry)) (self .at) n) ⌝ }
     {
         let at = self.at;
         if s.len() < at {
@@ -168,7 +168,7 @@ impl Cursor {
     }
 
     pub fn skip(self, s: &[u8], n: usize) -> Skipped
-        ensures { λ r. ⌜ saidSkip r ≡ from (self .at) (skipAt (now (s .entry)) (self .at) n) ⌝ }
+        ensures { λ r. ⌜ saidSkip r ≡ answerFrom (self .at) (skipAt (now (s .entry)) (self .at) n) ⌝ }
     {
         let part = self.take(s, n);
         let PartRead::Read(_, next) = part else {
@@ -179,7 +179,7 @@ impl Cursor {
 
     // An unsigned LEB128 number of at most 64 bits.
     pub fn uleb128(self, s: &[u8]) -> U64Read
-        ensures { λ r. ⌜ saidU64 r ≡ from (self .at) (ulebAt (now (s .entry)) (self .at)) ⌝ }
+        ensures { λ r. ⌜ saidU64 r ≡ answerFrom (self .at) (ulebAt (now (s .entry)) (self .at)) ⌝ }
     {
         let start = self.at;
         let mut i = start;
@@ -210,7 +210,7 @@ impl Cursor {
 
     // An unsigned LEB128 number that fits a u32; one that does not is told where it ends.
     pub fn uleb128_u32(self, s: &[u8]) -> U32Read
-        ensures { λ r. ⌜ saidU32 r ≡ from (self .at) (u32At (now (s .entry)) (self .at)) ⌝ }
+        ensures { λ r. ⌜ saidU32 r ≡ answerFrom (self .at) (u32At (now (s .entry)) (self .at)) ⌝ }
     {
         let number = self.uleb128(s);
         let U64Read::Read(v, next) = number else {
@@ -225,7 +225,7 @@ impl Cursor {
 
     // A signed LEB128 number of at most 64 bits, in two's complement.
     pub fn sleb128(self, s: &[u8]) -> I64Read
-        ensures { λ r. ⌜ saidI64 r ≡ from (self .at) (slebAt (now (s .entry)) (self .at)) ⌝ }
+        ensures { λ r. ⌜ saidI64 r ≡ answerFrom (self .at) (slebAt (now (s .entry)) (self .at)) ⌝ }
     {
         let start = self.at;
         let mut i = start;
@@ -256,7 +256,7 @@ impl Cursor {
 
     // A u32 length, then so many bytes.
     pub fn counted(self, s: &[u8]) -> PartRead
-        ensures { λ r. ⌜ saidPart r ≡ from (self .at) (countedAt (now (s .entry)) (self .at)) ⌝ }
+        ensures { λ r. ⌜ saidPart r ≡ answerFrom (self .at) (countedAt (now (s .entry)) (self .at)) ⌝ }
     {
         let number = self.uleb128_u32(s);
         let U32Read::Read(len, next) = number else {
@@ -271,7 +271,7 @@ impl Cursor {
 
     // A u32 length, then so many bytes of well-formed UTF-8.
     pub fn name(self, s: &[u8]) -> PartRead
-        ensures { λ r. ⌜ saidPart r ≡ from (self .at) (nameAt (now (s .entry)) (self .at)) ⌝ }
+        ensures { λ r. ⌜ saidPart r ≡ answerFrom (self .at) (nameAt (now (s .entry)) (self .at)) ⌝ }
     {
         let part = self.counted(s);
         let PartRead::Read(bytes, next) = part else {

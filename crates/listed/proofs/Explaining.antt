@@ -13,26 +13,31 @@ use Rattle.refusal.specs.Said.{Said, accepted, refused, numberOf, placeOf, refu
 use Rattle.refusal.specs.declared.Refusal.{Refusal}
 use Rattle.refusal.specs.declared.Written.{Written}
 use Rattle.refusal.proofs.Following.{never}
-use Rattle.cells.proofs.Bytes.{length-bytes}
+use Rattle.table.specs.Shape.{width}
+use Rattle.output.proofs.CellLaws.{length-bytes}
 use Rattle.differences.specs.Compared.{Given}
-use Rattle.writing.specs.Writing.{roomFor, Formed, laid, roomFrom, countedFrom}
+use Rattle.output.specs.Bytes.{roomFor, Formed, overlaid, roomFrom, writtenCountFrom}
 use Rattle.reasons.specs.Reasons.{Diffs, diffs, reasonsTested, reasonsOf, reasonedFrom, ReasonsFrom}
 use Rattle.reasons.proofs.Fine.{reasons-long}
 use Rattle.listed.specs.declared.comparison.ComparisonTold.{ComparisonTold}
 use Rattle.listed.specs.Delivered.{Lays}
-use Rattle.listed.specs.Comparisons.{noComparison, comparisonBy, verdict, takenBytes, explainedBytes, Explains, Counted}
+use Rattle.listed.specs.Comparisons.{noComparison, comparisonBy, verdict, takenBytes, explainedBytes, Explains, ComparisonCounted}
 
 -- the bytes of the counted rows
-pub rows-long : {m n : ℕ} {xd cd : List ℕ} (exports needs : ℕ) → Counted m n xd cd → exports ≡ m * 2 → needs ≡ n * 3
+pub rows-long : {m n : ℕ} {xd cd : List ℕ} (exports needs : ℕ) → ComparisonCounted m n xd cd → exports ≡ m * width 8 → needs ≡ n * width 9
     → (exports + needs) * 8 ≡ length (takenBytes (diffs xd m cd n))
 rows-long {m} {n} {xd} {cd} exports needs k e f =
-    let a = length-take-le (m * 2) xd (k .exports-in) in
-    let b = length-take-le (n * 3) cd (k .needs-in) in
-    omega (arith, length-bytes (take (m * 2) xd ++ take (n * 3) cd), length-append (take (m * 2) xd) (take (n * 3) cd))
+    let a = length-take-le (m * width 8) xd (k .exports-in) in
+    let b = length-take-le (n * width 9) cd (k .needs-in) in
+    omega (
+      arith,
+      length-bytes (take (m * width 8) xd ++ take (n * width 9) cd),
+      length-append (take (m * width 8) xd) (take (n * width 9) cd),
+    )
 
 -- v at the start of a buffer that holds w after as many bytes: both, and what stood past them
 both-laid : (d v w : List ℕ) → length v + length w ≤ length d
-    → v ++ drop (length v) (laid d (length v) w) ≡ (v ++ w) ++ drop (length (v ++ w)) d
+    → v ++ drop (length v) (overlaid d (length v) w) ≡ (v ++ w) ++ drop (length (v ++ w)) d
 both-laid d v w h =
     let k = length v in
     let q = drop (k + length w) d in
@@ -73,7 +78,7 @@ module _ (v w : List ℕ) (room : ℕ) {first : ℕ} (is : first ≡ length v) w
       by false h q = record { same = cc; all = rw (long, h); enough = ltb-false room (first + length w) h }
   both-fit (refused n p) e = absurd (never e)
 
-told-none : (first : ℕ) (o : Said (List ℕ)) {n p : ℕ} → countedFrom first o ≡ refused n p → o ≡ refused n p
+told-none : (first : ℕ) (o : Said (List ℕ)) {n p : ℕ} → writtenCountFrom first o ≡ refused n p → o ≡ refused n p
 told-none first (accepted w) e = absurd (never (sym e))
 told-none first (refused n p) e = cc
 
@@ -82,13 +87,14 @@ pub record Some (first : ℕ) (o : Said (List ℕ)) (n : ℕ) : Type 0 where
   pub is : o ≡ accepted text
   pub end : n ≡ first + length text
 
-told-some : (first : ℕ) (o : Said (List ℕ)) {n : ℕ} → countedFrom first o ≡ accepted n → Some first o n
+told-some : (first : ℕ) (o : Said (List ℕ)) {n : ℕ} → writtenCountFrom first o ≡ accepted n → Some first o n
 told-some first (accepted w) e = record { text = w; is = refl; end = cc }
 told-some first (refused n p) e = absurd (never e)
 
 module _ (b c : Given) (d : Diffs) {first : ℕ} (rows : first ≡ length (takenBytes d)) {before after : List ℕ} {s : Written}
     (f : ReasonsFrom first b c d before s after) where
-  pub explains-none : (fine : Bool) {why : Refusal} {r : ComparisonTold} → s ≡ Written.Refused why → r ≡ noComparison (numberOf why) (placeOf why)
+  pub explains-none : (fine : Bool) {why : Refusal} {r : ComparisonTold} → s ≡ Written.Refused why
+      → r ≡ noComparison (numberOf why) (placeOf why)
       → Explains b c d fine before r after
   unfolding reasonedFrom explainedBytes
   explains-none fine {why} e q =
@@ -116,8 +122,8 @@ module _ (b c : Given) (d : Diffs) {first : ℕ} (rows : first ≡ length (taken
         let v = takenBytes d in
         let x : explainedBytes b c d (length before) ≡ accepted (v ++ w) = fit .all in
         let is : n ≡ first + length w = some .end ∙ ap (λ (l : List ℕ). first + length l) (fit .same) in
-        let held : after ≡ laid before (length v) w =
-        f .output ∙ rw (some .is) (ap (λ (l : List ℕ). laid before first l) (fit .same)) ∙ ap (λ (k : ℕ). laid before k w) rows in
+        let held : after ≡ overlaid before (length v) w =
+        f .output ∙ rw (some .is) (ap (λ (l : List ℕ). overlaid before first l) (fit .same)) ∙ ap (λ (k : ℕ). overlaid before k w) rows in
         let kept : length after ≡ length before = reasons-long b c d first before f in
         let room : ltb (length after) (length v) ≡ false = le-ltb (length after) (length v) (omega (arith, fit .enough)) in
         let told = comparisonBy (verdict (d .exportCount) (d .needCount) fine) in

@@ -14,16 +14,16 @@ use Rattle.refusal.specs.declared.Refusal.the-variants.{NoRoom}
 use Rattle.refusal.specs.declared.Written.{Written}
 use Rattle.table.specs.Table.{cells, put}
 use Rattle.table.proofs.Laws.{length-put}
-use Rattle.cells.specs.Cells.{lowBytes, bytesOf, roomAt, Puts}
-use Rattle.cells.proofs.Bytes.{length-bytes, bytes-append}
-use Rattle.cells.proofs.Putting.{put-none, put-append}
-use Rattle.writing.specs.Writing.{roomFor, counted, left, Told, Formed}
+use Rattle.output.specs.Cells.{lowBytes, cellBytes, roomAt, Puts}
+use Rattle.output.proofs.CellLaws.{length-bytes, bytes-append}
+use Rattle.output.proofs.Putting.{put-none, put-append}
+use Rattle.output.specs.Bytes.{roomFor, writtenCount, left, WriterTells, Formed}
 use Rattle.listed.specs.Delivered.{housed, Delivers, Lays}
 
 -- the buffer d is y: the bytes of the cells l at its start, and r is the place after them
 pub record Begins (d l : List ℕ) (r : ℕ) (y : List ℕ) : Type 0 where
   pub next : r ≡ length l * 8
-  pub output : y ≡ put d 0 (bytesOf l)
+  pub output : y ≡ put d 0 (cellBytes l)
 
 module _ (d : List ℕ) where
   pub none-yet : Begins d [] 0 d
@@ -35,35 +35,35 @@ module _ (d : List ℕ) where
       → Begins d (l ++ m) s z
   more l m {r} {s} {y} {z} b h p =
       let long : length y ≡ length d =
-      ap length (b .output) ∙ length-put d (bytesOf l) 0 (omega (arith, length-bytes l, length-append l m)) in
+      ap length (b .output) ∙ length-put d (cellBytes l) 0 (omega (arith, length-bytes l, length-append l m)) in
       let room : leb (r + length m * 8) (length y) ≡ true = le-leb (r + length m * 8) (length y) (omega (arith, length-append l m)) in
-      let after : r ≡ 0 + length (bytesOf l) = omega (arith, length-bytes l) in
+      let after : r ≡ 0 + length (cellBytes l) = omega (arith, length-bytes l) in
       let reach : s ≡ r + length m * 8 = p .next ∙ rw room in
-      let written : z ≡ put y r (bytesOf m) = p .output ∙ rw room in
+      let written : z ≡ put y r (cellBytes m) = p .output ∙ rw room in
       record {
         next = omega (arith, length-append l m);
         output = written
-            ∙ ap (λ (t : List ℕ). put t r (bytesOf m)) (b .output)
-            ∙ ap (λ (k : ℕ). put (put d 0 (bytesOf l)) k (bytesOf m)) after
-            ∙ put-append d 0 (bytesOf l) (bytesOf m) (omega (arith, length-bytes l, length-append l m))
+            ∙ ap (λ (t : List ℕ). put t r (cellBytes m)) (b .output)
+            ∙ ap (λ (k : ℕ). put (put d 0 (cellBytes l)) k (cellBytes m)) after
+            ∙ put-append d 0 (cellBytes l) (cellBytes m) (omega (arith, length-bytes l, length-append l m))
             ∙ ap (put d 0) (sym (bytes-append l m));
       }
 
   -- the whole, where it fits
-  pub whole : (l : List ℕ) {r : ℕ} {y : List ℕ} → length l * 8 ≤ length d → Begins d l r y → Formed (bytesOf l) d (Written.Bytes r) y
+  pub whole : (l : List ℕ) {r : ℕ} {y : List ℕ} → length l * 8 ≤ length d → Begins d l r y → Formed (cellBytes l) d (Written.Bytes r) y
   unfolding roomFor put
   whole l {r} {y} h b =
-      let fits : ltb (length d) (length (bytesOf l)) ≡ false = le-ltb (length d) (length (bytesOf l)) (omega (arith, length-bytes l)) in
+      let fits : ltb (length d) (length (cellBytes l)) ≡ false = le-ltb (length d) (length (cellBytes l)) (omega (arith, length-bytes l)) in
       record {
         answer = rw fits (ap accepted (b .next ∙ sym (length-bytes l)));
-        output = rw fits (b .output ∙ ap (λ (k : ℕ). bytesOf l ++ drop k d) (zero-add (length (bytesOf l))));
+        output = rw fits (b .output ∙ ap (λ (k : ℕ). cellBytes l ++ drop k d) (zero-add (length (cellBytes l))));
       }
 
-  pub no-room : (l : List ℕ) {n : ℕ} → n ≡ length l * 8 → length d < n → Formed (bytesOf l) d (Written.Refused (NoRoom n)) d
+  pub no-room : (l : List ℕ) {n : ℕ} → n ≡ length l * 8 → length d < n → Formed (cellBytes l) d (Written.Refused (NoRoom n)) d
   unfolding roomFor
   no-room l {n} e h =
-      let full : ltb (length d) (length (bytesOf l)) ≡ true = lt-ltb (length d) (length (bytesOf l)) (omega (arith, length-bytes l)) in
-      let needed : n ≡ length (bytesOf l) = e ∙ sym (length-bytes l) in
+      let full : ltb (length d) (length (cellBytes l)) ≡ true = lt-ltb (length d) (length (cellBytes l)) (omega (arith, length-bytes l)) in
+      let needed : n ≡ length (cellBytes l) = e ∙ sym (length-bytes l) in
       record { answer = rw full (ap (refused 16) needed); output = rw full }
 
 -- four lists, one after another
@@ -72,11 +72,11 @@ module _ (d a b c e : List ℕ) where
   cells-long = simp length-append
 
   pub four-full : {n : ℕ} → n ≡ (length a + length b + length c + length e) * 8 → length d < n
-      → Formed (bytesOf (a ++ b ++ c ++ e)) d (Written.Refused (NoRoom n)) d
+      → Formed (cellBytes (a ++ b ++ c ++ e)) d (Written.Refused (NoRoom n)) d
   four-full q h = no-room d (a ++ b ++ c ++ e) (q ∙ ap (λ (k : ℕ). k * 8) (sym cells-long)) h
 
   pub four : {p q r s : ℕ} {w x y z : List ℕ} → (length a + length b + length c + length e) * 8 ≤ length d
-      → Puts a 0 d p w → Puts b p w q x → Puts c q x r y → Puts e r y s z → Formed (bytesOf (a ++ b ++ c ++ e)) d (Written.Bytes s) z
+      → Puts a 0 d p w → Puts b p w q x → Puts c q x r y → Puts e r y s z → Formed (cellBytes (a ++ b ++ c ++ e)) d (Written.Bytes s) z
   four h i j k l =
       let ab : length (a ++ b) ≡ length a + length b = length-append a b in
       let abc : length (a ++ b ++ c) ≡ length a + length b + length c = length-append (a ++ b) c ∙ ap (λ (n : ℕ). n + length c) ab in
@@ -87,17 +87,17 @@ module _ (d a b c e : List ℕ) where
 
 -- two lists, one after another
 module _ (d a b : List ℕ) where
-  pub two-full : {n : ℕ} → n ≡ (length a + length b) * 8 → length d < n → Formed (bytesOf (a ++ b)) d (Written.Refused (NoRoom n)) d
+  pub two-full : {n : ℕ} → n ≡ (length a + length b) * 8 → length d < n → Formed (cellBytes (a ++ b)) d (Written.Refused (NoRoom n)) d
   two-full q h = no-room d (a ++ b) (q ∙ ap (λ (k : ℕ). k * 8) (sym (length-append a b))) h
 
   pub two : {p q : ℕ} {w x : List ℕ} → (length a + length b) * 8 ≤ length d → Puts a 0 d p w → Puts b p w q x
-      → Formed (bytesOf (a ++ b)) d (Written.Bytes q) x
+      → Formed (cellBytes (a ++ b)) d (Written.Bytes q) x
   two h i j =
       let ab : length (a ++ b) ≡ length a + length b = length-append a b in
       whole d (a ++ b) (omega arith) (more d a b (more d [] a (none-yet d) (omega arith) i) (omega arith) j)
 
 -- what is told of bytes that were written, or not
-pub lays : {R : Type 0} (told : Said ℕ → R) {o : Said (List ℕ)} {d y : List ℕ} {w : Written} {r : R} → Told o d w y
+pub lays : {R : Type 0} (told : Said ℕ → R) {o : Said (List ℕ)} {d y : List ℕ} {w : Written} {r : R} → WriterTells o d w y
     → r ≡ told (saidWritten w) → Lays told o d r y
 lays told t e = record { answer-is = e ∙ ap told (t .answer); output-is = t .output }
 

@@ -4,3 +4,4 @@ pub mod OfModule
 pub mod OfManifest
 pub mod Explaining
 pub mod OfComparison
+pub mod Listing

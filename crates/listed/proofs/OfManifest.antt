@@ -11,27 +11,29 @@ use Rattle.refusal.specs.declared.Part.{Part}
 use Rattle.refusal.specs.declared.Refusal.{Refusal}
 use Rattle.refusal.proofs.Following.{followed, follow-stops, follow-goes}
 use Rattle.table.specs.Table.{laid, cells}
-use Rattle.table.specs.Listing.{Lists, rowsIn}
+use Rattle.table.specs.Shape.{width, limit, fullCells}
+use Rattle.table.specs.Listing.{ListsRows, rowsIn}
 use Rattle.wit.specs.Shapes.{Reference}
 use Rattle.wit.specs.Manifest.{State, manifestAt, manifestOf, knownOf, saidManifest, worldCells, referenceCells}
-use Rattle.wit.specs.Manifest.{Lent, Holds, heldOf, ManifestIs}
+use Rattle.wit.specs.Manifest.{ManifestLent, ManifestHolds, manifestHeld, ManifestIs}
 use Rattle.wit.specs.declared.Manifest.{Manifest}
 use Rattle.wit.specs.declared.ManifestRead.{ManifestRead}
-use Rattle.references.specs.Queries.{pathsOf}
-use Rattle.writing.specs.Writing.{roomFor}
+use Rattle.reference_rows.specs.Queries.{pathsOf}
+use Rattle.output.specs.Bytes.{roomFor}
 use Rattle.listed.specs.declared.manifests.ManifestTold.{ManifestTold}
 use Rattle.listed.specs.Delivered.{Lays, Delivers}
-use Rattle.listed.specs.Manifests.{Listing, laidBytes, manifestBytes, manifestBy, manifestTold, pathsListed, limits, manifestListed}
-use Rattle.listed.specs.Manifests.{Counted, worldsIn, referencesIn}
+use Rattle.listed.specs.Manifests.{ManifestListing, laidBytes, manifestBytes, manifestBy, manifestTold, pathsListed}
+use Rattle.listed.specs.Manifests.{manifestLimits, manifestListed}
+use Rattle.listed.specs.Manifests.{ManifestCounted, worldsIn, referencesIn}
 use Rattle.listed.proofs.Laying.{delivers}
 use Rattle.refusal.proofs.Following.{one-value, first-refused}
 use Rattle.table.proofs.Taken.{rows-taken, rows-inside, list-taken, list-inside}
 
-world-wide : (r : Part) → length (worldCells r) ≡ 2
+world-wide : (r : Part) → length (worldCells r) ≡ width 5
 unfolding worldCells
 world-wide r = refl
 
-reference-wide : (r : Reference) → length (referenceCells r) ≡ 7
+reference-wide : (r : Reference) → length (referenceCells r) ≡ width 6
 unfolding referenceCells
 reference-wide r = refl
 
@@ -40,13 +42,13 @@ pub record PathsFound (x : Said (List ℕ)) (table : List ℕ) (k : ℕ) : Type 
   pub what : List ℕ
   pub first : x ≡ accepted what
   pub many : k ≡ length what
-  pub held : table ≡ laid 1024 what
+  pub held : table ≡ laid (limit 15) what
 
-module _ {x : Said (List ℕ)} {before after : List ℕ} {r : Count} (h : Lists x before after (saidCount r)) where
+module _ {x : Said (List ℕ)} {before after : List ℕ} {r : Count} (h : ListsRows x before after (saidCount r)) where
   pub paths-refused : {why : Refusal} → r ≡ Count.Refused why → x ≡ refusedBy why
   paths-refused e = first-refused x length (sym (h .answer-is) ∙ ap saidCount e)
 
-  pub paths-found : {k : ℕ} → length before ≡ 1024 → r ≡ Count.Rows k → PathsFound x after k
+  pub paths-found : {k : ℕ} → length before ≡ limit 15 → r ≡ Count.Rows k → PathsFound x after k
   paths-found {k} long e =
       let f = followed x (λ l. accepted (length l)) (sym (h .answer-is) ∙ ap saidCount e) in
       record {
@@ -55,25 +57,25 @@ module _ {x : Said (List ℕ)} {before after : List ℕ} {r : Count} (h : Lists 
         many = one-value (sym (f .then));
         held = h .table-is
             ∙ ap (λ (n : ℕ). laid n (rowsIn x)) long
-            ∙ ap (λ (y : Said (List ℕ)). laid 1024 (rowsIn y)) (f .first);
+            ∙ ap (λ (y : Said (List ℕ)). laid (limit 15) (rowsIn y)) (f .first);
       }
 
 module _ {x : Said (List ℕ)} {table : List ℕ} {k : ℕ} (f : PathsFound x table k) where
   pub paths-taken : take k table ≡ f .what
-  paths-taken = list-taken 1024 (f .what) (f .held) (f .many)
+  paths-taken = list-taken (limit 15) (f .what) (f .held) (f .many)
 
   pub paths-inside : k ≤ length table
-  paths-inside = list-inside 1024 (f .what) (f .held) (f .many)
+  paths-inside = list-inside (limit 15) (f .what) (f .held) (f .many)
 
-  pub paths-short : length table ≤ 1024 → length (take k table) ≤ 1024
+  pub paths-short : length table ≤ limit 15 → length (take k table) ≤ limit 15
   paths-short h = simp length-take (omega arith)
 
 module _ (s : List ℕ) (m : Manifest) (table5 table6 worlds references : List ℕ) where
   abbrev one : Said (List ℕ)
-  one = pathsOf false s table5 (m .worlds) table6 (m .references) 1024
+  one = pathsOf false s table5 (m .worlds) table6 (m .references) (limit 15)
 
   abbrev two : Said (List ℕ)
-  two = pathsOf true s table5 (m .worlds) table6 (m .references) 1024
+  two = pathsOf true s table5 (m .worlds) table6 (m .references) (limit 15)
 
   pub imports-stop : {n p : ℕ} → one ≡ refused n p → pathsListed s m table5 table6 worlds references ≡ refused n p
   unfolding pathsListed
@@ -95,7 +97,7 @@ module _ (s : List ℕ) (m : Manifest) (table5 table6 worlds references : List �
       (roomFor (laidBytes worlds references (take i t) (take e u)) (length d)) d r y
       → Delivers manifestBytes manifestTold (pathsListed s m table5 table6 worlds references) d r y
   paths-delivered {t} {u} {d} {y} {i} {e} {r} f g k =
-      let v : Listing = record { manifest = m; worlds = worlds; references = references; imported = f .what; exported = g .what } in
+      let v : ManifestListing = record { manifest = m; worlds = worlds; references = references; imported = f .what; exported = g .what } in
       delivers manifestBytes manifestTold (manifestBy m (length (f .what)) (length (g .what))) v
       (paths-listed (f .first) (g .first)) refl (λ n p. refl)
       (subst (λ (l : List ℕ). Lays (manifestBy m (length (f .what)) (length l))
@@ -106,29 +108,31 @@ module _ (s : List ℕ) (m : Manifest) (table5 table6 worlds references : List �
       (paths-taken f) k))
 
 -- ---- a manifest that was read, with tables at the limits
-pub record ManifestFound (s : List ℕ) (l : Lent) (m : Manifest) : Type 0 where
+pub record ManifestFound (s : List ℕ) (l : ManifestLent) (m : Manifest) : Type 0 where
   pub what : State
-  pub first : manifestAt s limits ≡ accepted what
+  pub first : manifestAt s manifestLimits ≡ accepted what
   pub is : m ≡ manifestOf what
-  pub held : Holds l limits what
+  pub held : ManifestHolds l manifestLimits what
 
-module _ (s : List ℕ) {l : Lent} {r : ManifestRead} (h : ManifestIs limits (manifestAt s limits) l (saidManifest r)) where
+module _ (s : List ℕ) {l : ManifestLent} {r : ManifestRead} (h : ManifestIs manifestLimits (manifestAt s manifestLimits) l
+    (saidManifest r)) where
   pub manifest-refused : {why : Refusal} → r ≡ ManifestRead.Refused why → manifestListed s ≡ refusedBy why
   unfolding manifestListed
-  manifest-refused e = sym (follow-stops _ (first-refused (manifestAt s limits) manifestOf (sym (h .answer-is) ∙ ap saidManifest e)))
+  manifest-refused e = sym (follow-stops _ (first-refused (manifestAt s manifestLimits) manifestOf
+      (sym (h .answer-is) ∙ ap saidManifest e)))
 
   pub manifest-found : {m : Manifest} → r ≡ ManifestRead.Manifest m → ManifestFound s l m
-  unfolding heldOf
+  unfolding manifestHeld
   manifest-found {m} e =
-      let f = followed (manifestAt s limits) (λ t. accepted (manifestOf t)) (sym (h .answer-is) ∙ ap saidManifest e) in
+      let f = followed (manifestAt s manifestLimits) (λ t. accepted (manifestOf t)) (sym (h .answer-is) ∙ ap saidManifest e) in
       record {
         what = f .what;
         first = f .first;
         is = one-value (sym (f .then));
-        held = subst (λ (x : Said State). Holds l limits (heldOf x)) (f .first) (h .tables-are);
+        held = subst (λ (x : Said State). ManifestHolds l manifestLimits (manifestHeld x)) (f .first) (h .tables-are);
       }
 
-module _ {s : List ℕ} {l : Lent} {m : Manifest} (q : ManifestFound s l m) where
+module _ {s : List ℕ} {l : ManifestLent} {m : Manifest} (q : ManifestFound s l m) where
   abbrev found : State
   found = q .what
 
@@ -140,11 +144,13 @@ module _ {s : List ℕ} {l : Lent} {m : Manifest} (q : ManifestFound s l m) wher
   unfolding manifestOf knownOf
   many-references = ap (λ (v : Manifest). v .references) (q .is)
 
-  pub manifest-counted : length (l .worlds) ≤ 128 → length (l .references) ≤ 7168 → Counted m (l .worlds) (l .references)
+  pub manifest-counted : length (l .worlds) ≤ fullCells 5 → length (l .references) ≤ fullCells 6
+      → ManifestCounted m (l .worlds) (l .references)
   manifest-counted a b =
       record {
-        worlds-in = rows-inside worldCells 2 world-wide 128 (found .worlds) (q .held .worlds-are) many-worlds;
-        references-in = rows-inside referenceCells 7 reference-wide 7168 (found .references) (q .held .references-are) many-references;
+        worlds-in = rows-inside worldCells (width 5) world-wide (fullCells 5) (found .worlds) (q .held .worlds-are) many-worlds;
+        references-in = rows-inside referenceCells (width 6) reference-wide (fullCells 6) (found .references)
+            (q .held .references-are) many-references;
         worlds-few = a;
         references-few = b;
       }
@@ -156,16 +162,16 @@ module _ {s : List ℕ} {l : Lent} {m : Manifest} (q : ManifestFound s l m) wher
       let w : List ℕ = cells worldCells (found .worlds) in
       let u : List ℕ = cells referenceCells (found .references) in
       ap (λ (x : List ℕ). pathsListed s m (l .worlds) (l .references) x (referencesIn m (l .references)))
-      (rows-taken worldCells 2 world-wide 128 (found .worlds) (q .held .worlds-are) many-worlds)
+      (rows-taken worldCells (width 5) world-wide (fullCells 5) (found .worlds) (q .held .worlds-are) many-worlds)
       ∙ ap (λ (x : List ℕ). pathsListed s m (l .worlds) (l .references) w x)
-      (rows-taken referenceCells 7 reference-wide 7168 (found .references) (q .held .references-are) many-references)
+      (rows-taken referenceCells (width 6) reference-wide (fullCells 6) (found .references) (q .held .references-are) many-references)
       ∙ ap (λ (x : List ℕ). pathsListed s m x (l .references) w u) (q .held .worlds-are)
-      ∙ ap (λ (x : List ℕ). pathsListed s m (laid 128 w) x w u) (q .held .references-are)
-      ∙ ap (λ (v : Manifest). pathsListed s v (laid 128 w) (laid 7168 u) w u) (q .is)
+      ∙ ap (λ (x : List ℕ). pathsListed s m (laid (fullCells 5) w) x w u) (q .held .references-are)
+      ∙ ap (λ (v : Manifest). pathsListed s v (laid (fullCells 5) w) (laid (fullCells 6) u) w u) (q .is)
       ∙ follow-goes _ (q .first) refl
 
   pub manifest-delivered : {d y : List ℕ} {r : ManifestTold}
       → Delivers manifestBytes manifestTold
       (pathsListed s m (l .worlds) (l .references) (worldsIn m (l .worlds)) (referencesIn m (l .references))) d r y
       → Delivers manifestBytes manifestTold (manifestListed s) d r y
-  manifest-delivered {d} {y} {r} k = subst (λ (x : Said Listing). Delivers manifestBytes manifestTold x d r y) manifest-listed k
+  manifest-delivered {d} {y} {r} k = subst (λ (x : Said ManifestListing). Delivers manifestBytes manifestTold x d r y) manifest-listed k

@@ -9,21 +9,20 @@ use Rattle.refusal.proofs.Following.{follow-stops}
 use Rattle.table.proofs.Larger.{Sure, same, spare, Full}
 use Rattle.wasm.specs.Module.{Sizes, Parsed, moduleAt, moduleOf, Lent}
 use Rattle.wasm.specs.declared.Module.{Module}
-use Rattle.conform.specs.Sound.{limits}
+use Rattle.conform.specs.Sound.{few, limits}
 use Rattle.conform.proofs.Found.{Found, sections-in, imports-in, exports-in, names-in}
 use Rattle.conform.proofs.Found.{sections-taken, imports-taken, exports-taken, names-taken}
 use Rattle.conform.proofs.Larger.{larger-sure, limits-largest, limits-decide, refused-same}
-use Rattle.checking.specs.Checking.{few}
-use Rattle.writing.specs.Writing.{roomFor, left}
+use Rattle.output.specs.Bytes.{roomFor, left}
 use Rattle.listed.specs.declared.modules.ModuleTold.{ModuleTold}
 use Rattle.listed.specs.Delivered.{housed, Lays, Delivers}
-use Rattle.listed.specs.Modules.{noModule, moduleBy, moduleBytes, moduleTold, takenBytes, Within, Counted}
+use Rattle.listed.specs.Modules.{noModule, moduleBy, moduleBytes, moduleTold, takenBytes, TablesWithin, ModuleCounted}
 use Rattle.listed.proofs.Laying.{delivers, delivers-none}
 
 -- ---- a module that was read
 module _ {file : List ℕ} {z : Sizes} {l : Lent} {m : Module} (q : Found file z l m) where
-  pub module-counted : Within (l .sections) (l .imports) (l .exports) (l .names)
-      → Counted m (l .sections) (l .imports) (l .exports) (l .names)
+  pub module-counted : TablesWithin (l .sections) (l .imports) (l .exports) (l .names)
+      → ModuleCounted m (l .sections) (l .imports) (l .exports) (l .names)
   module-counted w =
       record { sections-in = sections-in q; imports-in = imports-in q; exports-in = exports-in q; names-in = names-in q; within = w }
 
@@ -54,27 +53,29 @@ refusal-settled file z {n} {p} e other k =
     delivers-none moduleBytes (moduleTold (length file)) (refused-same file z limits n p (limits-largest z) other e) k
 
 -- ---- tables for few rows: what is not refused for want of room is the answer, and what is leaves the buffer as it was
-module _ (file : List ℕ) {d y : List ℕ} {r : ModuleTold} (h : Delivers moduleBytes (moduleTold (length file)) (moduleAt file few) d r y) where
-  pub few-settles : (r .number ≡ 13 → ⊥) → Delivers moduleBytes (moduleTold (length file)) (moduleAt file limits) d r y
-  unfolding housed follow
-  few-settles other = by (larger-sure file few limits (limits-largest few))
-    where
-      by : Sure Full (moduleAt file few) (moduleAt file limits) → Delivers moduleBytes (moduleTold (length file)) (moduleAt file limits) d r y
-      by (same e) = subst (λ (x : Said Parsed). Delivers moduleBytes (moduleTold (length file)) x d r y) e h
-      by (spare n p full e) =
-          absurd (other (ap (λ (t : ModuleTold). t .number)
-          (h .answer-is ∙ ap (λ (x : Said Parsed). moduleTold (length file) (housed moduleBytes (length d) x)) e) ∙ full))
+module _ (file : List ℕ) {d y : List ℕ} {r : ModuleTold} (h : Delivers moduleBytes (moduleTold (length file)) (moduleAt file few) d r y)
+  where
+    pub few-settles : (r .number ≡ 13 → ⊥) → Delivers moduleBytes (moduleTold (length file)) (moduleAt file limits) d r y
+    unfolding housed follow
+    few-settles other = by (larger-sure file few limits (limits-largest few))
+      where
+        by : Sure Full (moduleAt file few) (moduleAt file limits)
+            → Delivers moduleBytes (moduleTold (length file)) (moduleAt file limits) d r y
+        by (same e) = subst (λ (x : Said Parsed). Delivers moduleBytes (moduleTold (length file)) x d r y) e h
+        by (spare n p full e) =
+            absurd (other (ap (λ (t : ModuleTold). t .number)
+            (h .answer-is ∙ ap (λ (x : Said Parsed). moduleTold (length file) (housed moduleBytes (length d) x)) e) ∙ full))
 
-  few-leaves : r .number ≡ 13 → y ≡ d
-  unfolding follow
-  few-leaves e = by (housed moduleBytes (length d) (moduleAt file few)) (h .answer-is) (h .output-is)
-    where
-      by : (x : Said Parsed) → r ≡ moduleTold (length file) x → y ≡ left d (follow x (λ v. accepted (moduleBytes v))) → y ≡ d
-      by (accepted v) a o = let z : _≡_ {A = ℕ} 13 0 = sym e ∙ ap (λ (t : ModuleTold). t .number) a in absurd (omega (arith, z))
-      by (refused n p) a o = o
+    few-leaves : r .number ≡ 13 → y ≡ d
+    unfolding follow
+    few-leaves e = by (housed moduleBytes (length d) (moduleAt file few)) (h .answer-is) (h .output-is)
+      where
+        by : (x : Said Parsed) → r ≡ moduleTold (length file) x → y ≡ left d (follow x (λ v. accepted (moduleBytes v))) → y ≡ d
+        by (accepted v) a o = let z : _≡_ {A = ℕ} 13 0 = sym e ∙ ap (λ (t : ModuleTold). t .number) a in absurd (omega (arith, z))
+        by (refused n p) a o = o
 
-  pub few-full : {r1 : ModuleTold} {y1 : List ℕ} → r .number ≡ 13
-      → Delivers moduleBytes (moduleTold (length file)) (moduleAt file limits) y r1 y1
-      → Delivers moduleBytes (moduleTold (length file)) (moduleAt file limits) d r1 y1
-  few-full {r1} {y1} e k =
-      subst (λ (x : List ℕ). Delivers moduleBytes (moduleTold (length file)) (moduleAt file limits) x r1 y1) (few-leaves e) k
+    pub few-full : {r1 : ModuleTold} {y1 : List ℕ} → r .number ≡ 13
+        → Delivers moduleBytes (moduleTold (length file)) (moduleAt file limits) y r1 y1
+        → Delivers moduleBytes (moduleTold (length file)) (moduleAt file limits) d r1 y1
+    few-full {r1} {y1} e k =
+        subst (λ (x : List ℕ). Delivers moduleBytes (moduleTold (length file)) (moduleAt file limits) x r1 y1) (few-leaves e) k

@@ -6,14 +6,16 @@ use mathlib.Core.List.{List, _++_}
 use lib.Dec.{ltb}
 use lib.ListN.{length, take}
 use Rattle.refusal.specs.Pick.{pick}
+use Rattle.refusal.specs.Sizes.{fileLimit}
 use Rattle.refusal.specs.Said.{Said, accepted, refused, follow}
 use Rattle.table.specs.Table.{laid, cells}
-use Rattle.cells.specs.Cells.{bytesOf}
+use Rattle.table.specs.Shape.{width, limit, fullCells}
+use Rattle.output.specs.Cells.{cellBytes}
 use Rattle.wasm.specs.Rows as rows
 use Rattle.wasm.specs.Module.{Parsed, moduleAt}
 use Rattle.conform.specs.Sound.{limits}
-use Rattle.differences.specs.Compared.{Given, given, Lists, compared, Verdict, verdictOf, exportCells, needCells}
-use Rattle.writing.specs.Writing.{roomFor}
+use Rattle.differences.specs.Compared.{Given, given, Lists, compared, Verdict, verdictOn, exportDiffCells, needDiffCells}
+use Rattle.output.specs.Bytes.{roomFor}
 use Rattle.reasons.specs.Reasons.{Diffs, diffs, reasonsTested, reasonsOf}
 use Rattle.listed.specs.Delivered.{Lays}
 use Rattle.listed.specs.declared.comparison.ComparisonTold.{ComparisonTold}
@@ -55,28 +57,29 @@ pub record Comparison : Type 0 where
 
 -- the rows of tables 8 and 9, then the reasons
 unfoldable pub comparisonBytes : Comparison → List ℕ
-comparisonBytes v = bytesOf (cells exportCells (v .lists .exports) ++ cells needCells (v .lists .needs)) ++ v .reasons
+comparisonBytes v = cellBytes (cells exportDiffCells (v .lists .exports) ++ cells needDiffCells (v .lists .needs)) ++ v .reasons
 
 abbrev pub comparisonTold : Said Comparison → ComparisonTold
-comparisonTold (accepted v) = comparisonBy (verdictOf (v .lists)) (length (v .reasons)) (accepted (length (comparisonBytes v)))
+comparisonTold (accepted v) = comparisonBy (verdictOn (v .lists)) (length (v .reasons)) (accepted (length (comparisonBytes v)))
 comparisonTold (refused n p) = noComparison n p
 
 -- the lists in tables at the limits
 abbrev pub tabled : Lists → Diffs
 tabled l =
-    diffs (laid 4096 (cells exportCells (l .exports))) (length (l .exports)) (laid 6144 (cells needCells (l .needs))) (length (l .needs))
+    diffs (laid (fullCells 8) (cells exportDiffCells (l .exports))) (length (l .exports))
+    (laid (fullCells 9) (cells needDiffCells (l .needs))) (length (l .needs))
 
 -- two modules that were read: their lists, and the reasons that their rows give
 unfoldable pub explained : Given → Given → Said Comparison
 explained b c =
-    follow (compared b c 2048 2048) (λ l.
+    follow (compared b c (limit 8) (limit 9)) (λ l.
     follow (reasonsTested b c (tabled l)) (λ u. accepted (record { lists = l; reasons = reasonsOf b c (tabled l) })))
 
 -- what a read leaves of a module, in tables at the limits
 abbrev pub build : List ℕ → Parsed → Given
 build file m =
-    given file (laid 5120 (cells rows.importCells (m .tables .imports))) (length (m .tables .imports))
-    (laid 4096 (cells rows.exportCells (m .tables .exports))) (length (m .tables .exports))
+    given file (laid (fullCells 2) (cells rows.importCells (m .tables .imports))) (length (m .tables .imports))
+    (laid (fullCells 3) (cells rows.exportCells (m .tables .exports))) (length (m .tables .exports))
 
 -- a module that was read against a candidate's file
 unfoldable pub against : Given → List ℕ → Said Comparison
@@ -88,20 +91,20 @@ builds baseline candidate = follow (moduleAt baseline limits) (λ m. against (bu
 -- 14 of either file, the baseline's refusals, the candidate's
 unfoldable pub comparison : List ℕ → List ℕ → Said Comparison
 comparison baseline candidate =
-    pick (ltb 16777216 (length baseline)) (refused 14 0)
-    (pick (ltb 16777216 (length candidate)) (refused 14 0) (builds baseline candidate))
+    pick (ltb fileLimit (length baseline)) (refused 14 0)
+    (pick (ltb fileLimit (length candidate)) (refused 14 0) (builds baseline candidate))
 
 -- ---- for the code
 -- the counts are of rows that lie in the tables, which are at the limits
-pub record Counted (m n : ℕ) (xd cd : List ℕ) : Type 0 where
-  pub exports-in : m * 2 ≤ length xd
-  pub needs-in : n * 3 ≤ length cd
-  pub exports-few : length xd ≤ 4096
-  pub needs-few : length cd ≤ 6144
+pub record ComparisonCounted (m n : ℕ) (xd cd : List ℕ) : Type 0 where
+  pub exports-in : m * width 8 ≤ length xd
+  pub needs-in : n * width 9 ≤ length cd
+  pub exports-few : length xd ≤ fullCells 8
+  pub needs-few : length cd ≤ fullCells 9
 
 -- the bytes of the counted rows
 abbrev pub takenBytes : Diffs → List ℕ
-takenBytes d = bytesOf (take (d .exportCount * 2) (d .exports) ++ take (d .needCount * 3) (d .needs))
+takenBytes d = cellBytes (take (d .exportCount * width 8) (d .exports) ++ take (d .needCount * width 9) (d .needs))
 
 -- then the reasons that the rows give, into so much room
 unfoldable pub explainedBytes : Given → Given → Diffs → ℕ → Said (List ℕ)

@@ -3,3 +3,4 @@ pub mod Delivered
 pub mod Modules
 pub mod Manifests
 pub mod Comparisons
+pub mod Tokens

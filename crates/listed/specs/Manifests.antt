@@ -5,14 +5,15 @@ use mathlib.Core.List.{List, _++_}
 use lib.ListN.{length, take}
 use Rattle.refusal.specs.Said.{Said, accepted, refused, follow}
 use Rattle.table.specs.Table.{laid, cells}
-use Rattle.cells.specs.Cells.{bytesOf}
-use Rattle.wit.specs.Manifest.{State, Sizes, manifestAt, manifestOf, worldCells, referenceCells}
+use Rattle.table.specs.Shape.{width, limit, fullCells}
+use Rattle.output.specs.Cells.{cellBytes}
+use Rattle.wit.specs.Manifest.{State, ManifestSizes, manifestAt, manifestOf, worldCells, referenceCells}
 use Rattle.wit.specs.declared.Manifest.{Manifest}
-use Rattle.references.specs.Queries.{pathsOf}
+use Rattle.reference_rows.specs.Queries.{pathsOf}
 use Rattle.listed.specs.declared.manifests.ManifestTold.{ManifestTold}
 
 -- what is listed: the rows of tables 5 and 6, and the rows of table 6 by the paths that are imported and by those that are exported
-pub record Listing : Type 0 where
+pub record ManifestListing : Type 0 where
   pub manifest : Manifest
   pub worlds : List ℕ
   pub references : List ℕ
@@ -20,9 +21,9 @@ pub record Listing : Type 0 where
   pub exported : List ℕ
 
 abbrev pub laidBytes : List ℕ → List ℕ → List ℕ → List ℕ → List ℕ
-laidBytes worlds references imported exported = bytesOf (worlds ++ references ++ imported ++ exported)
+laidBytes worlds references imported exported = cellBytes (worlds ++ references ++ imported ++ exported)
 
-abbrev pub manifestBytes : Listing → List ℕ
+abbrev pub manifestBytes : ManifestListing → List ℕ
 manifestBytes l = laidBytes (l .worlds) (l .references) (l .imported) (l .exported)
 
 -- a refusal: all but number and place is zero
@@ -58,42 +59,43 @@ manifestBy m i e (accepted n) =
     }
 manifestBy m i e (refused n p) = noManifest n p
 
-abbrev pub manifestTold : Said Listing → ManifestTold
+abbrev pub manifestTold : Said ManifestListing → ManifestTold
 manifestTold (accepted l) = manifestBy (l .manifest) (length (l .imported)) (length (l .exported)) (accepted (length (manifestBytes l)))
 manifestTold (refused n p) = noManifest n p
 
 -- of tables 5 and 6 as they lie, with the cells of their rows: the paths, in lists at the limit
-unfoldable pub pathsListed : List ℕ → Manifest → List ℕ → List ℕ → List ℕ → List ℕ → Said Listing
+unfoldable pub pathsListed : List ℕ → Manifest → List ℕ → List ℕ → List ℕ → List ℕ → Said ManifestListing
 pathsListed s m table5 table6 worlds references =
-    follow (pathsOf false s table5 (m .worlds) table6 (m .references) 1024) (λ i.
-    follow (pathsOf true s table5 (m .worlds) table6 (m .references) 1024) (λ e.
+    follow (pathsOf false s table5 (m .worlds) table6 (m .references) (limit 15)) (λ i.
+    follow (pathsOf true s table5 (m .worlds) table6 (m .references) (limit 15)) (λ e.
     accepted (record { manifest = m; worlds = worlds; references = references; imported = i; exported = e })))
 
 -- tables at the limits
-abbrev pub limits : Sizes
-limits = record { worlds = 128; references = 7168 }
+abbrev pub manifestLimits : ManifestSizes
+manifestLimits = record { worlds = fullCells 5; references = fullCells 6 }
 
-unfoldable pub manifestListed : List ℕ → Said Listing
+unfoldable pub manifestListed : List ℕ → Said ManifestListing
 manifestListed s =
-    follow (manifestAt s limits) (λ t.
-    pathsListed s (manifestOf t) (laid 128 (cells worldCells (t .worlds))) (laid 7168 (cells referenceCells (t .references)))
+    follow (manifestAt s manifestLimits) (λ t.
+    pathsListed s (manifestOf t) (laid (fullCells 5) (cells worldCells (t .worlds)))
+    (laid (fullCells 6) (cells referenceCells (t .references)))
     (cells worldCells (t .worlds)) (cells referenceCells (t .references)))
 
 -- ---- for the code
 -- the counts are of rows that lie in the tables, which are at the limits
-pub record Counted (m : Manifest) (worlds references : List ℕ) : Type 0 where
-  pub worlds-in : m .worlds * 2 ≤ length worlds
-  pub references-in : m .references * 7 ≤ length references
-  pub worlds-few : length worlds ≤ 128
-  pub references-few : length references ≤ 7168
+pub record ManifestCounted (m : Manifest) (worlds references : List ℕ) : Type 0 where
+  pub worlds-in : m .worlds * width 5 ≤ length worlds
+  pub references-in : m .references * width 6 ≤ length references
+  pub worlds-few : length worlds ≤ fullCells 5
+  pub references-few : length references ≤ fullCells 6
 
 pub record Short (imported exported : List ℕ) : Type 0 where
-  pub imported-few : length imported ≤ 1024
-  pub exported-few : length exported ≤ 1024
+  pub imported-few : length imported ≤ limit 15
+  pub exported-few : length exported ≤ limit 15
 
 -- the cells of the counted rows
 abbrev pub worldsIn : Manifest → List ℕ → List ℕ
-worldsIn m table5 = take (m .worlds * 2) table5
+worldsIn m table5 = take (m .worlds * width 5) table5
 
 abbrev pub referencesIn : Manifest → List ℕ → List ℕ
-referencesIn m table6 = take (m .references * 7) table6
+referencesIn m table6 = take (m .references * width 6) table6

@@ -5,7 +5,8 @@ use mathlib.Core.List.{List, _++_}
 use lib.ListN.{length, take}
 use Rattle.refusal.specs.Said.{Said, accepted, refused}
 use Rattle.table.specs.Table.{cells}
-use Rattle.cells.specs.Cells.{bytesOf}
+use Rattle.table.specs.Shape.{width, fullCells}
+use Rattle.output.specs.Cells.{cellBytes}
 use Rattle.wasm.specs.Rows.{importCells, exportCells, symbolCells}
 use Rattle.wasm.specs.Module.{Parsed, moduleOf, sectionCells}
 use Rattle.wasm.specs.declared.Module.{Module}
@@ -51,7 +52,7 @@ moduleBy m (refused n p) = noModule n p
 -- the rows of tables 1 to 4
 unfoldable pub moduleBytes : Parsed → List ℕ
 moduleBytes m =
-    bytesOf (
+    cellBytes (
     cells sectionCells (m .tables .sections)
     ++ cells importCells (m .tables .imports)
     ++ cells exportCells (m .tables .exports)
@@ -64,25 +65,25 @@ moduleTold n (refused k p) = noModule k p
 
 -- ---- for the code
 -- tables within the limits
-pub record Within (sections imports exports names : List ℕ) : Type 0 where
-  pub sections-few : length sections ≤ 1280
-  pub imports-few : length imports ≤ 5120
-  pub exports-few : length exports ≤ 4096
-  pub names-few : length names ≤ 12288
+pub record TablesWithin (sections imports exports names : List ℕ) : Type 0 where
+  pub sections-few : length sections ≤ fullCells 1
+  pub imports-few : length imports ≤ fullCells 2
+  pub exports-few : length exports ≤ fullCells 3
+  pub names-few : length names ≤ fullCells 4
 
 -- the counts are of rows that lie in them
-pub record Counted (m : Module) (sections imports exports names : List ℕ) : Type 0 where
-  pub sections-in : m .sections * 5 ≤ length sections
-  pub imports-in : m .imports * 5 ≤ length imports
-  pub exports-in : m .exports * 4 ≤ length exports
-  pub names-in : m .symbols * 3 ≤ length names
-  pub within : Within sections imports exports names
+pub record ModuleCounted (m : Module) (sections imports exports names : List ℕ) : Type 0 where
+  pub sections-in : m .sections * width 1 ≤ length sections
+  pub imports-in : m .imports * width 2 ≤ length imports
+  pub exports-in : m .exports * width 3 ≤ length exports
+  pub names-in : m .symbols * width 4 ≤ length names
+  pub within : TablesWithin sections imports exports names
 
 -- the bytes of the counted rows
 abbrev pub takenBytes : Module → List ℕ → List ℕ → List ℕ → List ℕ → List ℕ
 takenBytes m sections imports exports names =
-    bytesOf (
-    take (m .sections * 5) sections
-    ++ take (m .imports * 5) imports
-    ++ take (m .exports * 4) exports
-    ++ take (m .symbols * 3) names)
+    cellBytes (
+    take (m .sections * width 1) sections
+    ++ take (m .imports * width 2) imports
+    ++ take (m .exports * width 3) exports
+    ++ take (m .symbols * width 4) names)

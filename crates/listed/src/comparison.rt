@@ -3,15 +3,25 @@ use crate::lists::lay_two;
 use compat::Compared;
 use compat::compare_modules;
 use reasons::reasons_from;
+use refusal::MAX_FILE;
 use refusal::Refusal;
 use refusal::Written;
+use table::shape::EXPORT_CELLS;
+use table::shape::EXPORT_DIFF_CELLS;
+use table::shape::EXPORT_DIFF_WIDTH;
+use table::shape::IMPORT_CELLS;
+use table::shape::NAME_CELLS;
+use table::shape::NEED_DIFF_CELLS;
+use table::shape::NEED_DIFF_WIDTH;
+use table::shape::SECTION_CELLS;
 use wasm::ModuleRead;
 ghost use mathlib.Core.Path.{_≡_};
 ghost use Rattle.refusal.specs.Said.{numberOf, placeOf};
 ghost use Rattle.differences.specs.Compared.{given};
 ghost use Rattle.reasons.specs.Reasons.{diffs};
 ghost use Rattle.listed.specs.Delivered.{Delivers};
-ghost use Rattle.listed.specs.Comparisons.{noComparison, comparisonBytes, comparisonTold, Counted, Explains, explained, against};
+ghost use Rattle.listed.specs.Comparisons.{noComparison, comparisonBytes, comparisonTold, ComparisonCounted, Explains};
+ghost use Rattle.listed.specs.Comparisons.{explained, against};
 ghost use Rattle.listed.specs.Comparisons.{builds, comparison};
 
 // How long the lists of differences are, whether nothing is broken, how many bytes the reasons are, and how many were written in all.
@@ -59,13 +69,13 @@ fn lay_comparison<'a, 'b, 'c, 'd, 'e, 'f, 'g, 'h>(
     compatible: bool,
     out: &'h mut [u8],
 ) -> ComparisonTold
-    requires { ⌜ Counted exports capabilities (now xd) (now cd) ⌝ }
+    requires { ⌜ ComparisonCounted exports capabilities (now xd) (now cd) ⌝ }
     ensures { λ r. ⌜ Explains (given (now (baseline .entry)) (now (bi .entry)) nbi (now (be .entry)) nbe)
         (given (now (candidate .entry)) (now (ci .entry)) nci (now (ce .entry)) nce)
         (diffs (now (xd .entry)) exports (now (cd .entry)) capabilities) compatible (now (out .entry)) r (now (out .exit)) ⌝ }
 {
-    let a = exports * 2;
-    let b = capabilities * 3;
+    let a = exports * EXPORT_DIFF_WIDTH;
+    let b = capabilities * NEED_DIFF_WIDTH;
     let first = (a + b) * 8;
     match reasons_from(
         baseline,
@@ -120,8 +130,8 @@ fn list_differences<'a, 'b, 'c, 'd, 'e, 'f>(
         (given (now (candidate .entry)) (now (ci .entry)) nci (now (ce .entry)) nce))
         (now (out .entry)) r (now (out .exit)) ⌝ }
 {
-    let mut xd = [0usize; 4096];
-    let mut cd = [0usize; 6144];
+    let mut xd = [0usize; EXPORT_DIFF_CELLS];
+    let mut cd = [0usize; NEED_DIFF_CELLS];
     match compare_modules(
         baseline,
         bi,
@@ -176,10 +186,10 @@ fn list_against<'a, 'b, 'c, 'd>(
         (against (given (now (baseline .entry)) (now (bi .entry)) nbi (now (be .entry)) nbe) (now (candidate .entry)))
         (now (out .entry)) r (now (out .exit)) ⌝ }
 {
-    let mut sections = [0usize; 1280];
-    let mut imports = [0usize; 5120];
-    let mut exports = [0usize; 4096];
-    let mut names = [0usize; 12288];
+    let mut sections = [0usize; SECTION_CELLS];
+    let mut imports = [0usize; IMPORT_CELLS];
+    let mut exports = [0usize; EXPORT_CELLS];
+    let mut names = [0usize; NAME_CELLS];
     match wasm::read_module(
         candidate,
         &mut sections,
@@ -209,10 +219,10 @@ fn list_builds<'a, 'b>(baseline: &'a [u8], candidate: &'a [u8], out: &'b mut [u8
     ensures { λ r. ⌜ Delivers comparisonBytes comparisonTold (builds (now (baseline .entry)) (now (candidate .entry)))
         (now (out .entry)) r (now (out .exit)) ⌝ }
 {
-    let mut sections = [0usize; 1280];
-    let mut imports = [0usize; 5120];
-    let mut exports = [0usize; 4096];
-    let mut names = [0usize; 12288];
+    let mut sections = [0usize; SECTION_CELLS];
+    let mut imports = [0usize; IMPORT_CELLS];
+    let mut exports = [0usize; EXPORT_CELLS];
+    let mut names = [0usize; NAME_CELLS];
     match wasm::read_module(
         baseline,
         &mut sections,
@@ -242,10 +252,10 @@ pub fn list_comparison<'a, 'b>(
     ensures { λ r. ⌜ Delivers comparisonBytes comparisonTold (comparison (now (baseline .entry)) (now (candidate .entry)))
         (now (out .entry)) r (now (out .exit)) ⌝ }
 {
-    if baseline.len() > 16777216 {
+    if baseline.len() > MAX_FILE {
         return no_comparison(Refusal::TooLong);
     }
-    if candidate.len() > 16777216 {
+    if candidate.len() > MAX_FILE {
         return no_comparison(Refusal::TooLong);
     }
     list_builds(baseline, candidate, out)

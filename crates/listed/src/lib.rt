@@ -3,3 +3,4 @@ pub mod comparison;
 mod lists;
 pub mod manifests;
 pub mod modules;
+pub mod tokens;

@@ -1,12 +1,13 @@
 // Lists of cells, one after another.
-use cells::put_cells;
+use output::cells::put_cells;
 use refusal::Refusal;
 use refusal::Written;
 ghost use Prim.Native.Nat.{_+_, _≤_};
 ghost use mathlib.Core.List.{_++_};
 ghost use lib.ListN.{length};
-ghost use Rattle.cells.specs.Cells.{bytesOf};
-ghost use Rattle.writing.specs.Writing.{Formed};
+ghost use Rattle.output.specs.Cells.{cellBytes};
+ghost use Rattle.output.specs.Bytes.{Formed};
+ghost use Rattle.listed.specs.Delivered.{mostCells};
 
 // Four lists into the buffer, where it has room for all of them.
 pub(crate) fn lay_four(
@@ -16,8 +17,8 @@ pub(crate) fn lay_four(
     d: &[usize],
     out: &mut [u8],
 ) -> Written
-    requires { ⌜ length (now a) + length (now b) + length (now c) + length (now d) ≤ 65536 ⌝ }
-    ensures { λ r. ⌜ Formed (bytesOf (now (a .entry) ++ now (b .entry) ++ now (c .entry) ++ now (d .entry)))
+    requires { ⌜ length (now a) + length (now b) + length (now c) + length (now d) ≤ mostCells ⌝ }
+    ensures { λ r. ⌜ Formed (cellBytes (now (a .entry) ++ now (b .entry) ++ now (c .entry) ++ now (d .entry)))
         (now (out .entry)) r (now (out .exit)) ⌝ }
 {
     let needed = (a.len() + b.len() + c.len() + d.len()) * 8;
@@ -33,8 +34,8 @@ pub(crate) fn lay_four(
 
 // Two lists.
 pub(crate) fn lay_two(a: &[usize], b: &[usize], out: &mut [u8]) -> Written
-    requires { ⌜ length (now a) + length (now b) ≤ 65536 ⌝ }
-    ensures { λ r. ⌜ Formed (bytesOf (now (a .entry) ++ now (b .entry))) (now (out .entry)) r (now (out .exit)) ⌝ }
+    requires { ⌜ length (now a) + length (now b) ≤ mostCells ⌝ }
+    ensures { λ r. ⌜ Formed (cellBytes (now (a .entry) ++ now (b .entry))) (now (out .entry)) r (now (out .exit)) ⌝ }
 {
     let needed = (a.len() + b.len()) * 8;
     if out.len() < needed {

@@ -1,19 +1,24 @@
 // wit.rs: a manifest's text, as the rows of tables 5 and 6 and the two sorted lists of paths.
 use crate::lists::lay_four;
-use references::all_exports;
-use references::all_imports;
+use reference_rows::all_exports;
+use reference_rows::all_imports;
 use refusal::Count;
 use refusal::Refusal;
 use refusal::Written;
+use table::shape::MAX_SORTED;
+use table::shape::REFERENCE_CELLS;
+use table::shape::REFERENCE_WIDTH;
+use table::shape::WORLD_CELLS;
+use table::shape::WORLD_WIDTH;
 use wit::Manifest;
 use wit::ManifestRead;
 ghost use mathlib.Core.Path.{_≡_};
 ghost use lib.ListN.{length};
 ghost use Rattle.refusal.specs.Said.{numberOf, placeOf, saidWritten};
-ghost use Rattle.writing.specs.Writing.{roomFor};
+ghost use Rattle.output.specs.Bytes.{roomFor};
 ghost use Rattle.listed.specs.Delivered.{Lays, Delivers};
 ghost use Rattle.listed.specs.Manifests.{noManifest, manifestBy, manifestBytes, manifestTold, worldsIn, referencesIn};
-ghost use Rattle.listed.specs.Manifests.{Counted, Short, laidBytes, pathsListed, manifestListed};
+ghost use Rattle.listed.specs.Manifests.{ManifestCounted, Short, laidBytes, pathsListed, manifestListed};
 
 // The package, how many rows the tables have, how long the lists of imported and exported paths are, and how many bytes these are.
 #[repr(C)]
@@ -76,14 +81,14 @@ fn lay_manifest(
     exported: &[usize],
     out: &mut [u8],
 ) -> ManifestTold
-    requires { ⌜ Counted m (now worlds) (now references) ⌝ }
+    requires { ⌜ ManifestCounted m (now worlds) (now references) ⌝ }
     requires { ⌜ Short (now imported) (now exported) ⌝ }
     ensures { λ r. ⌜ Lays (manifestBy m (length (now (imported .entry))) (length (now (exported .entry))))
         (roomFor (laidBytes (worldsIn m (now (worlds .entry))) (referencesIn m (now (references .entry)))
         (now (imported .entry)) (now (exported .entry))) (length (now (out .entry)))) (now (out .entry)) r (now (out .exit)) ⌝ }
 {
-    let a = m.worlds * 2;
-    let b = m.references * 7;
+    let a = m.worlds * WORLD_WIDTH;
+    let b = m.references * REFERENCE_WIDTH;
     let w = lay_four(&worlds[..a], &references[..b], imported, exported, out);
     manifest_of(m, imported.len(), exported.len(), w)
 }
@@ -96,7 +101,7 @@ fn list_paths(
     references: &[usize],
     out: &mut [u8],
 ) -> ManifestTold
-    requires { ⌜ Counted m (now worlds) (now references) ⌝ }
+    requires { ⌜ ManifestCounted m (now worlds) (now references) ⌝ }
     ensures { λ r. ⌜ Delivers manifestBytes manifestTold
         (pathsListed (now (text .entry)) m (now (worlds .entry)) (now (references .entry))
         (worldsIn m (now (worlds .entry))) (referencesIn m (now (references .entry))))
@@ -104,8 +109,8 @@ fn list_paths(
 {
     let n = m.worlds;
     let k = m.references;
-    let mut imported = [0usize; 1024];
-    let mut exported = [0usize; 1024];
+    let mut imported = [0usize; MAX_SORTED];
+    let mut exported = [0usize; MAX_SORTED];
     match all_imports(text, worlds, n, references, k, &mut imported) {
         Count::Refused(why) => no_manifest(why),
         Count::Rows(i) => match all_exports(text, worlds, n, references, k, &mut exported) {
@@ -126,8 +131,8 @@ fn list_paths(
 pub fn list_manifest(text: &[u8], out: &mut [u8]) -> ManifestTold
     ensures { λ r. ⌜ Delivers manifestBytes manifestTold (manifestListed (now (text .entry))) (now (out .entry)) r (now (out .exit)) ⌝ }
 {
-    let mut worlds = [0usize; 128];
-    let mut references = [0usize; 7168];
+    let mut worlds = [0usize; WORLD_CELLS];
+    let mut references = [0usize; REFERENCE_CELLS];
     match wit::read_manifest(text, &mut worlds, &mut references) {
         ManifestRead::Refused(why) => no_manifest(why),
         ManifestRead::Manifest(m) => list_paths(text, m, &worlds, &references, out),

@@ -2,17 +2,35 @@
 use crate::lists::lay_four;
 use refusal::Refusal;
 use refusal::Written;
+use table::shape::EXPORT_CELLS;
+use table::shape::EXPORT_WIDTH;
+use table::shape::FEW_EXPORT_CELLS;
+use table::shape::FEW_IMPORT_CELLS;
+use table::shape::FEW_NAME_CELLS;
+use table::shape::FEW_SECTION_CELLS;
+use table::shape::IMPORT_CELLS;
+use table::shape::IMPORT_WIDTH;
+use table::shape::NAME_CELLS;
+use table::shape::NAME_WIDTH;
+use table::shape::SECTION_CELLS;
+use table::shape::SECTION_WIDTH;
 use wasm::Module;
 use wasm::ModuleRead;
 ghost use mathlib.Core.Path.{_≡_};
 ghost use lib.ListN.{length};
 ghost use Rattle.refusal.specs.Said.{numberOf, placeOf, saidWritten};
 ghost use Rattle.wasm.specs.Module.{moduleAt, sizes};
-ghost use Rattle.conform.specs.Sound.{limits};
-ghost use Rattle.checking.specs.Checking.{few};
-ghost use Rattle.writing.specs.Writing.{roomFor};
+ghost use Rattle.conform.specs.Sound.{few, limits};
+ghost use Rattle.output.specs.Bytes.{roomFor};
 ghost use Rattle.listed.specs.Delivered.{Lays, Delivers};
-ghost use Rattle.listed.specs.Modules.{noModule, moduleBy, moduleBytes, moduleTold, Within, Counted, takenBytes};
+ghost use Rattle.listed.specs.Modules.{noModule, moduleBy, moduleBytes, moduleTold, TablesWithin, ModuleCounted, takenBytes};
+
+// The cells of tables for the smallest modules: 8 sections, 4 imports, 4 exports, no function name.
+const LEAST_SECTIONS: usize = 8 * SECTION_WIDTH;
+
+const LEAST_IMPORTS: usize = 4 * IMPORT_WIDTH;
+
+const LEAST_EXPORTS: usize = 4 * EXPORT_WIDTH;
 
 // Version, file length, the module's name, how many rows the tables have, and how many bytes these are.
 #[repr(C)]
@@ -81,15 +99,15 @@ fn lay_module(
     names: &[usize],
     out: &mut [u8],
 ) -> ModuleTold
-    requires { ⌜ Counted m (now sections) (now imports) (now exports) (now names) ⌝ }
+    requires { ⌜ ModuleCounted m (now sections) (now imports) (now exports) (now names) ⌝ }
     ensures { λ r. ⌜ Lays (moduleBy m)
         (roomFor (takenBytes m (now (sections .entry)) (now (imports .entry)) (now (exports .entry)) (now (names .entry)))
         (length (now (out .entry)))) (now (out .entry)) r (now (out .exit)) ⌝ }
 {
-    let a = m.sections * 5;
-    let b = m.imports * 5;
-    let c = m.exports * 4;
-    let d = m.symbols * 3;
+    let a = m.sections * SECTION_WIDTH;
+    let b = m.imports * IMPORT_WIDTH;
+    let c = m.exports * EXPORT_WIDTH;
+    let d = m.symbols * NAME_WIDTH;
     module_of(
         m,
         lay_four(
@@ -111,7 +129,7 @@ fn list_with(
     names: &mut [usize],
     out: &mut [u8],
 ) -> ModuleTold
-    requires { ⌜ Within (now sections) (now imports) (now exports) (now names) ⌝ }
+    requires { ⌜ TablesWithin (now sections) (now imports) (now exports) (now names) ⌝ }
     ensures { λ r. ⌜ Delivers moduleBytes (moduleTold (length (now (file .entry)))) (moduleAt (now (file .entry))
         (sizes (now (sections .entry)) (now (imports .entry)) (now (exports .entry)) (now (names .entry))))
         (now (out .entry)) r (now (out .exit)) ⌝ }
@@ -126,10 +144,10 @@ fn list_few(file: &[u8], out: &mut [u8]) -> ModuleTold
     ensures { λ r. ⌜ Delivers moduleBytes (moduleTold (length (now (file .entry)))) (moduleAt (now (file .entry)) few)
         (now (out .entry)) r (now (out .exit)) ⌝ }
 {
-    let mut sections = [0usize; 80];
-    let mut imports = [0usize; 80];
-    let mut exports = [0usize; 64];
-    let mut names = [0usize; 24];
+    let mut sections = [0usize; FEW_SECTION_CELLS];
+    let mut imports = [0usize; FEW_IMPORT_CELLS];
+    let mut exports = [0usize; FEW_EXPORT_CELLS];
+    let mut names = [0usize; FEW_NAME_CELLS];
     list_with(
         file,
         &mut sections,
@@ -144,10 +162,10 @@ fn list_all(file: &[u8], out: &mut [u8]) -> ModuleTold
     ensures { λ r. ⌜ Delivers moduleBytes (moduleTold (length (now (file .entry)))) (moduleAt (now (file .entry)) limits)
         (now (out .entry)) r (now (out .exit)) ⌝ }
 {
-    let mut sections = [0usize; 1280];
-    let mut imports = [0usize; 5120];
-    let mut exports = [0usize; 4096];
-    let mut names = [0usize; 12288];
+    let mut sections = [0usize; SECTION_CELLS];
+    let mut imports = [0usize; IMPORT_CELLS];
+    let mut exports = [0usize; EXPORT_CELLS];
+    let mut names = [0usize; NAME_CELLS];
     list_with(
         file,
         &mut sections,
@@ -179,9 +197,9 @@ fn list_from(file: &[u8], more: bool, out: &mut [u8]) -> ModuleTold
     if more {
         return list_more(file, out);
     }
-    let mut sections = [0usize; 40];
-    let mut imports = [0usize; 20];
-    let mut exports = [0usize; 16];
+    let mut sections = [0usize; LEAST_SECTIONS];
+    let mut imports = [0usize; LEAST_IMPORTS];
+    let mut exports = [0usize; LEAST_EXPORTS];
     let mut names = [0usize; 0];
     match wasm::read_module(file, &mut sections, &mut imports, &mut exports, &mut names) {
         ModuleRead::Module(m) => lay_module(m, &sections, &imports, &exports, &names, out),

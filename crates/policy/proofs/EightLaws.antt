@@ -8,16 +8,17 @@ use lib.ListN.{length, getD, drop}
 use lib.Dec.{ltb, leb}
 use borrow.Author.Tests.{ltb-false, leb-true, lt-ltb, le-ltb}
 use Rattle.refusal.specs.Pick.{pick}
+use Rattle.refusal.specs.Sizes.{textLimit}
 use Rattle.refusal.specs.Said.{accepted, refused, Said, refusedBy, follow, saidAnswer}
 use Rattle.refusal.proofs.Following.{never, followed}
 use Rattle.refusal.specs.declared.Answer.{Answer}
 use Rattle.refusal.specs.declared.Refusal.{Refusal}
 use Rattle.text.specs.Utf8.{upTo}
-use Rattle.pieces.specs.Piece.{first}
+use Rattle.text.specs.Piece.{first}
 use Rattle.policy.specs.declared.Slot.{Slot}
-use Rattle.policy.specs.Eight.{noSlot, firstBad, FitsAll, slotOf, eight, rangesTest, policyTest}
+use Rattle.policy.specs.Eight.{noSlot, firstBad, SlotsFit, slotOf, eight, rangesTest, policyTest}
 use Rattle.policy.specs.declared.Policy.{Policy}
-use Rattle.pieces.specs.Whole.{wholeText}
+use Rattle.text.specs.Whole.{wholeText}
 
 -- ---- the first range that leaves n bytes
 module _ (n : ℕ) (xs : List Slot) (i : ℕ) where
@@ -74,7 +75,7 @@ module _ (n : ℕ) (p : Policy) where
   unfolding firstBad eight
   bad-eight e = rw e
 
-  pub all-fit : firstBad n (eight p) ≡ 8 → FitsAll n (p .rules)
+  pub all-fit : firstBad n (eight p) ≡ 8 → SlotsFit n (p .rules)
   all-fit e i h = rw (eight-same p i h) at (bad-none n (eight p) i (unfold eight in e) (unfold eight in omega arith))
 
   pub name-fits : firstBad n (eight p) ≡ 8 → p .start + p .size ≤ n
@@ -112,20 +113,20 @@ module _ (s : List ℕ) (p : Policy) {a : Answer} (tested : saidAnswer a ≡ who
     test-good h = sym (good ∙ rw (← f, le-ltb k 8 h))
 
 pub record Tested (s : List ℕ) (p : Policy) : Type 0 where
-  pub short : length s ≤ 65536
-  pub rules : FitsAll (length s) (p .rules)
+  pub short : length s ≤ textLimit
+  pub rules : SlotsFit (length s) (p .rules)
   pub name : p .start + p .size ≤ length s
 
-whole-short : (s : List ℕ) → wholeText s ≡ accepted tt → length s ≤ 65536
+whole-short : (s : List ℕ) → wholeText s ≡ accepted tt → length s ≤ textLimit
 unfolding wholeText
-whole-short s e = by (ltb 65536 (length s)) refl e
+whole-short s e = by (ltb textLimit (length s)) refl e
   where
     rest : Said (Unit {0})
     rest = pick (ltb (upTo s) (length s)) (refused 4 (upTo s)) (accepted tt)
 
-    by : (t : Bool) → ltb 65536 (length s) ≡ t → pick t (refused 14 0) rest ≡ accepted tt → length s ≤ 65536
+    by : (t : Bool) → ltb textLimit (length s) ≡ t → pick t (refused 14 0) rest ≡ accepted tt → length s ≤ textLimit
     by true q e = absurd (never e)
-    by false q e = ltb-false 65536 (length s) q
+    by false q e = ltb-false textLimit (length s) q
 
 ranges-good : (n : ℕ) (p : Policy) → rangesTest n p ≡ accepted tt → firstBad n (eight p) ≡ 8
 unfolding rangesTest

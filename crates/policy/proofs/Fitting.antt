@@ -10,12 +10,12 @@ use borrow.Author.Tests.{le-leb}
 use Rattle.refusal.specs.Pick.{pick}
 use Rattle.refusal.specs.Said.{Said, accepted, refused, follow}
 use Rattle.refusal.proofs.Following.{never, one-value, followed}
-use Rattle.pieces.specs.Whole.{wholeText}
-use Rattle.pieces.specs.Piece.{Piece}
+use Rattle.text.specs.Whole.{wholeText}
+use Rattle.text.specs.Piece.{Piece}
 use Rattle.policy.specs.Piece.{linesOf}
-use Rattle.policy.specs.Directive.{Directive, blank, wrong, called, preset, plain, listed, directive, fault}
+use Rattle.policy.specs.Directive.{Directive, blank, wrong, called, preset, plain, listed, policyDirective, fault}
 use Rattle.policy.specs.Reader.{slot, stanceOf, zeroPolicy, obey, run, readWith, readPolicy}
-use Rattle.policy.specs.Eight.{noSlot, slotOf, eight, firstBad, rangesTest, policyTest, Fits}
+use Rattle.policy.specs.Eight.{noSlot, slotOf, eight, firstBad, rangesTest, policyTest, SlotFits}
 use Rattle.policy.specs.declared.Slot.{Slot}
 use Rattle.policy.specs.declared.Policy.{Policy}
 use Rattle.policy.proofs.Lines.{EachPiece, none, more}
@@ -23,7 +23,7 @@ use Rattle.policy.proofs.Meaning.{PartOf, Within, w-called, w-listed, d
 
 -- every rule's range, and the name's, within n bytes
 record FitsIn (n : ℕ) (v : Policy) : Type 0 where
-  rules : (i : ℕ) → Fits n (slotOf v i)
+  rules : (i : ℕ) → SlotFits n (slotOf v i)
   name : v .start + v .size ≤ n
 
 part-fits : (s : List ℕ) (p : Piece) → PartOf s p → p .at + length (p .bytes) ≤ length s
@@ -36,8 +36,8 @@ part-fits s p q =
       length-append (p .bytes) (q .aft),
     )
 
-set-fits : (n : ℕ) (l : List Slot) (d : ℕ) (x : Slot) → Fits n x → ((i : ℕ) → Fits n (getD l i noSlot)) → (i : ℕ)
-    → Fits n (getD (set l d x) i noSlot)
+set-fits : (n : ℕ) (l : List Slot) (d : ℕ) (x : Slot) → SlotFits n x → ((i : ℕ) → SlotFits n (getD l i noSlot)) → (i : ℕ)
+    → SlotFits n (getD (set l d x) i noSlot)
 set-fits n [] d x f h i = h i
 set-fits n (y ∷ l) zero x f h zero = f
 set-fits n (y ∷ l) zero x f h (suc i) = h (suc i)
@@ -64,10 +64,11 @@ module _ (s : List ℕ) where
   unfolding run
   run-fits n v w [] q f e = let k : v ≡ w = one-value e in rw (← k) f
   run-fits n v w (p ∷ ps) (more q qs) f e =
-      by (fault (directive p)) refl (λ r. run-fits (n + 1) (obey (directive p) v) w ps qs (obey-fits (directive p) v (directive-in s p q) f) r)
+      by (fault (policyDirective p)) refl (λ r. run-fits (n + 1) (obey (policyDirective p) v) w ps qs
+      (obey-fits (policyDirective p) v (directive-in s p q) f) r)
     where
-      by : (k : ℕ) → fault (directive p) ≡ k
-          → (run obey (n + 1) (obey (directive p) v) ps ≡ accepted w → FitsIn (length s) w) → FitsIn (length s) w
+      by : (k : ℕ) → fault (policyDirective p) ≡ k
+          → (run obey (n + 1) (obey (policyDirective p) v) ps ≡ accepted w → FitsIn (length s) w) → FitsIn (length s) w
       by zero k ih = ih (rw (k, run) at e)
       by (suc m) k ih = absurd (never (rw (k, run) at e))
 
@@ -75,7 +76,7 @@ module _ (s : List ℕ) where
   unfolding zeroPolicy
   zero-fits = record { rules = λ i. none-fits 7 i; name = omega arith }
     where
-      none-fits : (k i : ℕ) → Fits (length s) (getD (replicate k noSlot) i noSlot)
+      none-fits : (k i : ℕ) → SlotFits (length s) (getD (replicate k noSlot) i noSlot)
       none-fits zero i = omega arith
       none-fits (suc k) zero = omega arith
       none-fits (suc k) (suc i) = none-fits k i
@@ -84,7 +85,8 @@ module _ (s : List ℕ) where
 none-bad : (n : ℕ) (p : Policy) → FitsIn n p → rangesTest n p ≡ accepted tt
 unfolding rangesTest firstBad eight
 none-bad n p f =
-    let at : (i : ℕ) → leb (slotOf p i .from + slotOf p i .len) n ≡ true = λ i. le-leb (slotOf p i .from + slotOf p i .len) n (f .rules i) in
+    let at : (i : ℕ) → leb (slotOf p i .from + slotOf p i .len) n
+    ≡ true = λ i. le-leb (slotOf p i .from + slotOf p i .len) n (f .rules i) in
     rw (at 0, at 1, at 2, at 3, at 4, at 5, at 6, le-leb (p .start + p .size) n (f .name))
 
 pub read-tested : (s : List ℕ) (p : Policy) → readPolicy s ≡ accepted p → policyTest s p ≡ accepted tt

@@ -7,7 +7,7 @@ use native.Mathlib.Nat.{add-zero, suc-add, add-suc, le-of-suc-le-suc, not-suc-le
 use lib.ListN.{length, take, drop, length-drop}
 use Rattle.text.specs.Lines.{lines, lineLen, lineStep}
 use Rattle.text.proofs.LineLaws.{lines-next as lines-first, line-bounds, Bounds}
-use Rattle.pieces.specs.Piece.{Piece}
+use Rattle.text.specs.Piece.{Piece}
 use Rattle.policy.specs.Piece.{linesFrom, linesOf}
 
 -- ---- the line at the front

@@ -15,13 +15,14 @@ use Rattle.text.specs.Find.{indexOf, begins, same}
 use Rattle.text.specs.Lines.{lineLen, lineStep}
 use Rattle.text.proofs.Laws.{left-none}
 use Rattle.policy.specs.declared.PolicyRead.{PolicyRead}
-use Rattle.policy.specs.Reader.{ReadAs, run, readWith, obey, zeroPolicy, readPolicy}
+use Rattle.policy.specs.Reader.{PolicyReadAs, run, readWith, obey, zeroPolicy, readPolicy}
 use Rattle.domains.specs.Domain.{Perhaps, nothing, just, domainOf}
-use Rattle.pieces.specs.Piece.{Piece, beyond, trim, piece}
-use Rattle.policy.specs.Piece.{until, past, bare, linesFrom, linesOf}
+use Rattle.text.specs.Piece.{Piece, beyond, trim, piece}
+use Rattle.policy.specs.Piece.{until, pastByte, bare, linesFrom, linesOf}
 use Rattle.policy.specs.Directive.{policyW, defaultW, allowW, denyW, allow, deny, Directive, blank, wrong, called, preset, plain}
-use Rattle.policy.specs.Directive.{listed, defaulted, plainBy, listedBy, ruled, worded, spoken, core, directive, fault}
-use Rattle.pieces.specs.Whole.{wholeText}
+use Rattle.policy.specs.Directive.{listed, defaulted, plainBy, listedBy, ruleDirective, policyWorded, policySpoken}
+use Rattle.policy.specs.Directive.{policyCore, policyDirective, fault}
+use Rattle.text.specs.Whole.{wholeText}
 use Rattle.policy.specs.Heard.{ranged, faultOf, obeyed, Small}
 use Rattle.policy.specs.declared.reader.Heard.{Heard}
 use Rattle.policy.specs.declared.Policy.{Policy}
@@ -71,12 +72,12 @@ unfolding listedBy
 listed-small t nothing p no = omega arith
 listed-small t (just d) p (yes k) = k
 
-ruled-small : (t : Bool) (b : Piece) → Small (ranged (ruled t b))
-unfolding ruled
+ruled-small : (t : Bool) (b : Piece) → Small (ranged (ruleDirective t b))
+unfolding ruleDirective
 ruled-small t b =
-    choose (ltb (indexOf 58 (b .bytes)) (length (b .bytes))) (listedBy t (domainOf (trim (until 58 b) .bytes)) (past 58 b))
+    choose (ltb (indexOf 58 (b .bytes)) (length (b .bytes))) (listedBy t (domainOf (trim (until 58 b) .bytes)) (pastByte 58 b))
     (plainBy t (domainOf (trim b .bytes)))
-    (listed-small t (domainOf (trim (until 58 b) .bytes)) (past 58 b) (domain-small (trim (until 58 b) .bytes)))
+    (listed-small t (domainOf (trim (until 58 b) .bytes)) (pastByte 58 b) (domain-small (trim (until 58 b) .bytes)))
     (plain-small t (domainOf (trim b .bytes)) (domain-small (trim b .bytes)))
 
 defaulted-small : (s : List ℕ) → Small (ranged (defaulted s))
@@ -84,23 +85,27 @@ unfolding defaulted
 defaulted-small s = choose (same allow s) (preset true) (pick (same deny s) (preset false) (wrong 7)) (omega arith)
     (choose (same deny s) (preset false) (wrong 7) (omega arith) (omega arith))
 
-worded-small : (c : Piece) → Small (ranged (worded c))
-unfolding worded
+worded-small : (c : Piece) → Small (ranged (policyWorded c))
+unfolding policyWorded
 worded-small c =
     choose (begins policyW (c .bytes)) (called (bare (trim (beyond 7 c))))
     (pick (begins defaultW (c .bytes)) (defaulted (trim (beyond 8 c) .bytes))
-    (pick (begins allowW (c .bytes)) (ruled true (beyond 6 c)) (pick (begins denyW (c .bytes)) (ruled false (beyond 5 c)) (wrong 6))))
+    (pick (begins allowW (c .bytes)) (ruleDirective true (beyond 6 c))
+    (pick (begins denyW (c .bytes)) (ruleDirective false (beyond 5 c)) (wrong 6))))
     (omega arith)
     (choose (begins defaultW (c .bytes)) (defaulted (trim (beyond 8 c) .bytes))
-    (pick (begins allowW (c .bytes)) (ruled true (beyond 6 c)) (pick (begins denyW (c .bytes)) (ruled false (beyond 5 c)) (wrong 6)))
+    (pick (begins allowW (c .bytes)) (ruleDirective true (beyond 6 c))
+    (pick (begins denyW (c .bytes)) (ruleDirective false (beyond 5 c)) (wrong 6)))
     (defaulted-small (trim (beyond 8 c) .bytes))
-    (choose (begins allowW (c .bytes)) (ruled true (beyond 6 c)) (pick (begins denyW (c .bytes)) (ruled false (beyond 5 c)) (wrong 6))
+    (choose (begins allowW (c .bytes)) (ruleDirective true (beyond 6 c))
+    (pick (begins denyW (c .bytes)) (ruleDirective false (beyond 5 c)) (wrong 6))
     (ruled-small true (beyond 6 c))
-    (choose (begins denyW (c .bytes)) (ruled false (beyond 5 c)) (wrong 6) (ruled-small false (beyond 5 c)) (omega arith))))
+    (choose (begins denyW (c .bytes)) (ruleDirective false (beyond 5 c)) (wrong 6) (ruled-small false (beyond 5 c)) (omega arith))))
 
-pub directive-small : (p : Piece) → Small (ranged (directive p))
-unfolding directive spoken
-directive-small p = choose (eqb (length (core p .bytes)) 0) blank (worded (core p)) (omega arith) (worded-small (core p))
+pub directive-small : (p : Piece) → Small (ranged (policyDirective p))
+unfolding policyDirective policySpoken
+directive-small p = choose (eqb (length (policyCore p .bytes)) 0) blank (policyWorded (policyCore p)) (omega arith)
+    (worded-small (policyCore p))
 
 -- ---- a turn of the loop
 module _ (s : List ℕ) (at n : ℕ) (v : Policy) where
@@ -117,13 +122,13 @@ module _ (s : List ℕ) (at n : ℕ) (v : Policy) where
       let z : at + lineLen r - at ≡ lineLen r = omega arith in
       lines-next at r (omega (arith, length-drop at s)) ∙ rw (z, drop-drop (lineStep r) at s)
 
-  pub run-on : at < length s → fault (directive line-here) ≡ 0
-      → left ≡ run obey (n + 1) (obey (directive line-here) v)
+  pub run-on : at < length s → fault (policyDirective line-here) ≡ 0
+      → left ≡ run obey (n + 1) (obey (policyDirective line-here) v)
       (linesFrom (at + lineStep (drop at s)) 0 (drop (at + lineStep (drop at s)) s))
   unfolding run
   run-on k e = rw (next-here k) (rw (e, run))
 
-  pub run-stop : (k : ℕ) → at < length s → (k ≡ 0 → ⊥) → fault (directive line-here) ≡ k → left ≡ refused k n
+  pub run-stop : (k : ℕ) → at < length s → (k ≡ 0 → ⊥) → fault (policyDirective line-here) ≡ k → left ≡ refused k n
   run-stop zero b z e = absurd (z refl)
   run-stop (suc k) b z e = unfold run in rw (next-here b) (rw (e, run))
 
@@ -133,7 +138,7 @@ module _ (s : List ℕ) (at n : ℕ) (v : Policy) where
 
 -- ---- a turn, by what the calls found
 module _ (s : List ℕ) (at e x : ℕ) (hd : Heard) (ke : e ≡ at + lineLen (drop at s)) (kx : x ≡ at + lineStep (drop at s))
-    (kh : hd ≡ ranged (directive (piece s at e))) where
+    (kh : hd ≡ ranged (policyDirective (piece s at e))) where
   pub turn-small : Small hd
   turn-small = rw kh (directive-small (piece s at e))
 
@@ -143,8 +148,9 @@ module _ (s : List ℕ) (at e x : ℕ) (hd : Heard) (ke : e ≡ at + lineLen (dr
       omega (arith, q, f)
 
   module _ (n : ℕ) (v : Policy) (b : at < length s) (k : ℕ) (q : k ≡ faultOf hd) where
-    here : fault (directive (piece s at (at + lineLen (drop at s)))) ≡ k
-    here = sym (q ∙ ap faultOf kh ∙ fault-ranged (directive (piece s at e)) ∙ ap (λ (m : ℕ). fault (directive (piece s at m))) ke)
+    here : fault (policyDirective (piece s at (at + lineLen (drop at s)))) ≡ k
+    here = sym (q ∙ ap faultOf kh ∙ fault-ranged (policyDirective (piece s at e))
+        ∙ ap (λ (m : ℕ). fault (policyDirective (piece s at m))) ke)
 
     pub turn-stop : (k ≡ 0 → ⊥) → run obey n v (linesFrom at 0 (drop at s)) ≡ refused k n
     turn-stop z = run-stop s at n v k b z here
@@ -152,18 +158,18 @@ module _ (s : List ℕ) (at e x : ℕ) (hd : Heard) (ke : e ≡ at + lineLen (dr
     pub turn-on : k ≡ 0 → (w : Policy) → w ≡ obeyed hd v → run obey n v (linesFrom at 0 (drop at s)) ≡ run obey (n + 1) w
         (linesFrom x 0 (drop x s))
     turn-on z w p =
-        let o : w ≡ obey (directive (piece s at (at + lineLen (drop at s)))) v = p ∙ ap (λ (y : Heard). obeyed y v) kh
-        ∙ obey-ranged (directive (piece s at e)) v ∙ ap (λ (m : ℕ). obey (directive (piece s at m)) v) ke in
+        let o : w ≡ obey (policyDirective (piece s at (at + lineLen (drop at s)))) v = p ∙ ap (λ (y : Heard). obeyed y v) kh
+        ∙ obey-ranged (policyDirective (piece s at e)) v ∙ ap (λ (m : ℕ). obey (policyDirective (piece s at m)) v) ke in
         run-on s at n v b (here ∙ z)
         ∙ ap (λ (w : Policy). run obey (n + 1) w (linesFrom (at + lineStep (drop at s)) 0 (drop (at + lineStep (drop at s)) s)))
         (sym o) ∙ ap (λ (m : ℕ). run obey (n + 1) w (linesFrom m 0 (drop m s))) (sym kx)
 
 -- ---- the whole text
 module _ (s : List ℕ) {a : Answer} {r : PolicyRead} (tested : saidAnswer a ≡ wholeText s) where
-  pub read-good : a ≡ Answer.Accepted → ReadAs (run obey 1 zeroPolicy (linesOf s)) r → ReadAs (readPolicy s) r
+  pub read-good : a ≡ Answer.Accepted → PolicyReadAs (run obey 1 zeroPolicy (linesOf s)) r → PolicyReadAs (readPolicy s) r
   unfolding readPolicy readWith follow
   read-good e q = let z : wholeText s ≡ accepted tt = sym tested ∙ ap saidAnswer e in rw z q
 
-  pub read-bad : {w : Refusal} → a ≡ Answer.Refused w → ReadAs (refusedBy w) r → ReadAs (readPolicy s) r
+  pub read-bad : {w : Refusal} → a ≡ Answer.Refused w → PolicyReadAs (refusedBy w) r → PolicyReadAs (readPolicy s) r
   unfolding readPolicy readWith follow
   read-bad {w} e q = let z : wholeText s ≡ refusedBy w = sym tested ∙ ap saidAnswer e in rw z q

@@ -18,21 +18,23 @@ use Rattle.text.specs.Lines.{lineLen, lineStep}
 use Rattle.text.proofs.CharLaws.{start-long}
 use Rattle.text.proofs.LineLaws.{line-bounds}
 use Rattle.domains.specs.Domain.{Perhaps, nothing, just, domainOf}
-use Rattle.pieces.specs.Piece.{fore, Piece, first, beyond, trim, shorn}
-use Rattle.policy.specs.Piece.{until, past, bare, quotes, linesFrom, linesOf}
+use Rattle.text.specs.Piece.{fore, Piece, first, beyond, trim, shorn}
+use Rattle.policy.specs.Piece.{until, pastByte, bare, quotes, linesFrom, linesOf}
 use Rattle.policy.specs.Directive.{policyW, defaultW, allowW, denyW, allow, deny, Directive, blank, wrong, called, preset, plain}
-use Rattle.policy.specs.Directive.{listed, defaulted, plainBy, listedBy, ruled, worded, spoken, core, directive, fault}
+use Rattle.policy.specs.Directive.{listed, defaulted, plainBy, listedBy, ruleDirective, policyWorded, policySpoken}
+use Rattle.policy.specs.Directive.{policyCore, policyDirective, fault}
 use Rattle.policy.specs.Reader.{run, readWith, slot, stanceOf, zeroPolicy, obey, readPolicy}
-use Rattle.policy.specs.View.{RuleView, ruling, View, split, commas, full, tokens, noName, firstView, heed, meaning, range, ruleOf}
+use Rattle.policy.specs.View.{RuleView, ruling, PolicyView, split, commas, full, tokens, noName, firstView, heed, meaning}
+use Rattle.policy.specs.View.{range, ruleOf}
 use Rattle.policy.specs.declared.Slot.{Slot}
 use Rattle.policy.specs.declared.Policy.{Policy}
-use Rattle.pieces.specs.Whole.{wholeText}
+use Rattle.text.specs.Whole.{wholeText}
 use Rattle.policy.proofs.Quotes.{quotes-le}
-use Rattle.pieces.proofs.Pieces.{begins-le}
+use Rattle.text.proofs.PieceLaws.{begins-le}
 use Rattle.policy.proofs.Lines.{step-less, EachPiece, none, more, lines-next}
 
 -- what a policy says, over its own list of rules
-unfoldable pub view : List ℕ → Policy → View
+unfoldable pub view : List ℕ → Policy → PolicyView
 view s v =
     record {
       name = pick (v .named) (range s (v .start) (v .size)) noName;
@@ -105,12 +107,12 @@ module _ (s : List ℕ) where
   listed-in t nothing p q = w-wrong
   listed-in t (just d) p q = w-listed q
 
-  ruled-in : (t : Bool) (b : Piece) → PartOf s b → Within s (ruled t b)
-  unfolding ruled
+  ruled-in : (t : Bool) (b : Piece) → PartOf s b → Within s (ruleDirective t b)
+  unfolding ruleDirective
   ruled-in t b q =
       let i = indexOf 58 (b .bytes) in
       choose (ltb i (length (b .bytes))) _ _
-      (λ e. listed-in t (domainOf (trim (until 58 b) .bytes)) (past 58 b)
+      (λ e. listed-in t (domainOf (trim (until 58 b) .bytes)) (pastByte 58 b)
       (part-beyond s (i + 1) b (omega (arith, ltb-true i (length (b .bytes)) e)) q))
       (λ e. plain-in t (domainOf (trim b .bytes)))
 
@@ -118,8 +120,8 @@ module _ (s : List ℕ) where
   unfolding defaulted
   defaulted-in l = choose (same allow l) _ _ (λ e. w-preset) (λ e. choose (same deny l) _ _ (λ e. w-preset) (λ e. w-wrong))
 
-  worded-in : (c : Piece) → PartOf s c → Within s (worded c)
-  unfolding worded
+  worded-in : (c : Piece) → PartOf s c → Within s (policyWorded c)
+  unfolding policyWorded
   worded-in c q =
       choose (begins policyW (c .bytes)) _ _
       (λ e. w-called (part-bare s (trim (beyond 7 c)) (part-trim s (beyond 7 c) (part-beyond s 7 c (begins-le policyW (c .bytes) e) q))))
@@ -131,11 +133,11 @@ module _ (s : List ℕ) where
       (λ e. ruled-in false (beyond 5 c) (part-beyond s 5 c (begins-le denyW (c .bytes) e) q))
       (λ e. w-wrong))))
 
-  pub directive-in : (p : Piece) → PartOf s p → Within s (directive p)
-  unfolding directive spoken core
+  pub directive-in : (p : Piece) → PartOf s p → Within s (policyDirective p)
+  unfolding policyDirective policySpoken policyCore
   directive-in p q =
-      choose (eqb (length (core p .bytes)) 0) _ _ (λ e. w-blank)
-      (λ e. worded-in (core p) (part-trim s (until 35 p) (part-first s (indexOf 35 (p .bytes)) p q)))
+      choose (eqb (length (policyCore p .bytes)) 0) _ _ (λ e. w-blank)
+      (λ e. worded-in (policyCore p) (part-trim s (until 35 p) (part-first s (indexOf 35 (p .bytes)) p q)))
 
   -- ---- the lines
   part-line : (at : ℕ) (r : List ℕ) → PartOf s (record { at = at; bytes = r })
@@ -202,12 +204,12 @@ module _ (s : List ℕ) where
       → mapSaid (view s) (run obey n v ps) ≡ run heed n (view s v) ps
   unfolding run
   run-view n v [] none = refl
-  run-view n v (p ∷ ps) (more q qs) = by (fault (directive p)) refl (run-view (n + 1) (obey (directive p) v) ps qs)
+  run-view n v (p ∷ ps) (more q qs) = by (fault (policyDirective p)) refl (run-view (n + 1) (obey (policyDirective p) v) ps qs)
     where
-      by : (k : ℕ) → fault (directive p) ≡ k → mapSaid (view s) (run obey (n + 1) (obey (directive p) v) ps) ≡ run heed (n + 1)
-          (view s (obey (directive p) v)) ps
+      by : (k : ℕ) → fault (policyDirective p) ≡ k → mapSaid (view s) (run obey (n + 1) (obey (policyDirective p) v) ps) ≡ run heed (n + 1)
+          (view s (obey (policyDirective p) v)) ps
           → mapSaid (view s) (run obey n v (p ∷ ps)) ≡ run heed n (view s v) (p ∷ ps)
-      by zero e ih = rw (e, run) (ih ∙ rw (obey-view s (directive p) v (directive-in s p q)))
+      by zero e ih = rw (e, run) (ih ∙ rw (obey-view s (policyDirective p) v (directive-in s p q)))
       by (suc k) e ih = rw (e, run)
 
   zero-view : view s zeroPolicy ≡ firstView

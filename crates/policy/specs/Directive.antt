@@ -7,8 +7,8 @@ use lib.ListN.{length}
 use Rattle.refusal.specs.Pick.{pick}
 use Rattle.text.specs.Find.{indexOf, begins, same}
 use Rattle.domains.specs.Domain.{Perhaps, nothing, just, domainOf}
-use Rattle.pieces.specs.Piece.{Piece, beyond, trim}
-use Rattle.policy.specs.Piece.{until, past, bare}
+use Rattle.text.specs.Piece.{Piece, beyond, trim}
+use Rattle.policy.specs.Piece.{until, pastByte, bare}
 
 -- the directive words, each with its one space, and the two words for a default
 abbrev pub policyW : List ℕ
@@ -50,29 +50,29 @@ listedBy t nothing p = wrong 8
 listedBy t (just d) p = listed t d p
 
 -- a domain up to the first `:`, trimmed, then its list
-unfoldable pub ruled : Bool → Piece → Directive
-ruled t b =
+unfoldable pub ruleDirective : Bool → Piece → Directive
+ruleDirective t b =
     pick (ltb (indexOf 58 (b .bytes)) (length (b .bytes)))
-    (listedBy t (domainOf (trim (until 58 b) .bytes)) (past 58 b))
+    (listedBy t (domainOf (trim (until 58 b) .bytes)) (pastByte 58 b))
     (plainBy t (domainOf (trim b .bytes)))
 
-unfoldable pub worded : Piece → Directive
-worded c =
+unfoldable pub policyWorded : Piece → Directive
+policyWorded c =
     pick (begins policyW (c .bytes)) (called (bare (trim (beyond 7 c))))
     (pick (begins defaultW (c .bytes)) (defaulted (trim (beyond 8 c) .bytes))
-    (pick (begins allowW (c .bytes)) (ruled true (beyond 6 c))
-    (pick (begins denyW (c .bytes)) (ruled false (beyond 5 c))
+    (pick (begins allowW (c .bytes)) (ruleDirective true (beyond 6 c))
+    (pick (begins denyW (c .bytes)) (ruleDirective false (beyond 5 c))
     (wrong 6))))
 
-unfoldable pub spoken : Piece → Directive
-spoken c = pick (eqb (length (c .bytes)) 0) blank (worded c)
+unfoldable pub policySpoken : Piece → Directive
+policySpoken c = pick (eqb (length (c .bytes)) 0) blank (policyWorded c)
 
 -- a line without its comment, from the first `#` on, trimmed
-unfoldable pub core : Piece → Piece
-core p = trim (until 35 p)
+unfoldable pub policyCore : Piece → Piece
+policyCore p = trim (until 35 p)
 
-unfoldable pub directive : Piece → Directive
-directive p = spoken (core p)
+unfoldable pub policyDirective : Piece → Directive
+policyDirective p = policySpoken (policyCore p)
 
 -- the number of a fault, 0 where there is none
 unfoldable pub fault : Directive → ℕ

@@ -2,11 +2,12 @@
 -- Assumes nothing.
 use mathlib.Core.List.{List, [], _∷_}
 use Prim.Native.Nat.{ℕ, zero, suc, _+_, _≤_, _<_}
-use lib.Dec.{leb, ltb}
+use lib.Dec.{ltb}
 use lib.ListN.{getD, length}
 use Rattle.refusal.specs.Pick.{pick}
+use Rattle.refusal.specs.Sizes.{fitsIn}
 use Rattle.refusal.specs.Said.{Said, accepted, refused, follow}
-use Rattle.pieces.specs.Whole.{wholeText}
+use Rattle.text.specs.Whole.{wholeText}
 use Rattle.policy.specs.Reader.{slot}
 use Rattle.policy.specs.declared.Stance.the-variants.{None}
 use Rattle.policy.specs.declared.Slot.{Slot}
@@ -35,7 +36,7 @@ eight p =
 -- the index of the first range that leaves n bytes, as many as there are where none does
 unfoldable pub firstBad : ℕ → List Slot → ℕ
 firstBad n [] = zero
-firstBad n (x ∷ xs) = pick (leb (x .from + x .len) n) (suc (firstBad n xs)) zero
+firstBad n (x ∷ xs) = pick (fitsIn n (x .from) (x .len)) (suc (firstBad n xs)) zero
 
 -- 15 for n bytes of text
 unfoldable pub rangesTest : ℕ → Policy → Said (Unit {0})
@@ -46,8 +47,8 @@ unfoldable pub policyTest : List ℕ → Policy → Said (Unit {0})
 policyTest s p = follow (wholeText s) (λ ok. rangesTest (length s) p)
 
 -- ---- for the code: every range lies within n bytes
-abbrev pub Fits : ℕ → Slot → Type 0
-Fits n x = x .from + x .len ≤ n
+abbrev pub SlotFits : ℕ → Slot → Type 0
+SlotFits n x = x .from + x .len ≤ n
 
-abbrev pub FitsAll : ℕ → List Slot → Type 0
-FitsAll n xs = (i : ℕ) → i < 7 → Fits n (getD xs i noSlot)
+abbrev pub SlotsFit : ℕ → List Slot → Type 0
+SlotsFit n xs = (i : ℕ) → i < 7 → SlotFits n (getD xs i noSlot)

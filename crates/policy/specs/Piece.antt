@@ -6,14 +6,14 @@ use lib.ListN.{take}
 use Rattle.refusal.specs.Pick.{pick}
 use Rattle.text.specs.Find.{indexOf}
 use Rattle.text.specs.Lines.{lineLen, lineStep}
-use Rattle.pieces.specs.Piece.{Piece, first, beyond, shorn}
+use Rattle.text.specs.Piece.{Piece, first, beyond, shorn}
 
 -- what stands before the first b, and what stands after it
 abbrev pub until : ℕ → Piece → Piece
 until b p = first (indexOf b (p .bytes)) p
 
-abbrev pub past : ℕ → Piece → Piece
-past b p = beyond (indexOf b (p .bytes) + 1) p
+abbrev pub pastByte : ℕ → Piece → Piece
+pastByte b p = beyond (indexOf b (p .bytes) + 1) p
 
 -- how many quotes stand at the front
 unfoldable pub quotes : List ℕ → ℕ
@@ -21,11 +21,11 @@ quotes [] = zero
 quotes (x ∷ s) = pick (eqb x 34) (suc (quotes s)) zero
 
 -- without the quotes at its start, then without those at its end
-abbrev pub closed : Piece → Piece
-closed p = first (shorn 34 (p .bytes)) p
+abbrev pub unquotedEnd : Piece → Piece
+unquotedEnd p = first (shorn 34 (p .bytes)) p
 
 unfoldable pub bare : Piece → Piece
-bare p = closed (beyond (quotes (p .bytes)) p)
+bare p = unquotedEnd (beyond (quotes (p .bytes)) p)
 
 -- the lines of a text that begins at `at`, each with its place; k bytes are left of a line under way.
 -- Their bytes are `lines` of crate text: `lines-bytes` of proofs/Lines.antt

@@ -5,10 +5,10 @@ use mathlib.Core.List.{List, [], _∷_}
 use Prim.Native.Nat.{ℕ, zero, suc, _+_}
 use lib.ListN.{length, set, replicate}
 use Rattle.refusal.specs.Said.{Said, accepted, refused, follow, saidAnswer}
-use Rattle.pieces.specs.Whole.{wholeText, verdictOf}
-use Rattle.pieces.specs.Piece.{Piece}
+use Rattle.text.specs.Whole.{wholeText, withoutValue}
+use Rattle.text.specs.Piece.{Piece}
 use Rattle.policy.specs.Piece.{linesOf}
-use Rattle.policy.specs.Directive.{Directive, blank, wrong, called, preset, plain, listed, directive, fault}
+use Rattle.policy.specs.Directive.{Directive, blank, wrong, called, preset, plain, listed, policyDirective, fault}
 use Rattle.policy.specs.declared.Stance.{Stance}
 use Rattle.policy.specs.declared.Stance.the-variants.{None, Allow, Deny}
 use Rattle.policy.specs.declared.Slot.{Slot}
@@ -19,7 +19,7 @@ use Rattle.policy.specs.declared.PolicyRead.{PolicyRead}
 module _ {S : Type 0} (obey : Directive → S → S) where
   unfoldable pub run : ℕ → S → List Piece → Said S
   run n st [] = accepted st
-  run n st (p ∷ ps) = elim (fault (directive p)) [ zero ↦ run (n + 1) (obey (directive p) st) ps | suc k ↦ refused (suc k) n ]
+  run n st (p ∷ ps) = elim (fault (policyDirective p)) [ zero ↦ run (n + 1) (obey (policyDirective p) st) ps | suc k ↦ refused (suc k) n ]
 
   -- the text as a whole, then its lines
   unfoldable pub readWith : S → List ℕ → Said S
@@ -57,6 +57,6 @@ abbrev pub policyOf : Said Policy → Policy
 policyOf (accepted p) = p
 policyOf (refused n p) = zeroPolicy
 
-pub record ReadAs (d : Said Policy) (r : PolicyRead) : Type 0 where
-  pub answer : saidAnswer (r .answer) ≡ verdictOf d
+pub record PolicyReadAs (d : Said Policy) (r : PolicyRead) : Type 0 where
+  pub answer : saidAnswer (r .answer) ≡ withoutValue d
   pub policy : r .policy ≡ policyOf d

@@ -18,7 +18,7 @@ pub data RuleView : Type 0 where
   silent : RuleView
   ruling : Bool → List (List ℕ) → RuleView
 
-pub record View : Type 0 where
+pub record PolicyView : Type 0 where
   pub name : List ℕ
   pub permit : Bool
   pub rules : List RuleView
@@ -55,13 +55,13 @@ tokens s = full (map trimOf (commas s))
 abbrev pub noName : List ℕ
 noName = 100 ∷ 101 ∷ 102 ∷ 97 ∷ 117 ∷ 108 ∷ 116 ∷ 45 ∷ 100 ∷ 101 ∷ 110 ∷ 121 ∷ []
 
-unfoldable pub firstView : View
+unfoldable pub firstView : PolicyView
 firstView = record { name = noName; permit = false; rules = replicate 7 silent }
 
-abbrev pub sets : ℕ → RuleView → View → View
+abbrev pub sets : ℕ → RuleView → PolicyView → PolicyView
 sets d x v = record { name = v .name; permit = v .permit; rules = set (v .rules) d x }
 
-unfoldable pub heed : Directive → View → View
+unfoldable pub heed : Directive → PolicyView → PolicyView
 heed blank v = v
 heed (wrong k) v = v
 heed (called p) v = record { name = p .bytes; permit = v .permit; rules = v .rules }
@@ -69,7 +69,7 @@ heed (preset t) v = record { name = v .name; permit = t; rules = v .rules }
 heed (plain t d) v = sets d (ruling t []) v
 heed (listed t d p) v = sets d (ruling t (tokens (p .bytes))) v
 
-unfoldable pub meaning : List ℕ → Said View
+unfoldable pub meaning : List ℕ → Said PolicyView
 meaning s = readWith heed firstView s
 
 -- ---- what the port's policy says, with its text
@@ -88,7 +88,7 @@ ruleOf s x =
 unfoldable pub seven : Policy → List Slot
 seven p = slotOf p 0 ∷ slotOf p 1 ∷ slotOf p 2 ∷ slotOf p 3 ∷ slotOf p 4 ∷ slotOf p 5 ∷ slotOf p 6 ∷ []
 
-unfoldable pub says : List ℕ → Policy → View
+unfoldable pub says : List ℕ → Policy → PolicyView
 says s p =
     record {
       name = pick (p .named) (range s (p .start) (p .size)) noName;

@@ -9,7 +9,7 @@ ghost use mathlib.Core.Path.{_≡_};
 ghost use Prim.Native.Nat.{_≤_, _<_};
 ghost use Rattle.refusal.specs.Said.{refused, refusedBy};
 ghost use Rattle.policy.specs.Piece.{linesOf};
-ghost use Rattle.policy.specs.Reader.{run, obey, stanceOf, withRule, zeroPolicy, readPolicy, ReadAs};
+ghost use Rattle.policy.specs.Reader.{run, obey, stanceOf, withRule, zeroPolicy, readPolicy, PolicyReadAs};
 ghost use Rattle.policy.specs.Heard.{obeyed, Small};
 
 pub enum Stance {
@@ -129,7 +129,7 @@ fn fault_at(k: usize, line: usize) -> Refusal
 }
 
 fn turned_down(why: Refusal) -> PolicyRead
-    ensures { λ r. ⌜ ReadAs (refusedBy why) r ⌝ }
+    ensures { λ r. ⌜ PolicyReadAs (refusedBy why) r ⌝ }
 {
     let policy = default_policy();
     PolicyRead {
@@ -139,7 +139,7 @@ fn turned_down(why: Refusal) -> PolicyRead
 }
 
 fn read_lines(s: &[u8]) -> PolicyRead
-    ensures { λ r. ⌜ ReadAs (run obey 1 zeroPolicy (linesOf (now (s .entry)))) r ⌝ }
+    ensures { λ r. ⌜ PolicyReadAs (run obey 1 zeroPolicy (linesOf (now (s .entry)))) r ⌝ }
 {
     let mut policy = default_policy();
     let mut at = 0;
@@ -165,9 +165,9 @@ fn read_lines(s: &[u8]) -> PolicyRead
 
 // A policy from its text: 14, then 4, then 6, 7 or 8 at the first line that has a fault.
 pub fn read_policy(s: &[u8]) -> PolicyRead
-    ensures { λ r. ⌜ ReadAs (readPolicy (now (s .entry))) r ⌝ }
+    ensures { λ r. ⌜ PolicyReadAs (readPolicy (now (s .entry))) r ⌝ }
 {
-    match pieces::test_text(s) {
+    match text::pieces::test_text(s) {
         Answer::Accepted => read_lines(s),
         Answer::Refused(why) => turned_down(why),
     }

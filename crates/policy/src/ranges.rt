@@ -1,26 +1,11 @@
 // A policy handed in beside its text: its ranges may be anything.
 use crate::Policy;
-use pieces::test_text;
 use refusal::Answer;
 use refusal::Refusal;
+use text::pieces::test_text;
 ghost use mathlib.Core.Path.{_≡_};
-ghost use Prim.Native.Nat.{_+_};
-ghost use lib.Dec.{leb};
 ghost use Rattle.refusal.specs.Said.{saidAnswer};
 ghost use Rattle.policy.specs.Eight.{eight, firstBad, policyTest};
-
-// Whether the range lies within n bytes.
-fn fits(from: usize, len: usize, n: usize) -> bool
-    ensures { λ r. ⌜ r ≡ leb (from + len) n ⌝ }
-{
-    if n < from {
-        return false;
-    }
-    if n - from < len {
-        return false;
-    }
-    true
-}
 
 // The first of a policy's eight ranges that leaves n bytes, 8 where none does.
 fn first_bad(p: Policy, n: usize) -> usize
@@ -31,14 +16,14 @@ fn first_bad(p: Policy, n: usize) -> usize
         let x = p.rules[i];
         let from = x.from;
         let len = x.len;
-        if !fits(from, len, n) {
+        if !refusal::fits(n, from, len) {
             return i;
         }
         i += 1;
     }
     let from = p.start;
     let len = p.size;
-    if fits(from, len, n) {
+    if refusal::fits(n, from, len) {
         return 8;
     }
     7

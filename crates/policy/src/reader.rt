@@ -1,12 +1,13 @@
 // A line of a policy's text: what it says, by ranges of the text.
 use domains::DomainFound;
-use pieces::shorn_of;
+use text::pieces::shorn_of;
+use text::pieces::trimmed_at;
 ghost use mathlib.Core.Path.{_≡_};
 ghost use Prim.Native.Nat.{_≤_};
 ghost use lib.ListN.{length};
 ghost use Rattle.policy.specs.Piece.{quotes, bare};
-ghost use Rattle.pieces.specs.Piece.{trim, piece, TrimTo};
-ghost use Rattle.policy.specs.Directive.{called, defaulted, ruled, worded, directive};
+ghost use Rattle.text.specs.Piece.{trim, piece};
+ghost use Rattle.policy.specs.Directive.{called, defaulted, ruleDirective, policyWorded, policyDirective};
 ghost use Rattle.policy.specs.Heard.{ranged, faultOf};
 ghost use Rattle.domains.specs.Domain.{found, domainOf};
 
@@ -21,12 +22,6 @@ pub(crate) enum Heard {
     Listed(bool, usize, usize, usize),
 }
 
-// A range by its ends.
-struct Span {
-    from: usize,
-    past: usize,
-}
-
 // How many quotes stand at the front.
 fn quotes_of(s: &[u8]) -> usize
     ensures { λ r. ⌜ r ≡ quotes (now (s .entry)) ⌝ }
@@ -39,19 +34,6 @@ fn quotes_of(s: &[u8]) -> usize
         i += 1;
     }
     i
-}
-
-// The part from a to e, trimmed.
-fn trimmed_at(s: &[u8], a: usize, e: usize) -> Span
-    requires { ⌜ (a ≤ e) × (e ≤ length (now s)) ⌝ }
-    ensures { λ r. ⌜ TrimTo (now (s .entry)) a e (r .from) (r .past) ⌝ }
-{
-    let t = text::white::trim(&s[a..e]);
-    let from = a + t.from;
-    Span {
-        from,
-        past: from + t.len,
-    }
 }
 
 fn called_at(s: &[u8], a: usize, e: usize) -> Heard
@@ -95,7 +77,7 @@ fn domain_at(s: &[u8], a: usize, e: usize) -> DomainFound
 
 fn ruled_at(s: &[u8], a: usize, e: usize, t: bool) -> Heard
     requires { ⌜ (a ≤ e) × (e ≤ length (now s)) ⌝ }
-    ensures { λ r. ⌜ r ≡ ranged (ruled t (piece (now (s .entry)) a e)) ⌝ }
+    ensures { λ r. ⌜ r ≡ ranged (ruleDirective t (piece (now (s .entry)) a e)) ⌝ }
 {
     let i = a + text::find::find(&s[a..e], b':');
     if i < e {
@@ -114,7 +96,7 @@ fn ruled_at(s: &[u8], a: usize, e: usize, t: bool) -> Heard
 
 fn worded_at(s: &[u8], a: usize, e: usize) -> Heard
     requires { ⌜ (a ≤ e) × (e ≤ length (now s)) ⌝ }
-    ensures { λ r. ⌜ r ≡ ranged (worded (piece (now (s .entry)) a e)) ⌝ }
+    ensures { λ r. ⌜ r ≡ ranged (policyWorded (piece (now (s .entry)) a e)) ⌝ }
 {
     if text::order::starts(&s[a..e], b"policy ") {
         return called_at(s, a + 7, e);
@@ -134,7 +116,7 @@ fn worded_at(s: &[u8], a: usize, e: usize) -> Heard
 // What the line from a to e says.
 pub(crate) fn heard_at(s: &[u8], a: usize, e: usize) -> Heard
     requires { ⌜ (a ≤ e) × (e ≤ length (now s)) ⌝ }
-    ensures { λ r. ⌜ r ≡ ranged (directive (piece (now (s .entry)) a e)) ⌝ }
+    ensures { λ r. ⌜ r ≡ ranged (policyDirective (piece (now (s .entry)) a e)) ⌝ }
 {
     let h = a + text::find::find(&s[a..e], b'#');
     let t = trimmed_at(s, a, h);

@@ -1,6 +1,6 @@
 -- The checked examples that are marked P, as one list under a single claim: each holds of the definitions that the promises cite.
 -- Assumes nothing.
-use Prim.Native.Nat.{ℕ, zero, suc}
+use Prim.Native.Nat.{ℕ, zero, suc, _*_}
 use mathlib.Core.Path.{_≡_, refl}
 use mathlib.Core.Bool.{Bool, true, false}
 use mathlib.Core.List.{List, [], _∷_, _++_, map}
@@ -8,7 +8,7 @@ use lib.ListN.{length}
 use lib.IntN.{ℤ, pos, negsuc}
 use Rattle.refusal.specs.Said.{Said, accepted, refused, follow, Got, got, onward}
 use Rattle.leb.specs.Groups.{uN, sN, twos, grown, spent}
-use Rattle.leb.specs.Reads.{told, narrowed, ulebAt, u32At, slebAt, part, byteAt, fixedAt, takeAt, countedAt, checked, nameAt}
+use Rattle.leb.specs.Reads.{toldAt, narrowed, ulebAt, u32At, slebAt, part, byteAt, fixedAt, takeAt, countedAt, checked, nameAt}
 use Rattle.text.specs.Find.{seek, begins, same, indexOf, indexOf2}
 use Rattle.text.specs.Ranges.{inSome}
 use Rattle.text.specs.White.{whites, isWhite}
@@ -16,31 +16,32 @@ use Rattle.text.specs.Chars.{codeBy, codeOf, moreBy, more, charsFrom, chars}
 use Rattle.text.specs.Trim.{startLen, endLen, trimStart, trimEnd}
 use Rattle.text.specs.Lines.{crBefore, lineLen, lineStep}
 use Rattle.text.specs.Scan.{scan}
-use Rattle.text.specs.Utf8.{upTo, seqLen, after, followIn, covers, table}
-use Rattle.text.specs.Utf8.{follow as follow8}
+use Rattle.text.specs.Utf8.{upTo, seqLen, after, followIn, covers, utf8Table}
+use Rattle.text.specs.Utf8.{followers}
 use Rattle.text.specs.Walk.{walk}
 use Rattle.table.specs.Table.{capacityOf, cellOf, rangeOf, cells, laid}
 use Rattle.table.specs.Testing.{tested, firstFrom}
 use Rattle.table.specs.Listing.{fitted}
 use Rattle.table.specs.Entries.{entriesFrom}
-use Rattle.table.specs.Walking.{turned, walkFrom}
+use Rattle.table.specs.Walking.{turnOf, walkFrom}
+use Rattle.table.specs.Shape.{width}
 use Rattle.wasm.specs.Entry.{funcAt, descAt, importAt}
 use Rattle.wasm.specs.Rows.{importCells, importsOf}
 use Rattle.wasm.specs.Module.{Sizes, Parsed, noTables, magic, headerAt, contentsAt, addSection, sectionAt, moduleAt}
 use Rattle.wasm.specs.Shapes.{func}
-use Rattle.sorting.specs.Keys.{nameAt as nameIn}
-use Rattle.imports.specs.Queries.{asked, importsTested, importBad, importFits, kindIs}
+use Rattle.sorting.specs.Keys.{rowName}
+use Rattle.import_rows.specs.Queries.{asked, importsTested, importFits, kindIs}
 use Rattle.domains.specs.Domain.{words, wordIn, domainOf}
-use Rattle.domains.specs.Classify.{passes, judged, preview, heads, preview1, unstable, headOf, pathDomain, importDomain}
-use Rattle.pieces.specs.Whole.{wholeText}
-use Rattle.pieces.specs.Piece.{trim, shorn}
+use Rattle.domains.specs.Classify.{passes, classedBy, preview, heads, preview1, unstable, headOf, pathDomain, importDomain}
+use Rattle.text.specs.Whole.{wholeText}
+use Rattle.text.specs.Piece.{trim, shorn}
 use Rattle.policy.specs.Piece.{linesFrom, linesOf}
-use Rattle.policy.specs.Directive.{defaultW, allow, defaulted, worded, spoken, core, directive, fault}
+use Rattle.policy.specs.Directive.{defaultW, allow, defaulted, policyWorded, policySpoken, policyCore, policyDirective, fault}
 use Rattle.policy.specs.Reader.{run, readWith, zeroPolicy, obey, readPolicy}
 use Rattle.verdicts.specs.Evaluate.{effectiveOf}
 use Rattle.requirements.specs.Requirements.{rowDomain, moduleRows}
 use Rattle.wit.specs.Line.{unbraced}
-use Rattle.wit.specs.Line.{worded as wordedLine, core as coreLine, spoken as spokenLine, directive as directiveLine}
+use Rattle.wit.specs.Line.{manifestWorded, manifestCore, manifestSpoken, manifestDirective}
 use Rattle.wit.specs.Manifest.{State, sized, start, closeAt, openAt, obeyAt, lineAt, linesAt, manifestAt}
 
 -- a domain that a module asks for, by its number, and the module name of the import
@@ -62,7 +63,7 @@ pub data Example : Type 0 where
 
 -- room for two rows in each table
 abbrev pub two : Sizes
-two = record { sections = 10; imports = 10; exports = 8; names = 6 }
+two = record { sections = 2 * width 1; imports = 2 * width 2; exports = 2 * width 3; names = 2 * width 4 }
 
 -- the file's import rows as its read leaves them in table 2, and what those ask for
 abbrev pub importTable : Parsed → List ℕ
@@ -72,22 +73,22 @@ abbrev pub askedBy : List ℕ → Said (List Asks)
 askedBy b =
     follow (moduleAt b two) (λ m.
     follow (moduleRows b (importTable m) (length (m .tables .imports)) 2) (λ rows.
-    accepted (map (λ i. asks (rowDomain b (importTable m) i) (nameIn b (importTable m) 5 0 1 i)) rows)))
+    accepted (map (λ i. asks (rowDomain b (importTable m) i) (rowName b (importTable m) 5 0 1 i)) rows)))
 
-abbrev pub Holds : Example → Type 0
-Holds (unsigned s r) = ulebAt s 0 ≡ r
-Holds (unsigned32 s r) = u32At s 0 ≡ r
-Holds (signed s r) = slebAt s 0 ≡ r
-Holds (file b r) = moduleAt b two ≡ r
-Holds (asking b r) = askedBy b ≡ r
-Holds (imported m f d) = importDomain m f ≡ d
-Holds (path s d) = pathDomain s ≡ d
-Holds (allowing s d r) = follow (readPolicy s) (λ p. accepted (effectiveOf p d .allow)) ≡ r
-Holds (manifest s r) = manifestAt s (sized 4 14) ≡ r
+abbrev pub ExampleHolds : Example → Type 0
+ExampleHolds (unsigned s r) = ulebAt s 0 ≡ r
+ExampleHolds (unsigned32 s r) = u32At s 0 ≡ r
+ExampleHolds (signed s r) = slebAt s 0 ≡ r
+ExampleHolds (file b r) = moduleAt b two ≡ r
+ExampleHolds (asking b r) = askedBy b ≡ r
+ExampleHolds (imported m f d) = importDomain m f ≡ d
+ExampleHolds (path s d) = pathDomain s ≡ d
+ExampleHolds (allowing s d r) = follow (readPolicy s) (λ p. accepted (effectiveOf p d .allow)) ≡ r
+ExampleHolds (manifest s r) = manifestAt s (sized (2 * width 5) (2 * width 6)) ≡ r
 
 abbrev pub AllHold : List Example → Type 0
 AllHold [] = Unit {0}
-AllHold (e ∷ l) = Holds e × AllHold l
+AllHold (e ∷ l) = ExampleHolds e × AllHold l
 
 -- nine times b, then l
 abbrev pub nine : ℕ → List ℕ → List ℕ
@@ -112,12 +113,12 @@ oneImportRead =
       };
     }
 
--- `fd_write`, `random`, and `default allow`
+-- `fd_write`, `randomPath`, and `default allow`
 abbrev pub fdWrite : List ℕ
 fdWrite = 102 ∷ 100 ∷ 95 ∷ 119 ∷ 114 ∷ 105 ∷ 116 ∷ 101 ∷ []
 
-abbrev pub random : List ℕ
-random = 114 ∷ 97 ∷ 110 ∷ 100 ∷ 111 ∷ 109 ∷ []
+abbrev pub randomPath : List ℕ
+randomPath = 114 ∷ 97 ∷ 110 ∷ 100 ∷ 111 ∷ 109 ∷ []
 
 abbrev pub defaultAllow : List ℕ
 defaultAllow = defaultW ++ allow
@@ -153,21 +154,48 @@ examples =
     ∷ asking oneImport (accepted (asks 6 (0x6d ∷ []) ∷ []))
     ∷ imported (preview1 ++ 48 ∷ []) fdWrite 0
     ∷ imported (unstable ++ 50 ∷ []) fdWrite 6
-    ∷ path random 4
-    ∷ imported random fdWrite 6
+    ∷ path randomPath 4
+    ∷ imported randomPath fdWrite 6
     ∷ allowing defaultAllow 6 (accepted true)
     ∷ manifest oneWorld (accepted oneWorldRead)
     ∷ []
 
 pub examples-hold : AllHold examples
-unfolding ulebAt u32At slebAt told narrowed onward uN sN twos grown spent byteAt fixedAt takeAt countedAt checked nameAt moduleAt headerAt
-    magic same walkFrom walk turned sectionAt contentsAt addSection capacityOf noTables importsOf entriesFrom importAt descAt funcAt upTo
-    scan seqLen after follow8 followIn covers table
-    follow laid cells importCells moduleRows asked importsTested tested firstFrom importBad importFits kindIs cellOf rangeOf fitted
-    importDomain pathDomain headOf judged passes preview heads seek begins indexOf
-    readPolicy readWith wholeText run zeroPolicy obey linesOf linesFrom lineLen lineStep crBefore directive core spoken worded
+unfolding ulebAt u32At slebAt toldAt narrowed onward uN sN twos grown spent byteAt fixedAt takeAt countedAt checked nameAt moduleAt headerAt
+    magic same walkFrom walk turnOf sectionAt contentsAt addSection capacityOf noTables importsOf entriesFrom importAt descAt funcAt upTo
+    scan seqLen after followers followIn covers utf8Table
+    follow laid cells importCells moduleRows asked importsTested tested firstFrom importFits kindIs cellOf rangeOf fitted
+    importDomain pathDomain headOf classedBy passes preview heads seek begins indexOf
+    readPolicy readWith wholeText run zeroPolicy obey linesOf linesFrom lineLen lineStep crBefore policyDirective policyCore
+    policySpoken policyWorded
     defaulted fault trim trimStart trimEnd startLen endLen chars charsFrom more moreBy codeOf codeBy isWhite whites inSome effectiveOf
-    indexOf2 shorn unbraced wordedLine coreLine spokenLine directiveLine start closeAt openAt obeyAt lineAt linesAt
+    indexOf2 shorn unbraced manifestWorded manifestCore manifestSpoken manifestDirective start closeAt openAt obeyAt lineAt linesAt
     manifestAt
-examples-hold =
-    (refl, (refl, (refl, (refl, (refl, (refl, (refl, (refl, (refl, (refl, (refl, (refl, (refl, (refl, (refl, (refl, (refl, (refl, tt))))))))))))))))))
+examples-hold = (
+  refl,
+  (
+    refl,
+    (
+      refl,
+      (
+        refl,
+        (
+          refl,
+          (
+            refl,
+            (
+              refl,
+              (
+                refl,
+                (
+                  refl,
+                  (refl, (refl, (refl, (refl, (refl, (refl, (refl, (refl, (refl, tt))))))))),
+                ),
+              ),
+            ),
+          ),
+        ),
+      ),
+    ),
+  ),
+)

@@ -13,17 +13,17 @@ use Rattle.refusal.specs.declared.Part.{Part}
 use Rattle.refusal.proofs.Following.{followed}
 use Rattle.text.specs.Trim.{trimStart, trimEnd, trimOf}
 use Rattle.text.proofs.CharLaws.{start-long, end-long}
-use Rattle.pieces.specs.Piece.{trim, bytesOf}
-use Rattle.pieces.proofs.Pieces.{trim-bytes}
+use Rattle.text.specs.Piece.{trim, bytesBetween}
+use Rattle.text.proofs.PieceLaws.{trim-bytes}
 use Rattle.policy.specs.Eight.{policyTest}
 use Rattle.policy.specs.View.{split, commas, full, tokens, range}
 use Rattle.policy.specs.declared.Policy.{Policy}
 use Rattle.verdicts.specs.Evaluate.{effectiveOf}
-use Rattle.rewriting.specs.Token.{placed, ranges, tokensFrom, tokensIn, allTokens}
-use Rattle.rewriting.proofs.Tokens.{glue, split-glue}
+use Rattle.policy_text.specs.Token.{partsPlaced, ranges, tokensFrom, tokensIn, allTokens}
+use Rattle.policy_text.proofs.Tokens.{glue, split-glue}
 
-abbrev pub bytesAt : List ℕ → Part → List ℕ
-bytesAt s x = range s (x .from) (x .len)
+abbrev pub tokenBytes : List ℕ → Part → List ℕ
+tokenBytes s x = range s (x .from) (x .len)
 
 -- a part that stands in the text where it says, trimmed
 trim-range : (s t u : List ℕ) (at : ℕ) → drop at s ≡ t ++ u
@@ -42,8 +42,8 @@ module _ (s : List ℕ) where
   abbrev ranged : ℕ → List ℕ → Part
   ranged at b = record { from = at; len = length b }
 
-  one-more : (at : ℕ) (b : List ℕ) (xs : List Part) (zs : List (List ℕ)) → range s at (length b) ≡ b → map (bytesAt s) xs ≡ full zs
-      → map (bytesAt s) (pick (eqb (length b) 0) xs (ranged at b ∷ xs)) ≡ full (b ∷ zs)
+  one-more : (at : ℕ) (b : List ℕ) (xs : List Part) (zs : List (List ℕ)) → range s at (length b) ≡ b → map (tokenBytes s) xs ≡ full zs
+      → map (tokenBytes s) (pick (eqb (length b) 0) xs (ranged at b ∷ xs)) ≡ full (b ∷ zs)
   unfolding full
   one-more at [] xs zs q h = h
   one-more at (x ∷ b) xs zs q h =
@@ -61,8 +61,8 @@ module _ (s : List ℕ) where
       ∙ append-assoc v (glue vs) u
 
   parts-said : (at : ℕ) (t : List ℕ) (ts : List (List ℕ)) (u : List ℕ) → drop at s ≡ t ++ (glue ts ++ u)
-      → map (bytesAt s) (ranges (map trim (placed at (t ∷ ts)))) ≡ full (map trimOf (t ∷ ts))
-  unfolding placed ranges
+      → map (tokenBytes s) (ranges (map trim (partsPlaced at (t ∷ ts)))) ≡ full (map trimOf (t ∷ ts))
+  unfolding partsPlaced ranges
   parts-said at t [] u e =
       let p = trim (record { at = at; bytes = t }) in
       one-more (p .at) (p .bytes) [] [] (trim-range s t (glue [] ++ u) at e) (unfold full in refl)
@@ -71,15 +71,15 @@ module _ (s : List ℕ) where
       let p = trim (record { at = at; bytes = t }) in
       let next = at + length t + 1 in
       let d : drop next s ≡ v ++ (glue vs ++ u) = comma-past at t v vs u e in
-      one-more (p .at) (p .bytes) (ranges (map trim (placed next (v ∷ vs)))) (map trimOf (v ∷ vs))
+      one-more (p .at) (p .bytes) (ranges (map trim (partsPlaced next (v ∷ vs)))) (map trimOf (v ∷ vs))
       (trim-range s t (glue (v ∷ vs) ++ u) at e) (parts-said next v vs u d)
       ∙ ap (λ (b : List ℕ). full (b ∷ map trimOf (v ∷ vs))) (trim-bytes (record { at = at; bytes = t }))
 
 -- what is listed in a range of a text
-pub tokens-said : (s : List ℕ) (a e : ℕ) → map (bytesAt s) (tokensIn s a e) ≡ tokens (bytesOf s a e)
+pub tokens-said : (s : List ℕ) (a e : ℕ) → map (tokenBytes s) (tokensIn s a e) ≡ tokens (bytesBetween s a e)
 unfolding tokensFrom tokens commas
 tokens-said s a e =
-    let b = bytesOf s a e in
+    let b = bytesBetween s a e in
     let u = drop (e - a) (drop a s) in
     let h = split b .head in
     let r = split b .rest in
@@ -88,7 +88,7 @@ tokens-said s a e =
 
 -- THE LIST IS THE POLICY'S: of a domain, the bytes of its rule's tokens, in their order
 pub listed-said : (s : List ℕ) (p : Policy) (d : ℕ) {xs : List Part} → allTokens s p d ≡ accepted xs
-    → map (bytesAt s) xs ≡ tokens (range s (effectiveOf p d .from) (effectiveOf p d .len))
+    → map (tokenBytes s) xs ≡ tokens (range s (effectiveOf p d .from) (effectiveOf p d .len))
 unfolding allTokens
 listed-said s p d {xs} e =
     let a = effectiveOf p d .from in
@@ -97,4 +97,4 @@ listed-said s p d {xs} e =
     let f = followed (policyTest s p) (λ ok. accepted l) e in
     let z : l ≡ xs = cc (f .then) in
     let k : a + n - a ≡ n = omega arith in
-    ap (map (bytesAt s)) (sym z) ∙ tokens-said s a (a + n) ∙ ap (λ (m : ℕ). tokens (take m (drop a s))) k
+    ap (map (tokenBytes s)) (sym z) ∙ tokens-said s a (a + n) ∙ ap (λ (m : ℕ). tokens (take m (drop a s))) k

@@ -13,26 +13,12 @@ use Rattle.capi.proofs.cursor.viscrombal_sleb128.Kinds as sleb128-kinds
 use Rattle.capi.proofs.cursor.viscrombal_sleb128.Reads as sleb128
 use Rattle.capi.proofs.cursor.viscrombal_name.Kinds as name-kinds
 use Rattle.capi.proofs.cursor.viscrombal_name.Reads as name
-use Rattle.capi.proofs.policies.number_of.Kinds as number-of-kinds
-use Rattle.capi.proofs.policies.number_of.Reads as number-of
-use Rattle.capi.proofs.policies.place_of.Kinds as place-of-kinds
-use Rattle.capi.proofs.policies.place_of.Reads as place-of
 use Rattle.capi.proofs.policies.viscrombal_policy.Kinds as policy-kinds
 use Rattle.capi.proofs.policies.viscrombal_policy.Reads as policy
-use Rattle.capi.proofs.policies.no_token.Kinds as no-token-kinds
-use Rattle.capi.proofs.policies.no_token.Reads as no-token
-use Rattle.capi.proofs.policies.token_of.Kinds as token-of-kinds
-use Rattle.capi.proofs.policies.token_of.Reads as token-of
-use Rattle.capi.proofs.policies.token_for.Kinds as token-for-kinds
-use Rattle.capi.proofs.policies.token_for.Reads as token-for
 use Rattle.capi.proofs.policies.viscrombal_token.Kinds as token-kinds
 use Rattle.capi.proofs.policies.viscrombal_token.Reads as token
-use Rattle.capi.proofs.check.judged_of.Kinds as judged-of-kinds
-use Rattle.capi.proofs.check.judged_of.Reads as judged-of
 use Rattle.capi.proofs.check.viscrombal_check.Kinds as check-kinds
 use Rattle.capi.proofs.check.viscrombal_check.Reads as check
-use Rattle.capi.proofs.policies.written_of.Kinds as written-of-kinds
-use Rattle.capi.proofs.policies.written_of.Reads as written-of
 use Rattle.capi.proofs.policies.viscrombal_rewrite.Kinds as rewrite-kinds
 use Rattle.capi.proofs.policies.viscrombal_rewrite.Reads as rewrite
 
@@ -48,32 +34,11 @@ sleb128-decides κs a x y s t p q = p ∙ sym q
 pub name-decides : Decides name-kinds.ps name-kinds.r name.Post
 name-decides κs a x y s t p q = p ∙ sym q
 
-pub number-of-decides : Decides number-of-kinds.ps number-of-kinds.r number-of.Post
-number-of-decides κs a x y s t p q = p ∙ sym q
-
-pub place-of-decides : Decides place-of-kinds.ps place-of-kinds.r place-of.Post
-place-of-decides κs a x y s t p q = p ∙ sym q
-
 pub policy-decides : Decides policy-kinds.ps policy-kinds.r policy.Post
 policy-decides κs a x y s t p q = p ∙ sym q
 
-pub no-token-decides : Decides no-token-kinds.ps no-token-kinds.r no-token.Post
-no-token-decides κs a x y s t p q = p ∙ sym q
-
-pub token-of-decides : Decides token-of-kinds.ps token-of-kinds.r token-of.Post
-token-of-decides κs a x y s t p q = p ∙ sym q
-
-pub token-for-decides : Decides token-for-kinds.ps token-for-kinds.r token-for.Post
-token-for-decides κs a x y s t p q = p ∙ sym q
-
 pub token-decides : Decides token-kinds.ps token-kinds.r token.Post
 token-decides κs a x y s t p q = p ∙ sym q
-
-pub judged-of-decides : Decides judged-of-kinds.ps judged-of-kinds.r judged-of.Post
-judged-of-decides κs a x y s t p q = p ∙ sym q
-
-pub written-of-decides : Decides written-of-kinds.ps written-of-kinds.r written-of.Post
-written-of-decides κs a x y s t p q = p ∙ sym q
 
 pub rewrite-decides : Decides rewrite-kinds.ps rewrite-kinds.r rewrite.Post
 rewrite-decides κs a x y s t p q = p .answer-is ∙ sym (q .answer-is)

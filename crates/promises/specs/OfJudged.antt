@@ -14,9 +14,9 @@ use borrow.Fn.World.{ArgsD, ResD}
 use denote.Triple.Clauses.{AtExit}
 use denote.Ref.{now}
 use Rattle.verdicts.specs.Evaluate.{evaluated}
-use Rattle.evaluation.specs.Evaluate.{numbers}
-use Rattle.capi.specs.Check.{evaluationTold}
-use Rattle.capi.specs.declared.check.EvaluationTold.{EvaluationTold}
+use Rattle.verdicts.specs.Records.{numbers}
+use Rattle.told.specs.Check.{evaluationTold}
+use Rattle.told.specs.declared.check.EvaluationTold.{EvaluationTold}
 use Rattle.judged.specs.Policies.{policyIn}
 use Rattle.promises.specs.Decides.{Decides}
 use Rattle.judged.proofs.rows.judged_module.Kinds as module-kinds
@@ -63,6 +63,12 @@ use Rattle.judged.proofs.words.judged_section.Kinds as section-kinds
 use Rattle.judged.proofs.words.judged_section.Reads as section-reads
 use Rattle.judged.proofs.words.judged_change.Kinds as change-kinds
 use Rattle.judged.proofs.words.judged_change.Reads as change-reads
+use Rattle.judged.proofs.words.judged_slug.Kinds as slug-kinds
+use Rattle.judged.proofs.words.judged_slug.Reads as slug-reads
+use Rattle.judged.proofs.words.judged_domain.Kinds as domain-kinds
+use Rattle.judged.proofs.words.judged_domain.Reads as domain-reads
+use Rattle.judged.proofs.policies.judged_effective.Kinds as effective-kinds
+use Rattle.judged.proofs.policies.judged_effective.Reads as effective-reads
 use Rattle.judged.proofs.policies.judged_token.Kinds as token-kinds
 use Rattle.judged.proofs.policies.judged_token.Reads as token-reads
 use Rattle.judged.proofs.policies.judged_write.Kinds as write-kinds
@@ -247,3 +253,12 @@ section-decides κs a x y s t p q = p ∙ sym q
 
 pub change-decides : Decides change-kinds.ps change-kinds.r change-reads.Post
 change-decides κs a x y s t p q = p ∙ sym q
+
+pub slug-decides : Decides slug-kinds.ps slug-kinds.r slug-reads.Post
+slug-decides κs a x y s t p q = p ∙ sym q
+
+pub domain-decides : Decides domain-kinds.ps domain-kinds.r domain-reads.Post
+domain-decides κs a x y s t p q = p ∙ sym q
+
+pub effective-decides : Decides effective-kinds.ps effective-kinds.r effective-reads.Post
+effective-decides κs a x y s t p q = p ∙ sym q

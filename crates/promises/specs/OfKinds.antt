@@ -1,5 +1,8 @@
 -- No two answers satisfy the promise of any function of kinds. Assumes nothing.
-use mathlib.Core.Path.{_≡_, sym, _∙_}
+use mathlib.Core.Path.{_≡_, refl, sym, _∙_}
+use mathlib.Core.List.{[], _∷_}
+use Rattle.kinds.specs.Kinds.{kindByte, kindWord}
+use Rattle.kinds.specs.declared.ExternalKind.the-variants.{Other}
 use Rattle.promises.specs.Decides.{Decides}
 use Rattle.kinds.proofs.kind_of.Kinds as kind-of-kinds
 use Rattle.kinds.proofs.kind_of.Reads as kind-of
@@ -21,3 +24,7 @@ kind-slug-decides κs a x y s t p q = p ∙ sym q
 
 pub section-name-decides : Decides section-name-kinds.ps section-name-kinds.r section-name.Post
 section-name-decides κs a x y s t p q = p ∙ sym q
+
+-- the kind that no reader makes, other with the byte of one that has a name of its own: its byte is 0, its word `other:0x00`
+pub other-unmade : (kindByte (Other 0) ≡ 0) × (kindWord (Other 0) ≡ 111 ∷ 116 ∷ 104 ∷ 101 ∷ 114 ∷ 58 ∷ 48 ∷ 120 ∷ 48 ∷ 48 ∷ [])
+other-unmade = (refl, refl)

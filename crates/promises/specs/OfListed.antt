@@ -5,16 +5,16 @@ use borrow.Fn.Kinds.{Dens, resT, endedOf}
 use denote.Triple.Clauses.{AtExit}
 use denote.Ref.{now}
 use Rattle.promises.specs.Decides.{Decides}
-use Rattle.cells.proofs.put_cells.Kinds as put-cells-kinds
-use Rattle.cells.proofs.put_cells.Reads as put-cells
+use Rattle.output.proofs.cells.put_cells.Kinds as put-cells-kinds
+use Rattle.output.proofs.cells.put_cells.Reads as put-cells
 use Rattle.listed.proofs.modules.list_module.Kinds as list-module-kinds
 use Rattle.listed.proofs.modules.list_module.Reads as list-module
 use Rattle.listed.proofs.manifests.list_manifest.Kinds as list-manifest-kinds
 use Rattle.listed.proofs.manifests.list_manifest.Reads as list-manifest
 use Rattle.listed.proofs.comparison.list_comparison.Kinds as list-comparison-kinds
 use Rattle.listed.proofs.comparison.list_comparison.Reads as list-comparison
-use Rattle.tokens.proofs.list_tokens.Kinds as list-tokens-kinds
-use Rattle.tokens.proofs.list_tokens.Reads as list-tokens
+use Rattle.listed.proofs.tokens.list_tokens.Kinds as list-tokens-kinds
+use Rattle.listed.proofs.tokens.list_tokens.Reads as list-tokens
 use Rattle.capi.proofs.lists.viscrombal_compare.Kinds as compare-kinds
 use Rattle.capi.proofs.lists.viscrombal_compare.Reads as compare
 use Rattle.capi.proofs.lists.viscrombal_module.Kinds as module-kinds

@@ -9,8 +9,8 @@ use Rattle.domains.proofs.DomainLaws.{same-domain}
 use Rattle.domains.proofs.Known.{found-known}
 use Rattle.policy.proofs.Known.{read-known}
 use Rattle.verdicts.proofs.Known.{evaluation-known}
-use Rattle.writing.proofs.Known.{one-answer, one-output}
-use Rattle.rewriting.proofs.Known.{token-known}
+use Rattle.output.proofs.Known.{one-answer, one-output}
+use Rattle.policy_text.proofs.Known.{token-known}
 use Rattle.promises.specs.Decides.{Decides}
 use Rattle.domains.proofs.domain_number.Kinds as domain-number-kinds
 use Rattle.domains.proofs.domain_number.Reads as domain-number
@@ -42,12 +42,12 @@ use Rattle.verdicts.proofs.unjudged.Kinds as unjudged-kinds
 use Rattle.verdicts.proofs.unjudged.Reads as unjudged
 use Rattle.verdicts.proofs.evaluate_domains.Kinds as evaluate-domains-kinds
 use Rattle.verdicts.proofs.evaluate_domains.Reads as evaluate-domains
-use Rattle.rewriting.proofs.token.next_token.Kinds as next-token-kinds
-use Rattle.rewriting.proofs.token.next_token.Reads as next-token
-use Rattle.rewriting.proofs.token.first_token.Kinds as first-token-kinds
-use Rattle.rewriting.proofs.token.first_token.Reads as first-token
-use Rattle.rewriting.proofs.write_policy.Kinds as write-policy-kinds
-use Rattle.rewriting.proofs.write_policy.Reads as write-policy
+use Rattle.policy_text.proofs.token.next_token.Kinds as next-token-kinds
+use Rattle.policy_text.proofs.token.next_token.Reads as next-token
+use Rattle.policy_text.proofs.token.first_token.Kinds as first-token-kinds
+use Rattle.policy_text.proofs.token.first_token.Reads as first-token
+use Rattle.policy_text.proofs.write_policy.Kinds as write-policy-kinds
+use Rattle.policy_text.proofs.write_policy.Reads as write-policy
 
 pub domain-number-decides : Decides domain-number-kinds.ps domain-number-kinds.r domain-number.Post
 domain-number-decides κs a x y s t p q = p ∙ sym q

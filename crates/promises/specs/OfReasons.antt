@@ -5,11 +5,11 @@ use contract.Lifetimes.{Lfts}
 use borrow.Fn.Kinds.{Dens, resT, endedOf}
 use denote.Triple.Clauses.{AtExit}
 use denote.Ref.{now}
-use Rattle.writing.proofs.Known.{one-answer, one-output, one-answer-from}
-use Rattle.writing.proofs.put.Kinds as put-kinds
-use Rattle.writing.proofs.put.Reads as put
-use Rattle.writing.proofs.put_domain.Kinds as put-domain-kinds
-use Rattle.writing.proofs.put_domain.Reads as put-domain
+use Rattle.output.proofs.Known.{one-answer, one-output, one-answer-from}
+use Rattle.output.proofs.bytes.put.Kinds as put-kinds
+use Rattle.output.proofs.bytes.put.Reads as put
+use Rattle.output.proofs.bytes.put_domain.Kinds as put-domain-kinds
+use Rattle.output.proofs.bytes.put_domain.Reads as put-domain
 use Rattle.reasons.proofs.reasons_from.Kinds as reasons-from-kinds
 use Rattle.reasons.proofs.reasons_from.Reads as reasons-from
 use Rattle.reasons.proofs.breaking_reasons.Kinds as breaking-reasons-kinds

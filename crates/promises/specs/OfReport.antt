@@ -4,7 +4,7 @@ use contract.Lifetimes.{Lfts}
 use borrow.Fn.Kinds.{Dens, resT, endedOf}
 use denote.Triple.Clauses.{AtExit}
 use denote.Ref.{now}
-use Rattle.writing.proofs.Known.{one-answer, one-output}
+use Rattle.output.proofs.Known.{one-answer, one-output}
 use Rattle.promises.specs.Decides.{Decides}
 use Rattle.report.proofs.refusal_line.Kinds as refusal-line-kinds
 use Rattle.report.proofs.refusal_line.Reads as refusal-line

@@ -2,6 +2,7 @@
 use mathlib.Core.Path.{_≡_, sym, _∙_}
 use Rattle.text.specs.declared.lines.Line.{Line}
 use Rattle.promises.specs.Decides.{Decides}
+use Rattle.refusal.proofs.Known.{answer-known}
 use Rattle.text.proofs.utf8.valid_up_to.Kinds as valid-up-to-kinds
 use Rattle.text.proofs.utf8.valid_up_to.Reads as valid-up-to
 use Rattle.text.proofs.white.is_white.Kinds as is-white-kinds
@@ -24,6 +25,12 @@ use Rattle.text.proofs.order.equal.Kinds as equal-kinds
 use Rattle.text.proofs.order.equal.Reads as equal
 use Rattle.text.proofs.order.compare.Kinds as compare-kinds
 use Rattle.text.proofs.order.compare.Reads as compare
+use Rattle.text.proofs.pieces.test_text.Kinds as test-text-kinds
+use Rattle.text.proofs.pieces.test_text.Reads as test-text
+use Rattle.text.proofs.pieces.trimmed_at.Kinds as trimmed-at-kinds
+use Rattle.text.proofs.pieces.trimmed_at.Reads as trimmed-at
+use Rattle.text.proofs.pieces.shorn_of.Kinds as shorn-of-kinds
+use Rattle.text.proofs.pieces.shorn_of.Reads as shorn-of
 
 -- a line is known by its ends
 line-known : (x y : Line) → x .end ≡ y .end → x .next ≡ y .next → x ≡ y
@@ -61,3 +68,12 @@ equal-decides κs a x y s t p q = p ∙ sym q
 
 pub compare-decides : Decides compare-kinds.ps compare-kinds.r compare.Post
 compare-decides κs a x y s t p q = p ∙ sym q
+
+pub test-text-decides : Decides test-text-kinds.ps test-text-kinds.r test-text.Post
+test-text-decides κs a x y s t p q = answer-known x y (p ∙ sym q)
+
+pub trimmed-at-decides : Decides trimmed-at-kinds.ps trimmed-at-kinds.r trimmed-at.Post
+trimmed-at-decides κs a x y s t p q = p .0 ∙ sym (q .0)
+
+pub shorn-of-decides : Decides shorn-of-kinds.ps shorn-of-kinds.r shorn-of.Post
+shorn-of-decides κs a x y s t p q = p ∙ sym q

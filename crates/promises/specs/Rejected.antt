@@ -24,17 +24,18 @@ use Rattle.text.specs.Trim.{startLen, endLen, trimStart, trimEnd}
 use Rattle.text.specs.Lines.{crBefore, lineLen, lineStep}
 use Rattle.text.specs.Find.{seek, begins, same, indexOf}
 use Rattle.text.specs.Scan.{scan}
-use Rattle.text.specs.Utf8.{upTo, seqLen, after, followIn, covers, table}
-use Rattle.text.specs.Utf8.{follow as follow8}
+use Rattle.text.specs.Utf8.{upTo, seqLen, after, followIn, covers, utf8Table}
+use Rattle.text.specs.Utf8.{followers}
 use Rattle.domains.specs.Domain.{words, wordIn, domainOf}
-use Rattle.pieces.specs.Whole.{wholeText}
-use Rattle.pieces.specs.Piece.{trim}
+use Rattle.text.specs.Whole.{wholeText}
+use Rattle.text.specs.Piece.{trim}
 use Rattle.policy.specs.Piece.{linesFrom, linesOf}
-use Rattle.policy.specs.Directive.{plainBy, listedBy, ruled, worded, spoken, core, directive, fault}
+use Rattle.policy.specs.Directive.{plainBy, listedBy, ruleDirective, policyWorded, policySpoken, policyCore, policyDirective, fault}
 use Rattle.policy.specs.Reader.{run, readWith, zeroPolicy, stanceOf, obey, readPolicy, policyOf}
 use Rattle.policy.specs.Eight.{slotOf, policyTest}
 use Rattle.policy.specs.View.{says}
-use Rattle.verdicts.specs.Evaluate.{effectiveOf, violates, bits, members, outcome, outcomeOf, noOutcome, domainsTest, evaluated, EvaluatedAs}
+use Rattle.verdicts.specs.Evaluate.{effectiveOf, violates, bits, members, outcome, outcomeOf, noOutcome, domainsTest, evaluated}
+use Rattle.verdicts.specs.Evaluate.{EvaluatedAs}
 use Rattle.policy.specs.declared.Policy.{Policy}
 use Rattle.policy.specs.declared.PolicyRead.{PolicyRead}
 use Rattle.verdicts.specs.declared.Evaluation.{Evaluation}
@@ -43,12 +44,12 @@ use Rattle.policy.proofs.read_policy.Kinds as read-policy-kinds
 use Rattle.policy.proofs.read_policy.Reads as read-policy
 use Rattle.verdicts.proofs.evaluate_domains.Kinds as evaluate-domains-kinds
 use Rattle.verdicts.proofs.evaluate_domains.Reads as evaluate-domains
-use Rattle.writing.specs.Writing.{roomFor, counted, left, Told}
-use Rattle.rewriting.specs.Writer.{nameLine, formLines, unlines, form, written}
-use Rattle.rewriting.proofs.write_policy.Kinds as write-policy-kinds
-use Rattle.rewriting.proofs.write_policy.Reads as write-policy
+use Rattle.output.specs.Bytes.{roomFor, writtenCount, left, WriterTells}
+use Rattle.policy_text.specs.Writer.{nameLine, formLines, unlines, form, written}
+use Rattle.policy_text.proofs.write_policy.Kinds as write-policy-kinds
+use Rattle.policy_text.proofs.write_policy.Reads as write-policy
 use Rattle.leb.specs.Grammar.{U}
-use Rattle.leb.specs.Answers.{from}
+use Rattle.leb.specs.Answers.{answerFrom}
 use Rattle.leb.specs.declared.Cursor.{Cursor}
 use Rattle.leb.specs.declared.U64Read.{U64Read}
 use Rattle.leb.proofs.Conform.{u64-read}
@@ -58,7 +59,7 @@ use Rattle.wasm.specs.declared.ModuleRead.{ModuleRead}
 use Rattle.wasm.proofs.read_module.Kinds as read-module-kinds
 use Rattle.wasm.proofs.read_module.Reads as read-module
 use Rattle.wit.specs.Manifest.{State, manifestAt, manifestOf}
-use Rattle.wit.specs.Manifest.{sizes as manifestSizes}
+use Rattle.wit.specs.Manifest.{manifestSizes}
 use Rattle.wit.specs.declared.Manifest.{Manifest}
 use Rattle.wit.specs.declared.ManifestRead.{ManifestRead}
 use Rattle.wit.proofs.read_manifest.Kinds as read-manifest-kinds
@@ -70,9 +71,9 @@ use Rattle.leb.proofs.Cursor.uleb128.Reads as uleb128
 pub refuses-number : (κs : Lfts 1) (a : Dens κs uleb128-kinds.ps) (s : AtExit (endedOf 1 uleb128-kinds.ps uleb128-kinds.r) κs)
     (why : Refusal) (back : Cursor) (v k : ℕ)
     → U 64 (drop (a .0 .at) (now (a .1 .0))) v k → uleb128.Post κs a (U64Read.Refused why back) s → ⊥
-unfolding from
+unfolding answerFrom
 refuses-number κs a s why back v k u p =
-    let e = p ∙ ap (from (a .0 .at)) (u64-read (now (a .1 .0)) (a .0 .at) v k u) in
+    let e = p ∙ ap (answerFrom (a .0 .at)) (u64-read (now (a .1 .0)) (a .0 .at) v k u) in
     let z : _≡_ {A = ℕ} 0 1 = cc in
     omega arith
 
@@ -102,15 +103,19 @@ abbrev bothLines : List ℕ
 bothLines = firstLine ++ (100 ∷ 101 ∷ 110 ∷ 121 ∷ 32 ∷ 102 ∷ 115 ∷ 10 ∷ [])
 
 first-allows : effectiveOf (policyOf (readPolicy firstLine)) 0 .allow ≡ true
-unfolding readPolicy readWith wholeText run zeroPolicy obey stanceOf linesOf linesFrom lineLen lineStep crBefore directive
-    core spoken worded ruled plainBy fault domainOf words wordIn trim trimStart trimEnd startLen endLen chars charsFrom
-    more moreBy codeOf codeBy isWhite whites inSome upTo scan seqLen after follow8 followIn covers table same seek begins indexOf follow effectiveOf
+unfolding readPolicy readWith wholeText run zeroPolicy obey stanceOf linesOf linesFrom lineLen lineStep crBefore policyDirective
+    policyCore policySpoken policyWorded ruleDirective plainBy fault domainOf words wordIn trim trimStart trimEnd startLen endLen chars
+    charsFrom
+    more moreBy codeOf codeBy isWhite whites inSome upTo scan seqLen after followers followIn covers utf8Table same seek begins indexOf
+    follow effectiveOf
 first-allows = refl
 
 later-denies : effectiveOf (policyOf (readPolicy bothLines)) 0 .allow ≡ false
-unfolding readPolicy readWith wholeText run zeroPolicy obey stanceOf linesOf linesFrom lineLen lineStep crBefore directive
-    core spoken worded ruled plainBy fault domainOf words wordIn trim trimStart trimEnd startLen endLen chars charsFrom
-    more moreBy codeOf codeBy isWhite whites inSome upTo scan seqLen after follow8 followIn covers table same seek begins indexOf follow effectiveOf
+unfolding readPolicy readWith wholeText run zeroPolicy obey stanceOf linesOf linesFrom lineLen lineStep crBefore policyDirective
+    policyCore policySpoken policyWorded ruleDirective plainBy fault domainOf words wordIn trim trimStart trimEnd startLen endLen chars
+    charsFrom
+    more moreBy codeOf codeBy isWhite whites inSome upTo scan seqLen after followers followIn covers utf8Table same seek begins indexOf
+    follow effectiveOf
 later-denies = refl
 
 pub first-line-only : (κs : Lfts 1) (a : Dens κs read-policy-kinds.ps) (s : AtExit (endedOf 1 read-policy-kinds.ps read-policy-kinds.r) κs)
@@ -128,9 +133,11 @@ listThenNone =
     97 ∷ 108 ∷ 108 ∷ 111 ∷ 119 ∷ 32 ∷ 102 ∷ 115 ∷ 58 ∷ 32 ∷ 97 ∷ 10 ∷ (100 ∷ 101 ∷ 110 ∷ 121 ∷ 32 ∷ 102 ∷ 115 ∷ 10 ∷ [])
 
 no-tokens : slotOf (policyOf (readPolicy listThenNone)) 0 .len ≡ 0
-unfolding readPolicy readWith wholeText run zeroPolicy obey stanceOf linesOf linesFrom lineLen lineStep crBefore directive
-    core spoken worded ruled plainBy listedBy fault domainOf words wordIn trim trimStart trimEnd startLen endLen chars charsFrom
-    more moreBy codeOf codeBy isWhite whites inSome upTo scan seqLen after follow8 followIn covers table same seek begins indexOf follow
+unfolding readPolicy readWith wholeText run zeroPolicy obey stanceOf linesOf linesFrom lineLen lineStep crBefore policyDirective
+    policyCore policySpoken policyWorded ruleDirective plainBy listedBy fault domainOf words wordIn trim trimStart trimEnd startLen
+    endLen chars charsFrom
+    more moreBy codeOf codeBy isWhite whites inSome upTo scan seqLen after followers followIn covers utf8Table same seek begins indexOf
+    follow
 no-tokens = refl
 
 pub tokens-kept : (κs : Lfts 1) (a : Dens κs read-policy-kinds.ps) (s : AtExit (endedOf 1 read-policy-kinds.ps read-policy-kinds.r) κs)
@@ -162,11 +169,11 @@ wrote w room {v} e = by (ltb room (length w)) e where
   by true e = absurd (never e)
   by false e = cc
 
-told-text : (t : List ℕ) (p : Policy) (d x : List ℕ) (n : ℕ) → Told (written t p (length d)) d (Written.Bytes n) x
+told-text : (t : List ℕ) (p : Policy) (d x : List ℕ) (n : ℕ) → WriterTells (written t p (length d)) d (Written.Bytes n) x
     → (take n x ≡ form (says t p)) × (n ≡ length (form (says t p)))
 unfolding written
 told-text t p d x n h = by (written t p (length d)) refl (h .answer) (h .output) where
-  by : (o : Said (List ℕ)) → written t p (length d) ≡ o → accepted n ≡ counted o → x ≡ left d o
+  by : (o : Said (List ℕ)) → written t p (length d) ≡ o → accepted n ≡ writtenCount o → x ≡ left d o
       → (take n x ≡ form (says t p)) × (n ≡ length (form (says t p)))
   by (accepted w) e q f =
       let g = followed (policyTest t p) (λ ok. roomFor (form (says t p)) (length d)) e in

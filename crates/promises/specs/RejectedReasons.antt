@@ -16,14 +16,14 @@ use Rattle.refusal.specs.Pick.{pick}
 use Rattle.refusal.specs.Said.{Said, accepted, refused, follow}
 use Rattle.refusal.specs.declared.Written.{Written}
 use Rattle.refusal.proofs.Following.{never, followed}
-use Rattle.table.specs.Table.{cellOf, capacityOf}
-use Rattle.differences.specs.View.{exportAt}
-use Rattle.differences.specs.Compared.{Given, given, Lists, compared, Verdict, verdictOf}
+use Rattle.table.specs.Shape.{capacityIn, cellIn}
+use Rattle.differences.specs.View.{exportKeyAt}
+use Rattle.differences.specs.Compared.{Given, given, Lists, compared, Verdict, verdictOn}
 use Rattle.compat.specs.declared.Compared.{Compared}
 use Rattle.compat.proofs.compare_modules.Kinds as compare-modules-kinds
 use Rattle.compat.proofs.compare_modules.Reads as compare-modules
-use Rattle.writing.specs.Writing.{roomFor, counted, left}
-use Rattle.reasons.specs.Reasons.{Diffs, diffs, lines, exportReason, exportRow, exportReasons, needReasons, reasonsOf, reasonsTested}
+use Rattle.output.specs.Bytes.{roomFor, writtenCount, left}
+use Rattle.reasons.specs.Reasons.{Diffs, diffs, reasonLines, exportReason, exportRow, exportReasons, needReasons, reasonsOf, reasonsTested}
 use Rattle.reasons.specs.Reasons.{reasoned, Reasons}
 use Rattle.reasons.proofs.breaking_reasons.Kinds as breaking-reasons-kinds
 use Rattle.reasons.proofs.breaking_reasons.Reads as breaking-reasons
@@ -36,15 +36,15 @@ module _ (κs : Lfts 7) (a : Dens κs compare-modules-kinds.ps)
       compared (given (now (a .0)) (now (a .1 .0)) (a .1 .1 .0) (now (a .1 .1 .1 .0)) (a .1 .1 .1 .1 .0))
       (given (now (a .1 .1 .1 .1 .1 .0)) (now (a .1 .1 .1 .1 .1 .1 .0)) (a .1 .1 .1 .1 .1 .1 .1 .0)
       (now (a .1 .1 .1 .1 .1 .1 .1 .1 .0)) (a .1 .1 .1 .1 .1 .1 .1 .1 .1 .0))
-      (capacityOf (length (now (a .1 .1 .1 .1 .1 .1 .1 .1 .1 .1 .0))) 2 2048)
-      (capacityOf (length (now (a .1 .1 .1 .1 .1 .1 .1 .1 .1 .1 .1 .0))) 3 2048)
+      (capacityIn 8 (length (now (a .1 .1 .1 .1 .1 .1 .1 .1 .1 .1 .0))))
+      (capacityIn 9 (length (now (a .1 .1 .1 .1 .1 .1 .1 .1 .1 .1 .1 .0))))
 
-  pub always-compatible : (l : Lists) (m n : ℕ) → comparedHere ≡ accepted l → verdictOf l .compatible ≡ false
+  pub always-compatible : (l : Lists) (m n : ℕ) → comparedHere ≡ accepted l → verdictOn l .compatible ≡ false
       → compare-modules.Post κs a (Compared.Lists m n true) s → ⊥
   unfolding follow
   always-compatible l m n e b p =
-      let q : accepted (record { exports = m; capabilities = n; compatible = true }) ≡ accepted (verdictOf l) =
-      p .answer-is ∙ ap (λ (x : Said Lists). follow x (λ k. accepted (verdictOf k))) e in
+      let q : accepted (record { exports = m; capabilities = n; compatible = true }) ≡ accepted (verdictOn l) =
+      p .answer-is ∙ ap (λ (x : Said Lists). follow x (λ k. accepted (verdictOn k))) e in
       let k : true ≡ false = ap (λ (v : Said Verdict). fineOf v) q ∙ b in
       let z : _≡_ {A = ℕ} 0 1 = cc in
       omega arith
@@ -65,7 +65,7 @@ told-reasons : (b c : Given) (d : Diffs) (before x : List ℕ) (n : ℕ) → Rea
     → (take n x ≡ reasonsOf b c d) × (n ≡ length (reasonsOf b c d))
 unfolding reasoned
 told-reasons b c d before x n h = by (reasoned b c d (length before)) refl (h .answer) (h .output) where
-  by : (o : Said (List ℕ)) → reasoned b c d (length before) ≡ o → accepted n ≡ counted o → x ≡ left before o
+  by : (o : Said (List ℕ)) → reasoned b c d (length before) ≡ o → accepted n ≡ writtenCount o → x ≡ left before o
       → (take n x ≡ reasonsOf b c d) × (n ≡ length (reasonsOf b c d))
   by (accepted w) e q f =
       let g = followed (reasonsTested b c d) (λ u. roomFor (reasonsOf b c d) (length before)) e in
@@ -74,24 +74,25 @@ told-reasons b c d before x n h = by (reasoned b c d (length before)) refl (h .a
       (ap (take n) f ∙ take-at w (drop (length w) before) n (sym k) ∙ v, k ∙ ap length v)
   by (refused m i) e q f = absurd (never (sym q))
 
-row-within : (line : ℕ → List ℕ) (i n : ℕ) → i < n → length (line i) ≤ length (lines line n)
-unfolding lines
+row-within : (line : ℕ → List ℕ) (i n : ℕ) → i < n → length (line i) ≤ length (reasonLines line n)
+unfolding reasonLines
 row-within line i zero h = absurd (omega arith)
 row-within line i (suc n) h = by (ltb i n) refl (λ k. row-within line i n k)
   where
-    l : length (lines line n ++ line n) ≡ length (lines line n) + length (line n)
-    l = length-append (lines line n) (line n)
+    l : length (reasonLines line n ++ line n) ≡ length (reasonLines line n) + length (line n)
+    l = length-append (reasonLines line n) (line n)
 
-    by : (t : Bool) → ltb i n ≡ t → (i < n → length (line i) ≤ length (lines line n)) → length (line i) ≤ length (lines line n ++ line n)
+    by : (t : Bool) → ltb i n ≡ t → (i < n → length (line i) ≤ length (reasonLines line n))
+        → length (line i) ≤ length (reasonLines line n ++ line n)
     by true e r = omega (arith, l, r (ltb-true i n e))
     by false e r = let z : i ≡ n = omega (arith, ltb-false i n e) in rw z (omega (arith, l))
 
-some-reason : (b c : Given) (d : Diffs) (i : ℕ) → i < d .exportCount → cellOf (d .exports) 2 i 0 ≡ 0 → 0 < length (reasonsOf b c d)
+some-reason : (b c : Given) (d : Diffs) (i : ℕ) → i < d .exportCount → cellIn 8 (d .exports) i 0 ≡ 0 → 0 < length (reasonsOf b c d)
 unfolding reasonsOf exportRow exportReason
 some-reason b c d i h z =
     let line = exportRow (b .file) (b .exports) (d .exports) in
-    let e : length (line i) ≡ length (exportReason (exportAt (b .file) (b .exports) (cellOf (d .exports) 2 i 1))) =
-    rw (eq-eqb (cellOf (d .exports) 2 i 0) 0 z) in
+    let e : length (line i) ≡ length (exportReason (exportKeyAt (b .file) (b .exports) (cellIn 8 (d .exports) i 1))) =
+    rw (eq-eqb (cellIn 8 (d .exports) i 0) 0 z) in
     omega (
       arith,
       e,
@@ -121,7 +122,7 @@ module _ (κs : Lfts 9) (a : Dens κs breaking-reasons-kinds.ps)
       told-reasons oldModule newModule lentDiffs (now (a .1 .1 .1 .1 .1 .1 .1 .1 .1 .1 .1 .1 .1 .1 .0))
       (now (s .1 .1 .1 .1 .1 .1 .1 .1 .1 .1 .1 .1 .1 .1 .0)) n p .0
 
-  pub writes-no-reason : (i : ℕ) → i < lentDiffs .exportCount → cellOf (lentDiffs .exports) 2 i 0 ≡ 0
+  pub writes-no-reason : (i : ℕ) → i < lentDiffs .exportCount → cellIn 8 (lentDiffs .exports) i 0 ≡ 0
       → breaking-reasons.Post κs a (Written.Bytes 0) s → ⊥
   writes-no-reason i h z p =
       let e = told-reasons oldModule newModule lentDiffs (now (a .1 .1 .1 .1 .1 .1 .1 .1 .1 .1 .1 .1 .1 .1 .0))

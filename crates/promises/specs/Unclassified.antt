@@ -9,7 +9,7 @@ use denote.Ref.{now}
 use lib.ListN.{getD, take}
 use Rattle.refusal.specs.Said.{Said, accepted, refused, follow, saidAnswer}
 use Rattle.refusal.proofs.Following.{never}
-use Rattle.pieces.specs.Whole.{verdictOf}
+use Rattle.text.specs.Whole.{withoutValue}
 use Rattle.policy.specs.Eight.{slotOf}
 use Rattle.verdicts.specs.Evaluate.{Outcome, outcome, outcomeOf, evaluated, domainsTest, effectiveOf, noVerdict, EvaluatedAs}
 use Rattle.policy.specs.declared.Policy.{Policy}
@@ -23,7 +23,7 @@ by-default : (ns : List ℕ) (n : ℕ) (p : Policy) (r : Evaluation) → Evaluat
     → slotOf p 6 .stance ≡ None → getD (r .verdicts) 6 noVerdict .allowed ≡ p .permit
 unfolding evaluated outcome effectiveOf follow
 by-default ns n p r e k h = by (domainsTest ns n) (sym k ∙ e .answer) (e .verdicts) where
-  by : (t : Said (Unit {0})) → accepted tt ≡ verdictOf (follow t (λ ok. accepted (outcome p (take n ns))))
+  by : (t : Said (Unit {0})) → accepted tt ≡ withoutValue (follow t (λ ok. accepted (outcome p (take n ns))))
       → r .verdicts ≡ outcomeOf (follow t (λ ok. accepted (outcome p (take n ns)))) .verdicts
       → getD (r .verdicts) 6 noVerdict .allowed ≡ p .permit
   by (accepted u) q v = ap (λ (l : List Verdict). getD l 6 noVerdict .allowed) v ∙ rw h

@@ -4,10 +4,11 @@ use mathlib.Core.Bool.{true, false}
 use mathlib.Core.List.{List, [], _∷_}
 use Prim.Native.Nat.{ℕ}
 use lib.ListN.{length}
-use Rattle.reasons.specs.Reasons.{exportReason, needReason, exportDiffBad, exportDiffFits, needDiffBad, needDiffFits}
+use Rattle.reasons.specs.Reasons.{exportReason, needReason, exportDiffFits, needDiffFits}
 use Rattle.reasons.specs.Reasons.{exportRow, needRow}
 use Rattle.refusal.specs.Pick.{pick}
 use Rattle.table.specs.Table.{cellOf}
+use Rattle.table.specs.Testing.{bad}
 use Rattle.kinds.specs.Kinds.{kindOf}
 use Rattle.domains.specs.Domain.{slug, slugs}
 
@@ -36,15 +37,15 @@ added-none : exportRow (120 ∷ []) (0 ∷ 1 ∷ 0 ∷ 0 ∷ []) (7 ∷ 0 ∷ []
 unfolding exportRow cellOf
 added-none = refl
 
-added-side : exportDiffBad 0 1 (7 ∷ 0 ∷ []) 0 ≡ false
-unfolding exportDiffBad exportDiffFits cellOf
+added-side : bad (exportDiffFits 0 1 (7 ∷ 0 ∷ [])) 0 ≡ false
+unfolding exportDiffFits cellOf
 added-side = refl
 
 -- a removed row points into the baseline's table (C22); a domain of 7 is bad (C24)
-removed-side : exportDiffBad 1 9 (0 ∷ 1 ∷ []) 0 ≡ true
-unfolding exportDiffBad exportDiffFits cellOf
+removed-side : bad (exportDiffFits 1 9 (0 ∷ 1 ∷ [])) 0 ≡ true
+unfolding exportDiffFits cellOf
 removed-side = refl
 
-domain-seven : needDiffBad 1 1 (1 ∷ 7 ∷ 0 ∷ []) 0 ≡ true
-unfolding needDiffBad needDiffFits cellOf
+domain-seven : bad (needDiffFits 1 1 (1 ∷ 7 ∷ 0 ∷ [])) 0 ≡ true
+unfolding needDiffFits cellOf
 domain-seven = refl

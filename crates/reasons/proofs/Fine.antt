@@ -8,38 +8,40 @@ use borrow.Author.Tests.{ltb-true, eq-eqb}
 use lib.Dec.{eqb, ltb}
 use lib.ListN.{length}
 use Rattle.refusal.specs.Pick.{pick}
+use Rattle.refusal.specs.Sizes.{fileLimit}
 use Rattle.refusal.specs.Said.{Said, accepted, refused, refusedBy, saidAnswer, follow}
 use Rattle.refusal.specs.declared.Answer.{Answer}
 use Rattle.refusal.specs.declared.Refusal.{Refusal}
 use Rattle.refusal.specs.declared.Written.{Written}
 use Rattle.refusal.specs.declared.Written.the-variants.{Refused}
 use Rattle.refusal.proofs.Following.{followed}
-use Rattle.table.specs.Table.{cellOf, capacityOf}
+use Rattle.table.specs.Shape.{width, limit, capacityIn, cellIn}
 use Rattle.table.proofs.Cells.{capacity-limit}
+use Rattle.table.specs.Testing.{bad}
 use Rattle.differences.specs.Compared.{Given, Good}
 use Rattle.differences.proofs.Tests.{tested-all, never-false, exports-good}
 use Rattle.differences.proofs.Both.{both-good, both-short}
-use Rattle.writing.specs.Writing.{most, roomFor, Told, roomFrom, ToldFrom, FormedFrom}
-use Rattle.writing.proofs.Laws.{formed-first, formed-long}
-use Rattle.reasons.specs.Reasons.{Diffs, exportDiffFits, exportDiffBad, exportDiffsTested, needDiffBad, needDiffsTested, diffsTested}
+use Rattle.output.specs.Bytes.{most, roomFor, WriterTells, roomFrom, WriterTellsFrom, FormedFrom}
+use Rattle.output.proofs.ByteLaws.{formed-first, formed-long}
+use Rattle.reasons.specs.Reasons.{Diffs, exportDiffFits, exportDiffsTested, needDiffFits, needDiffsTested, diffsTested}
 use Rattle.reasons.specs.Reasons.{reasonsTested, reasoned, reasonsOf, KindsFit, Reasons, reasonedFrom, ReasonsFrom}
 use Rattle.reasons.proofs.Lines.{reasons-few}
 
 -- a removed row that passed points into the baseline's table
-row-in : (nb nc : ℕ) (xd : List ℕ) (i : ℕ) → exportDiffBad nb nc xd i ≡ false → cellOf xd 2 i 0 ≡ 0 → cellOf xd 2 i 1 < nb
-unfolding exportDiffBad exportDiffFits
+row-in : (nb nc : ℕ) (xd : List ℕ) (i : ℕ) → bad (exportDiffFits nb nc xd) i ≡ false → cellIn 8 xd i 0 ≡ 0 → cellIn 8 xd i 1 < nb
+unfolding exportDiffFits
 row-in nb nc xd i e z =
-    by (ltb (cellOf xd 2 i 1) nb) refl
-    (ap (λ (t : Bool). pick (ltb (cellOf xd 2 i 1) (pick t nb nc)) false true) (sym (eq-eqb (cellOf xd 2 i 0) 0 z)) ∙ e)
+    by (ltb (cellIn 8 xd i 1) nb) refl
+    (ap (λ (t : Bool). pick (ltb (cellIn 8 xd i 1) (pick t nb nc)) false true) (sym (eq-eqb (cellIn 8 xd i 0) 0 z)) ∙ e)
   where
-    by : (t : Bool) → ltb (cellOf xd 2 i 1) nb ≡ t → pick t false true ≡ false → cellOf xd 2 i 1 < nb
-    by true q r = ltb-true (cellOf xd 2 i 1) nb q
+    by : (t : Bool) → ltb (cellIn 8 xd i 1) nb ≡ t → pick t false true ≡ false → cellIn 8 xd i 1 < nb
+    by true q r = ltb-true (cellIn 8 xd i 1) nb q
     by false q r = absurd (never-false r)
 
 pub record Fine (b c : Given) (d : Diffs) : Type 0 where
   pub kinds : KindsFit (b .exports) (d .exports) (d .exportCount)
-  pub files : (length (b .file) ≤ 16777216) × (length (c .file) ≤ 16777216)
-  pub counts : (d .exportCount ≤ 2048) × (d .needCount ≤ 2048)
+  pub files : (length (b .file) ≤ fileLimit) × (length (c .file) ≤ fileLimit)
+  pub counts : (d .exportCount ≤ limit 8) × (d .needCount ≤ limit 9)
 
 module _ (b c : Given) (d : Diffs) where
   fine-of : reasonsTested b c d ≡ accepted tt → Fine b c d
@@ -47,17 +49,17 @@ module _ (b c : Given) (d : Diffs) where
   fine-of e =
       let f = followed _ _ e in
       let g = followed _ _ (f .then) in
-      let x = tested-all (capacityOf (length (d .exports)) 2 2048) (d .exportCount) (exportDiffBad (b .exportCount) (c .exportCount)
-      (d .exports)) (g .first) in
-      let n = tested-all (capacityOf (length (d .needs)) 3 2048) (d .needCount) (needDiffBad (b .importCount) (c .importCount)
-      (d .needs)) (g .then) in
+      let x = tested-all (capacityIn 8 (length (d .exports))) (d .exportCount)
+      (bad (exportDiffFits (b .exportCount) (c .exportCount) (d .exports))) (g .first) in
+      let n = tested-all (capacityIn 9 (length (d .needs))) (d .needCount)
+      (bad (needDiffFits (b .importCount) (c .importCount) (d .needs))) (g .then) in
       let k = exports-good (length (b .file)) (b .exports) (b .exportCount) (both-good b c (f .first) .0 .exports-good) in
       record {
-        kinds = λ i h z. k .1 (cellOf (d .exports) 2 i 1) (row-in (b .exportCount) (c .exportCount) (d .exports) i (x .1 i h) z);
+        kinds = λ i h z. k .1 (cellIn 8 (d .exports) i 1) (row-in (b .exportCount) (c .exportCount) (d .exports) i (x .1 i h) z);
         files = both-short b c (f .first);
         counts = (
-          omega (arith, x .0, capacity-limit (length (d .exports)) 2 2048),
-          omega (arith, n .0, capacity-limit (length (d .needs)) 3 2048),
+          omega (arith, x .0, capacity-limit (length (d .exports)) (width 8) (limit 8)),
+          omega (arith, n .0, capacity-limit (length (d .needs)) (width 9) (limit 9)),
         );
       }
 
@@ -84,8 +86,8 @@ module _ (b c : Given) (d : Diffs) where
   unfolding reasoned reasonedFrom follow
   reasons-first before {r} {after} f = by (reasonsTested b c d) f
     where
-      by : (t : Said (Unit {0})) → ToldFrom 0 (follow t (λ u. roomFrom 0 (reasonsOf b c d) (length before))) before r after
-          → Told (follow t (λ u. roomFor (reasonsOf b c d) (length before))) before r after
+      by : (t : Said (Unit {0})) → WriterTellsFrom 0 (follow t (λ u. roomFrom 0 (reasonsOf b c d) (length before))) before r after
+          → WriterTells (follow t (λ u. roomFor (reasonsOf b c d) (length before))) before r after
       by (accepted u) g = formed-first (reasonsOf b c d) before g
       by (refused n p) g = record { answer = g .answer; output = g .output }
 
@@ -95,7 +97,7 @@ module _ (b c : Given) (d : Diffs) where
   unfolding reasonedFrom follow
   reasons-long at before {r} {after} f = by (reasonsTested b c d) f
     where
-      by : (t : Said (Unit {0})) → ToldFrom at (follow t (λ u. roomFrom at (reasonsOf b c d) (length before))) before r after
+      by : (t : Said (Unit {0})) → WriterTellsFrom at (follow t (λ u. roomFrom at (reasonsOf b c d) (length before))) before r after
           → length after ≡ length before
       by (accepted u) g = formed-long (reasonsOf b c d) before at g
       by (refused n p) g = ap length (g .output)

@@ -6,7 +6,7 @@ use Rattle.refusal.specs.Slug.{slugOf}
 use Rattle.refusal.specs.declared.Slug.{Slug}
 use Rattle.kinds.specs.Kinds.{kindOf, kindWord}
 use Rattle.kinds.specs.declared.ExternalKind.{ExternalKind}
-use Rattle.writing.proofs.Words.{SlugIs, slug-is}
+use Rattle.output.proofs.Words.{SlugIs, slug-is}
 use Rattle.reasons.proofs.Lines.{kind-long}
 
 pub kind-is : (kind : ℕ) {k : ExternalKind} {w : Slug} → k ≡ kindOf kind → w ≡ slugOf (kindWord k) → SlugIs (kindWord (kindOf kind)) w

@@ -2,24 +2,31 @@
 use differences::check_both;
 use kinds::kind_of;
 use kinds::kind_slug;
+use output::bytes::put;
+use output::bytes::put_domain;
 use refusal::Answer;
 use refusal::Refusal;
 use refusal::Written;
-use writing::put;
-use writing::put_domain;
+use table::shape::EXPORT_DIFF_WIDTH;
+use table::shape::EXPORT_WIDTH;
+use table::shape::IMPORT_WIDTH;
+use table::shape::MAX_EXPORT_DIFFS;
+use table::shape::MAX_NEED_DIFFS;
+use table::shape::NEED_DIFF_WIDTH;
 ghost use mathlib.Core.Path.{_≡_};
 ghost use mathlib.Core.List.{_++_};
 ghost use Prim.Native.Nat.{_≤_};
 ghost use lib.Dec.{eqb};
 ghost use lib.ListN.{length};
 ghost use Rattle.refusal.specs.Pick.{pick};
+ghost use Rattle.refusal.specs.Sizes.{fileLimit};
 ghost use Rattle.refusal.specs.Said.{saidAnswer};
-ghost use Rattle.table.specs.Table.{cellOf};
-ghost use Rattle.sorting.specs.Keys.{nameAt};
-ghost use Rattle.differences.specs.View.{exportAt};
-ghost use Rattle.differences.specs.Differences.{slugOf};
+ghost use Rattle.table.specs.Shape.{width, limit, cellIn};
+ghost use Rattle.sorting.specs.Keys.{rowName};
+ghost use Rattle.differences.specs.View.{exportKeyAt};
+ghost use Rattle.differences.specs.Differences.{kindSlug};
 ghost use Rattle.differences.specs.Compared.{given};
-ghost use Rattle.writing.specs.Writing.{Wrote, FormedFrom};
+ghost use Rattle.output.specs.Bytes.{Wrote, FormedFrom};
 ghost use Rattle.reasons.specs.Reasons.{exportReason, needReason, diffs, exportReasons, needReasons, KindsFit};
 ghost use Rattle.reasons.specs.Reasons.{exportDiffFits, needDiffFits, exportDiffsTested, needDiffsTested};
 ghost use Rattle.reasons.specs.Reasons.{diffsTested, reasonsTested, exportRow, needRow, KindFits, Reasons, ReasonsFrom};
@@ -34,23 +41,24 @@ fn side(change: usize, b: usize, c: usize) -> usize
 fn export_diff_fits(xd: &[usize], i: usize, nbe: usize, nce: usize) -> bool
     ensures { λ r. ⌜ r ≡ exportDiffFits nbe nce (now (xd .entry)) i ⌝ }
 {
-    table::cell(xd, 2, i, 1) < side(table::cell(xd, 2, i, 0), nbe, nce)
+    table::cell(xd, EXPORT_DIFF_WIDTH, i, 1)
+        < side(table::cell(xd, EXPORT_DIFF_WIDTH, i, 0), nbe, nce)
 }
 
 fn need_diff_fits(cd: &[usize], i: usize, nbi: usize, nci: usize) -> bool
     ensures { λ r. ⌜ r ≡ needDiffFits nbi nci (now (cd .entry)) i ⌝ }
 {
-    if table::cell(cd, 3, i, 1) > 6 {
+    if table::cell(cd, NEED_DIFF_WIDTH, i, 1) > 6 {
         return false;
     }
-    table::cell(cd, 3, i, 2) < side(table::cell(cd, 3, i, 0), nbi, nci)
+    table::cell(cd, NEED_DIFF_WIDTH, i, 2) < side(table::cell(cd, NEED_DIFF_WIDTH, i, 0), nbi, nci)
 }
 
 // 15 for table 8: the count, then each row against the table that it points into.
 fn check_export_diffs(xd: &[usize], n: usize, nbe: usize, nce: usize) -> Answer
     ensures { λ r. ⌜ saidAnswer r ≡ exportDiffsTested nbe nce (now (xd .entry)) n ⌝ }
 {
-    let room = table::capacity(xd.len(), 2, 2048);
+    let room = table::capacity(xd.len(), EXPORT_DIFF_WIDTH, MAX_EXPORT_DIFFS);
     if room < n {
         return Answer::Refused(Refusal::BadTable(room));
     }
@@ -68,7 +76,7 @@ fn check_export_diffs(xd: &[usize], n: usize, nbe: usize, nce: usize) -> Answer
 fn check_need_diffs(cd: &[usize], n: usize, nbi: usize, nci: usize) -> Answer
     ensures { λ r. ⌜ saidAnswer r ≡ needDiffsTested nbi nci (now (cd .entry)) n ⌝ }
 {
-    let room = table::capacity(cd.len(), 3, 2048);
+    let room = table::capacity(cd.len(), NEED_DIFF_WIDTH, MAX_NEED_DIFFS);
     if room < n {
         return Answer::Refused(Refusal::BadTable(room));
     }
@@ -131,7 +139,7 @@ fn check_reasons(
 // The slug of a kind byte.
 fn put_kind(out: &mut [u8], at: usize, kind: usize, go: bool) -> usize
     requires { ⌜ kind ≤ 255 ⌝ }
-    ensures { λ r. ⌜ Wrote (now (out .entry)) at go (slugOf kind) r (now (out .exit)) ⌝ }
+    ensures { λ r. ⌜ Wrote (now (out .entry)) at go (kindSlug kind) r (now (out .exit)) ⌝ }
 {
     let word = kind_slug(kind_of(kind as u8));
     let bytes = word.bytes;
@@ -148,13 +156,13 @@ fn put_export(
     at: usize,
     go: bool,
 ) -> usize
-    requires { ⌜ cellOf (now exports) 4 i 2 ≤ 255 ⌝ }
-    ensures { λ r. ⌜ Wrote (now (out .entry)) at go (exportReason (exportAt (now (file .entry)) (now (exports .entry)) i))
+    requires { ⌜ cellIn 3 (now exports) i 2 ≤ 255 ⌝ }
+    ensures { λ r. ⌜ Wrote (now (out .entry)) at go (exportReason (exportKeyAt (now (file .entry)) (now (exports .entry)) i))
         r (now (out .exit)) ⌝ }
 {
-    let from = table::cell(exports, 4, i, 0);
-    let len = table::cell(exports, 4, i, 1);
-    let kind = table::cell(exports, 4, i, 2);
+    let from = table::cell(exports, EXPORT_WIDTH, i, 0);
+    let len = table::cell(exports, EXPORT_WIDTH, i, 1);
+    let kind = table::cell(exports, EXPORT_WIDTH, i, 2);
     let a = put(out, at, b"export removed: ", go);
     let b = put(out, a, table::range(file, from, len), go);
     let c = put(out, b, b" (", go);
@@ -172,11 +180,11 @@ fn put_need(
     at: usize,
     go: bool,
 ) -> usize
-    ensures { λ r. ⌜ Wrote (now (out .entry)) at go (needReason domain (nameAt (now (file .entry)) (now (imports .entry)) 5 0 1 i))
+    ensures { λ r. ⌜ Wrote (now (out .entry)) at go (needReason domain (rowName (now (file .entry)) (now (imports .entry)) (width 2) 0 1 i))
         r (now (out .exit)) ⌝ }
 {
-    let from = table::cell(imports, 5, i, 0);
-    let len = table::cell(imports, 5, i, 1);
+    let from = table::cell(imports, IMPORT_WIDTH, i, 0);
+    let len = table::cell(imports, IMPORT_WIDTH, i, 1);
     let a = put(out, at, b"new capability required: ", go);
     let b = put_domain(out, a, domain, go);
     let c = put(out, b, b" via ", go);
@@ -198,10 +206,17 @@ fn put_export_row(
     ensures { λ r. ⌜ Wrote (now (out .entry)) at go (exportRow (now (file .entry)) (now (exports .entry)) (now (xd .entry)) i)
         r (now (out .exit)) ⌝ }
 {
-    if table::cell(xd, 2, i, 0) != 0 {
+    if table::cell(xd, EXPORT_DIFF_WIDTH, i, 0) != 0 {
         return at;
     }
-    put_export(file, exports, table::cell(xd, 2, i, 1), out, at, go)
+    put_export(
+        file,
+        exports,
+        table::cell(xd, EXPORT_DIFF_WIDTH, i, 1),
+        out,
+        at,
+        go,
+    )
 }
 
 // The line for row i of table 9; none where the capability was removed.
@@ -217,11 +232,19 @@ fn put_need_row(
     ensures { λ r. ⌜ Wrote (now (out .entry)) at go (needRow (now (file .entry)) (now (imports .entry)) (now (cd .entry)) i)
         r (now (out .exit)) ⌝ }
 {
-    if table::cell(cd, 3, i, 0) == 0 {
+    if table::cell(cd, NEED_DIFF_WIDTH, i, 0) == 0 {
         return at;
     }
-    let domain = table::cell(cd, 3, i, 1);
-    put_need(file, imports, domain, table::cell(cd, 3, i, 2), out, at, go)
+    let domain = table::cell(cd, NEED_DIFF_WIDTH, i, 1);
+    put_need(
+        file,
+        imports,
+        domain,
+        table::cell(cd, NEED_DIFF_WIDTH, i, 2),
+        out,
+        at,
+        go,
+    )
 }
 
 // The lines for the removed rows of table 8.
@@ -305,7 +328,7 @@ fn write_reasons(
     at: u32,
 ) -> Written
     requires { ⌜ KindsFit (now be) (now xd) nxd ⌝ }
-    requires { ⌜ (length (now baseline) ≤ 16777216) × (length (now candidate) ≤ 16777216) × (nxd ≤ 2048) × (ncd ≤ 2048) ⌝ }
+    requires { ⌜ (length (now baseline) ≤ fileLimit) × (length (now candidate) ≤ fileLimit) × (nxd ≤ limit 8) × (ncd ≤ limit 9) ⌝ }
     ensures { λ r. ⌜ FormedFrom at (exportReasons (now (baseline .entry)) (now (be .entry)) (now (xd .entry)) nxd
         ++ needReasons (now (candidate .entry)) (now (ci .entry)) (now (cd .entry)) ncd) (now (out .entry)) r (now (out .exit)) ⌝ }
 {

@@ -9,8 +9,8 @@ use Rattle.refusal.specs.declared.Count.{Count}
 use Rattle.refusal.specs.declared.Written.{Written}
 use Rattle.refusal.specs.declared.Refusal.{Refusal}
 use Rattle.refusal.specs.declared.Refusal.the-variants.{UnexpectedEof, BadMagic, BadLeb128, BadUtf8, MalformedSection, Directive}
-use Rattle.refusal.specs.declared.Refusal.the-variants.{BadDefault, BadDomain}
-use Rattle.refusal.specs.declared.Refusal.the-variants.{PackageInWorld, NoName, Unmatched, Outside, Full, TooLong, BadTable, NoRoom}
+use Rattle.refusal.specs.declared.Refusal.the-variants.{BadDefault, BadDomain, PackageInWorld, NoName, Unmatched, Outside}
+use Rattle.refusal.specs.declared.Refusal.the-variants.{Full, TooLong, BadTable, NoRoom, NotStrict}
 
 -- the refusal that has a number and a place
 abbrev pub refusalOf : ℕ → ℕ → Refusal
@@ -30,7 +30,8 @@ refusalOf n p =
     (pick (eqb n 13) (Full p)
     (pick (eqb n 14) TooLong
     (pick (eqb n 15) (BadTable p)
-    (NoRoom p)))))))))))))))
+    (pick (eqb n 16) (NoRoom p)
+    (NotStrict p))))))))))))))))
 
 pub known : (w : Refusal) → refusalOf (numberOf w) (placeOf w) ≡ w
 known (UnexpectedEof p) = refl
@@ -49,6 +50,7 @@ known (Full p) = refl
 known TooLong = refl
 known (BadTable p) = refl
 known (NoRoom p) = refl
+known (NotStrict p) = refl
 
 pub same-refusal : (v w : Refusal) → numberOf v ≡ numberOf w → placeOf v ≡ placeOf w → v ≡ w
 same-refusal v w n p = sym (known v) ∙ ap (λ (k : ℕ). refusalOf k (placeOf v)) n ∙ ap (refusalOf (numberOf w)) p ∙ known w

@@ -5,8 +5,8 @@ use Rattle.refusal.specs.declared.Count.{Count}
 use Rattle.refusal.specs.declared.Written.{Written}
 use Rattle.refusal.specs.declared.Refusal.{Refusal}
 use Rattle.refusal.specs.declared.Refusal.the-variants.{UnexpectedEof, BadMagic, BadLeb128, BadUtf8, MalformedSection, Directive}
-use Rattle.refusal.specs.declared.Refusal.the-variants.{BadDefault, BadDomain}
-use Rattle.refusal.specs.declared.Refusal.the-variants.{PackageInWorld, NoName, Unmatched, Outside, Full, TooLong, BadTable, NoRoom}
+use Rattle.refusal.specs.declared.Refusal.the-variants.{BadDefault, BadDomain, PackageInWorld, NoName, Unmatched, Outside}
+use Rattle.refusal.specs.declared.Refusal.the-variants.{Full, TooLong, BadTable, NoRoom, NotStrict}
 
 -- accepted with a value; or refused, with a number of the table and a place
 pub data Said (X : Type 0) : Type 0 where
@@ -31,6 +31,7 @@ numberOf (Full p) = 13
 numberOf TooLong = 14
 numberOf (BadTable p) = 15
 numberOf (NoRoom p) = 16
+numberOf (NotStrict p) = 20
 
 -- its place: the number that it holds, and 0 for 14
 abbrev pub placeOf : Refusal → ℕ
@@ -50,6 +51,7 @@ placeOf (Full p) = p
 placeOf TooLong = 0
 placeOf (BadTable p) = p
 placeOf (NoRoom p) = p
+placeOf (NotStrict p) = p
 
 abbrev pub refusedBy : {X : Type 0} → Refusal → Said X
 refusedBy why = refused (numberOf why) (placeOf why)

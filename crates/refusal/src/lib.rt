@@ -2,8 +2,14 @@
 ghost use mathlib.Core.Path.{_≡_};
 ghost use Rattle.refusal.specs.Said.{numberOf, placeOf};
 ghost use Rattle.refusal.specs.Slug.{slugOf};
+ghost use Rattle.refusal.specs.Sizes.{fitsIn};
 
-// Why a call gave no answer, and where: a case for each number, 1 to 16 in this order.
+// How many bytes a module's file and a text may have; more are 14. specs/Sizes.antt has the same numbers.
+pub const MAX_FILE: usize = 16777216;
+
+pub const MAX_TEXT: usize = 65536;
+
+// Why a call gave no answer, and where: a case for each number, 1 to 16 in this order, then 20.
 pub enum Refusal {
     UnexpectedEof(usize),
     BadMagic(usize),
@@ -21,6 +27,7 @@ pub enum Refusal {
     TooLong,
     BadTable(usize),
     NoRoom(usize),
+    NotStrict(usize),
 }
 
 // What a call answers that gives nothing but its verdict; how many rows; how many bytes.
@@ -51,6 +58,16 @@ pub struct Slug {
     pub len: usize,
 }
 
+// A range lies in so many bytes.
+pub fn fits(length: usize, from: usize, len: usize) -> bool
+    ensures { λ r. ⌜ r ≡ fitsIn length from len ⌝ }
+{
+    if length < len {
+        return false;
+    }
+    from <= length - len
+}
+
 pub fn number(r: Refusal) -> u32
     ensures { λ n. ⌜ n ≡ numberOf r ⌝ }
 {
@@ -71,6 +88,7 @@ pub fn number(r: Refusal) -> u32
         Refusal::TooLong => 14,
         Refusal::BadTable(_) => 15,
         Refusal::NoRoom(_) => 16,
+        Refusal::NotStrict(_) => 20,
     }
 }
 
@@ -94,6 +112,7 @@ pub fn place(r: Refusal) -> usize
         Refusal::TooLong => 0,
         Refusal::BadTable(row) => row,
         Refusal::NoRoom(needed) => needed,
+        Refusal::NotStrict(rule) => rule,
     }
 }
 

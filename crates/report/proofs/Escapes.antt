@@ -10,14 +10,15 @@ use lib.ListN.{length, take, getD, length-append}
 use lib.Seq.{take-all}
 use borrow.Author.Tests.{lt-ltb, le-ltb, lt-leb, le-leb}
 use Rattle.refusal.specs.Pick.{pick}
+use Rattle.refusal.specs.Sizes.{fileLimit}
 use Rattle.refusal.specs.Said.{Said}
 use Rattle.refusal.specs.declared.Written.{Written}
 use Rattle.refusal.specs.declared.Written.the-variants.{Refused}
 use Rattle.refusal.specs.declared.Refusal.the-variants.{TooLong}
 use Rattle.kinds.specs.Kinds.{hexOf}
-use Rattle.writing.specs.Writing.{most, Wrote, roomFor, Told}
-use Rattle.writing.proofs.Laws.{wrote-none, wrote-then}
-use Rattle.report.specs.Escape.{plain, shown, escaped, framed, escapedIn}
+use Rattle.output.specs.Bytes.{most, Wrote, roomFor, WriterTells}
+use Rattle.output.proofs.ByteLaws.{wrote-none, wrote-then}
+use Rattle.report.specs.Escape.{shownPlain, shown, escaped, framed, escapedIn}
 
 -- ---- lists byte by byte
 take-next : (s : List ℕ) (i : ℕ) → i < length s → take i s ++ (getD s i 0 ∷ []) ≡ take (i + 1) s
@@ -41,7 +42,7 @@ escaped-next s i h =
 
 shown-long : (b : ℕ) → length (shown b) ≤ 4
 unfolding shown
-shown-long b = by (plain b) (hexOf (b / 16)) (hexOf (b % 16))
+shown-long b = by (shownPlain b) (hexOf (b / 16)) (hexOf (b % 16))
   where
     by : (t : Bool) (x y : ℕ) → length (pick t (b ∷ []) (92 ∷ 120 ∷ x ∷ y ∷ [])) ≤ 4
     by true x y = omega arith
@@ -67,50 +68,50 @@ module _ {d : List ℕ} {at n : ℕ} {go : Bool} {x : List ℕ} (s : List ℕ) (
 
 -- ---- a byte as it is shown
 module _ {d : List ℕ} {at n : ℕ} {go : Bool} {x : List ℕ} (b : ℕ) where
-  pub shown-plain : true ≡ plain b → Wrote d at go (b ∷ []) n x → Wrote d at go (shown b) n x
+  pub shown-plain : true ≡ shownPlain b → Wrote d at go (b ∷ []) n x → Wrote d at go (shown b) n x
   unfolding shown
   shown-plain e f = rw (← e) f
 
-  pub shown-coded : {u v : ℕ} → false ≡ plain b → u ≡ hexOf (b / 16) → v ≡ hexOf (b % 16) → Wrote d at go (92 ∷ 120 ∷ u ∷ v ∷ []) n x
+  pub shown-coded : {u v : ℕ} → false ≡ shownPlain b → u ≡ hexOf (b / 16) → v ≡ hexOf (b % 16) → Wrote d at go (92 ∷ 120 ∷ u ∷ v ∷ []) n x
       → Wrote d at go (shown b) n x
   unfolding shown
   shown-coded e p q f = rw (← e, ← p, ← q) f
 
 -- ---- the answers
-pub framed-few : (before name after : List ℕ) → length before ≤ 16777216 → length name ≤ 16777216 → length after ≤ 16777216
+pub framed-few : (before name after : List ℕ) → length before ≤ fileLimit → length name ≤ fileLimit → length after ≤ fileLimit
     → 0 + length (before ++ (escaped name ++ after)) ≤ most
 framed-few before name after p q h =
     omega (arith, length-append before (escaped name ++ after), length-append (escaped name) after, escaped-long name)
 
 module _ (before name after d : List ℕ) where
-  pub long-before : 16777216 < length before → Told (framed before name after (length d)) d (Refused TooLong) d
+  pub long-before : fileLimit < length before → WriterTells (framed before name after (length d)) d (Refused TooLong) d
   unfolding framed
-  long-before h = let t = lt-ltb 16777216 (length before) h in record { answer = rw t; output = rw t }
+  long-before h = let t = lt-ltb fileLimit (length before) h in record { answer = rw t; output = rw t }
 
-  module _ (p : length before ≤ 16777216) where
-    pub long-name : 16777216 < length name → Told (framed before name after (length d)) d (Refused TooLong) d
+  module _ (p : length before ≤ fileLimit) where
+    pub long-name : fileLimit < length name → WriterTells (framed before name after (length d)) d (Refused TooLong) d
     unfolding framed
     long-name h =
-        let s = le-ltb 16777216 (length before) p in
-        let t = lt-ltb 16777216 (length name) h in
+        let s = le-ltb fileLimit (length before) p in
+        let t = lt-ltb fileLimit (length name) h in
         record { answer = rw (s, t); output = rw (s, t) }
 
-    module _ (q : length name ≤ 16777216) where
-      pub long-after : 16777216 < length after → Told (framed before name after (length d)) d (Refused TooLong) d
+    module _ (q : length name ≤ fileLimit) where
+      pub long-after : fileLimit < length after → WriterTells (framed before name after (length d)) d (Refused TooLong) d
       unfolding framed
       long-after h =
-          let s = le-ltb 16777216 (length before) p in
-          let t = le-ltb 16777216 (length name) q in
-          let u = lt-ltb 16777216 (length after) h in
+          let s = le-ltb fileLimit (length before) p in
+          let t = le-ltb fileLimit (length name) q in
+          let u = lt-ltb fileLimit (length after) h in
           record { answer = rw (s, t, u); output = rw (s, t, u) }
 
-pub framed-is : (before name after : List ℕ) (room : ℕ) → length before ≤ 16777216 → length name ≤ 16777216 → length after ≤ 16777216
+pub framed-is : (before name after : List ℕ) (room : ℕ) → length before ≤ fileLimit → length name ≤ fileLimit → length after ≤ fileLimit
     → roomFor (before ++ (escaped name ++ after)) room ≡ framed before name after room
 unfolding framed
 framed-is before name after room p q h =
-    rw (le-ltb 16777216 (length before) p, le-ltb 16777216 (length name) q, le-ltb 16777216 (length after) h)
+    rw (le-ltb fileLimit (length before) p, le-ltb fileLimit (length name) q, le-ltb fileLimit (length after) h)
 
-pub told-same : {o p : Said (List ℕ)} {d : List ℕ} {r : Written} {x : List ℕ} → Told o d r x → o ≡ p → Told p d r x
+pub told-same : {o p : Said (List ℕ)} {d : List ℕ} {r : Written} {x : List ℕ} → WriterTells o d r x → o ≡ p → WriterTells p d r x
 told-same {o} {p} {d} {r} {x} t e = rw e at t
 
 -- nothing before it and nothing after it
@@ -120,14 +121,14 @@ bare name room = rw (append-nil (escaped name))
 
 -- ---- bytes that are shown as they are
 module _ (b : ℕ) where
-  pub plain-low : b < 32 → false ≡ plain b
-  unfolding plain
+  pub plain-low : b < 32 → false ≡ shownPlain b
+  unfolding shownPlain
   plain-low h = rw (lt-leb 32 b h)
 
-  pub plain-high : 126 < b → false ≡ plain b
-  unfolding plain
+  pub plain-high : 126 < b → false ≡ shownPlain b
+  unfolding shownPlain
   plain-high h = rw (le-leb 32 b (omega arith), lt-leb b 126 h)
 
-  pub plain-mid : 32 ≤ b → b ≤ 126 → not (eqb b 92) ≡ plain b
-  unfolding plain
+  pub plain-mid : 32 ≤ b → b ≤ 126 → not (eqb b 92) ≡ shownPlain b
+  unfolding shownPlain
   plain-mid h i = rw (le-leb 32 b h, le-leb b 126 i)

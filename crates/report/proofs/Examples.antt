@@ -3,7 +3,7 @@ use mathlib.Core.Path.{_≡_, refl}
 use mathlib.Core.List.{List, [], _∷_}
 use Rattle.refusal.specs.declared.Refusal.the-variants.{Full, TooLong}
 use Rattle.report.specs.Decimal.{digits, decimalOf}
-use Rattle.report.specs.Escape.{plain, shown, escaped}
+use Rattle.report.specs.Escape.{shownPlain, shown, escaped}
 use Rattle.report.specs.Texts.{refusalText}
 
 zero-is : decimalOf 0 ≡ 48 ∷ []
@@ -17,7 +17,7 @@ many-are = refl
 
 -- a, LF, backslash, 0xff
 name-is : escaped (97 ∷ 10 ∷ 92 ∷ 255 ∷ []) ≡ 97 ∷ 92 ∷ 120 ∷ 48 ∷ 97 ∷ 92 ∷ 120 ∷ 53 ∷ 99 ∷ 92 ∷ 120 ∷ 102 ∷ 102 ∷ []
-unfolding plain shown escaped
+unfolding shownPlain shown escaped
 name-is = refl
 
 -- refused 14 at 0

@@ -10,8 +10,8 @@ use borrow.Author.Tests.{lt-ltb, le-ltb, ltb-true, ltb-false, le-leb, leb-true, 
 use Rattle.refusal.specs.Pick.{pick, both, within}
 use Rattle.text.proofs.Laws.{both-one, both-two}
 use Rattle.kinds.specs.Kinds.{hexOf}
-use Rattle.rewriting.proofs.Bytes.{lacks, lacks-cons}
-use Rattle.report.specs.Escape.{plain, shown, escaped}
+use Rattle.text.proofs.LackLaws.{lacks, lacks-cons}
+use Rattle.report.specs.Escape.{shownPlain, shown, escaped}
 
 -- every number is a byte
 unfoldable pub bytes : List ℕ → Bool
@@ -58,7 +58,7 @@ print-append (b ∷ s) t e f =
     (print-append s t (both-two (within 32 126 b) (printable s) e) f)
 
 shown-printable : (b : ℕ) → b < 256 → printable (shown b) ≡ true
-unfolding printable shown plain
+unfolding printable shown shownPlain
 shown-printable b h = by (both (within 32 126 b) (not (eqb b 92))) refl
   where
     by : (t : Bool) → both (within 32 126 b) (not (eqb b 92)) ≡ t
@@ -93,7 +93,7 @@ readBack zero (b ∷ s) =
 readBack (suc k) (b ∷ s) = readBack k s
 
 shown-back : (b : ℕ) (t : List ℕ) → b < 256 → readBack 0 (shown b ++ t) ≡ b ∷ readBack 0 t
-unfolding readBack shown plain
+unfolding readBack shown shownPlain
 shown-back b t h = by (both (within 32 126 b) (not (eqb b 92))) refl
   where
     other : (u : Bool) → not u ≡ true → u ≡ false

@@ -13,16 +13,16 @@ use Rattle.table.specs.Table.{rangeOf}
 use Rattle.kinds.specs.Kinds.{kindWord}
 use Rattle.kinds.specs.declared.ExternalKind.{ExternalKind}
 use Rattle.kinds.specs.declared.ExternalKind.the-variants.{Func, Table, Memory, Global, Other}
-use Rattle.domains.specs.Domain.{slug, numberOf}
+use Rattle.domains.specs.Domain.{slug, domainNumber}
 use Rattle.verdicts.specs.Evaluate.{violates, compliant}
 use Rattle.domains.specs.declared.Domain.{Domain}
 use Rattle.verdicts.specs.declared.Verdict.{Verdict}
 use Rattle.verdicts.specs.declared.Evaluation.{Evaluation}
-use Rattle.writing.proofs.Words.{slug-long}
+use Rattle.output.proofs.Words.{slug-long}
 use Rattle.report.specs.declared.line.Line.{Line}
 use Rattle.report.specs.Line.{lineOf}
 use Rattle.report.specs.Words.{notW, violationW, compliantW, notCompliantW, standsW, standsNotW}
-use Rattle.report.specs.Texts.{lf, whether, markOf, named, violationsText, complianceText, standText, verdictText}
+use Rattle.report.specs.Texts.{lf, whether, verdictMark, named, violationsText, complianceText, standText, verdictText}
 
 -- ---- words that are held by value
 pad-long : (n : ℕ) (w : List ℕ) → length (padded n w) ≡ n
@@ -44,9 +44,9 @@ range-padded n w h =
     let m : min (length w) n ≡ length w = omega arith in
     rw (m, le-leb (0 + length w) (length (padded n w)) (omega (arith, pad-long n w))) (pad-take n w h)
 
-pub slug-word : (d : Domain) {s : Slug} → s ≡ slugOf (slug (numberOf d)) → rangeOf (s .bytes) 0 (s .len) ≡ slug (numberOf d)
+pub slug-word : (d : Domain) {s : Slug} → s ≡ slugOf (slug (domainNumber d)) → rangeOf (s .bytes) 0 (s .len) ≡ slug (domainNumber d)
 unfolding slugOf
-slug-word d e = rw e (range-padded 10 (slug (numberOf d)) (omega (arith, slug-long (numberOf d))))
+slug-word d e = rw e (range-padded 10 (slug (domainNumber d)) (omega (arith, slug-long (domainNumber d))))
 
 pub kind-long : (k : ExternalKind) → length (kindWord k) ≤ 10
 kind-long Func = omega arith
@@ -65,12 +65,12 @@ line-text w h e = rw e (range-padded 128 w h)
 
 -- ---- a test that was taken or left
 module _ (v : Verdict) {t : Bool} (is : t ≡ violates v) where
-  pub mark-some : t ≡ true → violationW ≡ markOf v
-  unfolding markOf
+  pub mark-some : t ≡ true → violationW ≡ verdictMark v
+  unfolding verdictMark
   mark-some e = rw (← is, e)
 
-  pub mark-none : t ≡ false → [] ≡ markOf v
-  unfolding markOf
+  pub mark-none : t ≡ false → [] ≡ verdictMark v
+  unfolding verdictMark
   mark-none e = rw (← is, e)
 
 module _ (d : ℕ) (v : Verdict) {t : Bool} (is : t ≡ violates v) where

@@ -5,17 +5,18 @@ use Prim.Native.Nat.{ℕ, _/_, _%_}
 use lib.Dec.{eqb, ltb}
 use lib.ListN.{length}
 use Rattle.refusal.specs.Pick.{pick, both, within}
+use Rattle.refusal.specs.Sizes.{fileLimit}
 use Rattle.refusal.specs.Said.{Said, refused}
 use Rattle.kinds.specs.Kinds.{hexOf}
-use Rattle.writing.specs.Writing.{roomFor}
+use Rattle.output.specs.Bytes.{roomFor}
 
 -- printable ASCII, but the backslash
-unfoldable pub plain : ℕ → Bool
-plain b = both (within 32 126 b) (not (eqb b 92))
+unfoldable pub shownPlain : ℕ → Bool
+shownPlain b = both (within 32 126 b) (not (eqb b 92))
 
 -- a byte: as it is, or `\x` and two digits of base sixteen
 unfoldable pub shown : ℕ → List ℕ
-shown b = pick (plain b) (b ∷ []) (92 ∷ 120 ∷ hexOf (b / 16) ∷ hexOf (b % 16) ∷ [])
+shown b = pick (shownPlain b) (b ∷ []) (92 ∷ 120 ∷ hexOf (b / 16) ∷ hexOf (b % 16) ∷ [])
 
 unfoldable pub escaped : List ℕ → List ℕ
 escaped [] = []
@@ -23,7 +24,7 @@ escaped (b ∷ s) = shown b ++ escaped s
 
 -- longer than a module may be
 abbrev pub tooLong : List ℕ → Bool
-tooLong s = ltb 16777216 (length s)
+tooLong s = ltb fileLimit (length s)
 
 -- a name into so much room: 14, then 16
 unfoldable pub escapedIn : List ℕ → ℕ → Said (List ℕ)

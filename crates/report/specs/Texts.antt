@@ -12,7 +12,7 @@ use Rattle.domains.specs.Domain.{slug}
 use Rattle.verdicts.specs.Evaluate.{violates, noVerdict, compliant}
 use Rattle.verdicts.specs.declared.Verdict.{Verdict}
 use Rattle.verdicts.specs.declared.Evaluation.{Evaluation}
-use Rattle.writing.specs.Writing.{roomFor}
+use Rattle.output.specs.Bytes.{roomFor}
 use Rattle.report.specs.Decimal.{decimalOf}
 use Rattle.report.specs.Escape.{escaped, tooLong}
 use Rattle.report.specs.Words.{refusedW, atW, bytesW, sectionsW, importsW, exportsW, notW, requiredW, allowedW, violationW}
@@ -37,8 +37,8 @@ countsText size sections imports exports =
 unfoldable pub whether : Bool → List ℕ → List ℕ
 whether t w = pick t w (notW ++ w)
 
-unfoldable pub markOf : Verdict → List ℕ
-markOf v = pick (violates v) violationW []
+unfoldable pub verdictMark : Verdict → List ℕ
+verdictMark v = pick (violates v) violationW []
 
 -- a domain by its number: required or not, how many times, allowed or not, and whether that is a violation
 unfoldable pub domainText : ℕ → Verdict → List ℕ
@@ -51,7 +51,7 @@ domainText d v =
     ++ (decimalOf (v .many)
     ++ ((41 ∷ 44 ∷ 32 ∷ [])
     ++ (whether (v .allowed) allowedW
-    ++ (markOf v
+    ++ (verdictMark v
     ++ lf))))))))
 
 -- a space and the domain's word, where it violates

@@ -1,18 +1,20 @@
 // A name from a file, shown so that it cannot forge a line: bytes that are no printable ASCII, and the backslash, as `\x` and two digits.
+use output::bytes::put;
+use refusal::MAX_FILE;
 use refusal::Refusal;
 use refusal::Written;
-use writing::put;
 ghost use mathlib.Core.Path.{_≡_};
 ghost use mathlib.Core.List.{_++_};
 ghost use Prim.Native.Nat.{_≤_, _<_};
 ghost use lib.ListN.{length};
+ghost use Rattle.refusal.specs.Sizes.{fileLimit};
 ghost use Rattle.kinds.specs.Kinds.{hexOf};
-ghost use Rattle.writing.specs.Writing.{Wrote, Told, Formed};
-ghost use Rattle.report.specs.Escape.{plain, shown, escaped, escapedIn, framed};
+ghost use Rattle.output.specs.Bytes.{Wrote, WriterTells, Formed};
+ghost use Rattle.report.specs.Escape.{shownPlain, shown, escaped, escapedIn, framed};
 
 // Printable ASCII, but the backslash.
 fn is_plain(b: u8) -> bool
-    ensures { λ r. ⌜ r ≡ plain b ⌝ }
+    ensures { λ r. ⌜ r ≡ shownPlain b ⌝ }
 {
     if b < 32 {
         return false;
@@ -65,7 +67,7 @@ fn lay(before: &[u8], name: &[u8], after: &[u8], out: &mut [u8], go: bool) -> us
 
 // The three into the buffer, where it has room for all of them.
 fn write_framed(before: &[u8], name: &[u8], after: &[u8], out: &mut [u8]) -> Written
-    requires { ⌜ (length (now before) ≤ 16777216) × (length (now name) ≤ 16777216) × (length (now after) ≤ 16777216) ⌝ }
+    requires { ⌜ (length (now before) ≤ fileLimit) × (length (now name) ≤ fileLimit) × (length (now after) ≤ fileLimit) ⌝ }
     ensures { λ r. ⌜ Formed (now (before .entry) ++ (escaped (now (name .entry)) ++ now (after .entry))) (now (out .entry)) r
         (now (out .exit)) ⌝ }
 {
@@ -79,16 +81,16 @@ fn write_framed(before: &[u8], name: &[u8], after: &[u8], out: &mut [u8]) -> Wri
 
 // A name between what stands before and after it: 14 of any of the three, then 16. Refused, nothing is touched.
 pub fn frame(before: &[u8], name: &[u8], after: &[u8], out: &mut [u8]) -> Written
-    ensures { λ r. ⌜ Told (framed (now (before .entry)) (now (name .entry)) (now (after .entry)) (length (now (out .entry))))
+    ensures { λ r. ⌜ WriterTells (framed (now (before .entry)) (now (name .entry)) (now (after .entry)) (length (now (out .entry))))
         (now (out .entry)) r (now (out .exit)) ⌝ }
 {
-    if before.len() > 16777216 {
+    if before.len() > MAX_FILE {
         return Written::Refused(Refusal::TooLong);
     }
-    if name.len() > 16777216 {
+    if name.len() > MAX_FILE {
         return Written::Refused(Refusal::TooLong);
     }
-    if after.len() > 16777216 {
+    if after.len() > MAX_FILE {
         return Written::Refused(Refusal::TooLong);
     }
     write_framed(before, name, after, out)
@@ -96,7 +98,7 @@ pub fn frame(before: &[u8], name: &[u8], after: &[u8], out: &mut [u8]) -> Writte
 
 // A name by itself: 14, then 16.
 pub fn escape(name: &[u8], out: &mut [u8]) -> Written
-    ensures { λ r. ⌜ Told (escapedIn (now (name .entry)) (length (now (out .entry)))) (now (out .entry)) r (now (out .exit)) ⌝ }
+    ensures { λ r. ⌜ WriterTells (escapedIn (now (name .entry)) (length (now (out .entry)))) (now (out .entry)) r (now (out .exit)) ⌝ }
 {
     frame(b"", name, b"", out)
 }

@@ -20,10 +20,11 @@ use verdicts::is_compliant;
 use verdicts::is_violation;
 ghost use mathlib.Core.Path.{_≡_};
 ghost use lib.ListN.{length};
-ghost use Rattle.domains.specs.Domain.{numberOf};
-ghost use Rattle.writing.specs.Writing.{Told};
+ghost use Rattle.domains.specs.Domain.{domainNumber};
+ghost use Rattle.output.specs.Bytes.{WriterTells};
 ghost use Rattle.report.specs.Line.{lineOf, added};
-ghost use Rattle.report.specs.Texts.{refusalText, countsText, whether, markOf, domainText, named, violationsText, complianceText};
+ghost use Rattle.report.specs.Texts.{refusalText, countsText, whether, verdictMark, domainText, named, violationsText};
+ghost use Rattle.report.specs.Texts.{complianceText};
 ghost use Rattle.report.specs.Texts.{standText, verdictText, tailText, headText, removedIn, addedIn};
 
 // `refused N at P`
@@ -64,7 +65,7 @@ fn add_whether(l: Line, yes: bool, word: &[u8]) -> Line
 }
 
 fn add_mark(l: Line, v: Verdict) -> Line
-    ensures { λ r. ⌜ r ≡ added l (markOf v) ⌝ }
+    ensures { λ r. ⌜ r ≡ added l (verdictMark v) ⌝ }
 {
     if is_violation(v) {
         return add(l, b", violation");
@@ -74,7 +75,7 @@ fn add_mark(l: Line, v: Verdict) -> Line
 
 // A domain: required or not, how many times, allowed or not, and whether that is a violation.
 pub fn domain_line(d: Domain, v: Verdict) -> Line
-    ensures { λ r. ⌜ r ≡ lineOf (domainText (numberOf d) v) ⌝ }
+    ensures { λ r. ⌜ r ≡ lineOf (domainText (domainNumber d) v) ⌝ }
 {
     let a = begin(b"  ");
     let b = add_slug(a, domain_slug(d));
@@ -90,7 +91,7 @@ pub fn domain_line(d: Domain, v: Verdict) -> Line
 
 // A domain's word, where it violates.
 fn add_named(l: Line, d: Domain, v: Verdict) -> Line
-    ensures { λ r. ⌜ r ≡ added l (named (numberOf d) v) ⌝ }
+    ensures { λ r. ⌜ r ≡ added l (named (domainNumber d) v) ⌝ }
 {
     if is_violation(v) {
         let a = add(l, b" ");
@@ -160,7 +161,7 @@ fn kind_tail(kind: ExternalKind) -> Line
 
 // Before the name of a capability's source, its domain.
 fn domain_head(d: Domain) -> Line
-    ensures { λ r. ⌜ r ≡ lineOf (headText (numberOf d)) ⌝ }
+    ensures { λ r. ⌜ r ≡ lineOf (headText (domainNumber d)) ⌝ }
 {
     let a = begin(b"new capability required: ");
     let b = add_slug(a, domain_slug(d));
@@ -169,7 +170,7 @@ fn domain_head(d: Domain) -> Line
 
 // The reason that an export is gone: 14 of its name, then 16.
 pub fn removed_line(name: &[u8], kind: ExternalKind, out: &mut [u8]) -> Written
-    ensures { λ r. ⌜ Told (removedIn (now (name .entry)) kind (length (now (out .entry)))) (now (out .entry)) r (now (out .exit)) ⌝ }
+    ensures { λ r. ⌜ WriterTells (removedIn (now (name .entry)) kind (length (now (out .entry)))) (now (out .entry)) r (now (out .exit)) ⌝ }
 {
     let tail = kind_tail(kind);
     let bytes = tail.bytes;
@@ -183,7 +184,7 @@ pub fn removed_line(name: &[u8], kind: ExternalKind, out: &mut [u8]) -> Written
 
 // The reason that a capability is new: 14 of its source, then 16.
 pub fn added_line(d: Domain, source: &[u8], out: &mut [u8]) -> Written
-    ensures { λ r. ⌜ Told (addedIn (numberOf d) (now (source .entry)) (length (now (out .entry)))) (now (out .entry)) r
+    ensures { λ r. ⌜ WriterTells (addedIn (domainNumber d) (now (source .entry)) (length (now (out .entry)))) (now (out .entry)) r
         (now (out .exit)) ⌝ }
 {
     let head = domain_head(d);

@@ -9,10 +9,11 @@ use native.Mathlib.Omega.{arith}
 use borrow.Author.Tests.{le-leb, lt-leb}
 use lib.ListN.{length, length-append, length-map}
 use Rattle.refusal.specs.Said.{Said, accepted, refused, follow}
-use Rattle.table.specs.Table.{cells, laid, putRow, capacityOf, cellOf, rangeOf}
+use Rattle.table.specs.Table.{cells, laid, putRow, capacityOf, rangeOf}
+use Rattle.table.specs.Shape.{capacityIn, cellIn}
 use Rattle.table.specs.Listing.{fitted}
 use Rattle.table.proofs.Laws.{length-laid, length-put-row, put-row-laid}
-use Rattle.sorting.specs.Sort.{keep, upFrom}
+use Rattle.sorting.specs.Sort.{selected, upFrom}
 use Rattle.domains.specs.Classify.{importDomain}
 use Rattle.requirements.specs.Requirements.{roomOf, rowDomain, Requires}
 use Rattle.requirements.specs.Filling.{Column, Fills}
@@ -48,17 +49,17 @@ column-more {n} {l} {t} {after} {k} v c q e = record {
 
 -- ---- the loop: the rows listed so far, and those that are left
 module _ (good : ℕ → Bool) (i n : ℕ) where
-  keep-next : i < n → keep good (upFrom i (n - i)) ≡ keep good (i ∷ upFrom (i + 1) (n - (i + 1)))
+  keep-next : i < n → selected good (upFrom i (n - i)) ≡ selected good (i ∷ upFrom (i + 1) (n - (i + 1)))
   keep-next h = let q : n - i ≡ suc (n - (i + 1)) = omega arith in rw (q, add-one i)
 
-  keep-end : n ≤ i → keep good (upFrom i (n - i)) ≡ []
+  keep-end : n ≤ i → selected good (upFrom i (n - i)) ≡ []
   keep-end h = let q : n - i ≡ 0 = omega arith in rw q
 
 pub record Filling (of : ℕ → ℕ) (good : ℕ → Bool) (n nd nr : ℕ) (domains rows : List ℕ) (found i : ℕ) : Type 0 where
   pub done : List ℕ
   pub count : found ≡ length done
   pub most : found ≤ i
-  pub goes-on : done ++ keep good (upFrom i (n - i)) ≡ keep good (upFrom 0 n)
+  pub goes-on : done ++ selected good (upFrom i (n - i)) ≡ selected good (upFrom 0 n)
   pub in-domains : Column nd (map of done) domains
   pub in-rows : Column nr done rows
 
@@ -68,7 +69,7 @@ fill-begin of good n nd nr d r = record {
   done = [];
   count = refl;
   most = omega arith;
-  goes-on = ap (λ (k : ℕ). keep good (upFrom 0 k)) (sub-zero n);
+  goes-on = ap (λ (k : ℕ). selected good (upFrom 0 k)) (sub-zero n);
   in-domains = column-none nd d;
   in-rows = column-none nr r;
 }
@@ -98,9 +99,9 @@ module _ {of : ℕ → ℕ} {good : ℕ → Bool} {n nd nr : ℕ} {domains rows 
   }
 
   pub fill-end : n ≤ i → {before0 before1 : List ℕ} → nd ≡ length before0 → nr ≡ length before1
-      → Fills of (keep good (upFrom 0 n)) before0 domains before1 rows found
+      → Fills of (selected good (upFrom 0 n)) before0 domains before1 rows found
   fill-end h p q =
-      let e : f .done ≡ keep good (upFrom 0 n) =
+      let e : f .done ≡ selected good (upFrom 0 n) =
       sym (append-nil (f .done)) ∙ ap (λ (l : List ℕ). f .done ++ l) (sym (keep-end good i n h)) ∙ f .goes-on in
       record { count = f .count ∙ ap length e; in-domains = rw (← e, ← p) (f .in-domains); in-rows = rw (← e, ← q) (f .in-rows) }
 
@@ -111,7 +112,7 @@ pub requires-stop : {of : ℕ → ℕ} {x : Said (List ℕ)} {domains domains1 r
 unfolding follow
 requires-stop e q d r = rw e (record { answer-is = q; domains-are = d; rows-are = r })
 
-pub room-is : (nd nr : ℕ) {k room : ℕ} → k ≡ capacityOf nd 1 1024 → room ≡ capacityOf nr 1 k → room ≡ roomOf nd nr
+pub room-is : (nd nr : ℕ) {k room : ℕ} → k ≡ capacityIn 7 nd → room ≡ capacityOf nr 1 k → room ≡ roomOf nd nr
 unfolding capacityOf
 room-is nd nr p q = omega (arith, p, q, div-one nd, div-one nr)
 
@@ -134,7 +135,7 @@ module _ {of : ℕ → ℕ} {l domains domains1 rows rows1 : List ℕ} {found : 
       })
 
 -- ---- the domain of a row, by its cells and ranges
-pub row-domain : (file imports : List ℕ) (i : ℕ) {a b d e : ℕ} {source field : List ℕ} → a ≡ cellOf imports 5 i 0
-    → b ≡ cellOf imports 5 i 1 → d ≡ cellOf imports 5 i 2 → e ≡ cellOf imports 5 i 3 → source ≡ rangeOf file a b → field ≡ rangeOf file d e
+pub row-domain : (file imports : List ℕ) (i : ℕ) {a b d e : ℕ} {source field : List ℕ} → a ≡ cellIn 2 imports i 0
+    → b ≡ cellIn 2 imports i 1 → d ≡ cellIn 2 imports i 2 → e ≡ cellIn 2 imports i 3 → source ≡ rangeOf file a b → field ≡ rangeOf file d e
     → importDomain source field ≡ rowDomain file imports i
 row-domain file imports i ea eb ed ee es ef = rw (es, ef, ea, eb, ed, ee)

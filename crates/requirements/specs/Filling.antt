@@ -1,4 +1,4 @@
--- How table 7 is filled, as far as its columns take it: what the functions inside the crate promise. Assumes nothing.
+-- For the code: how table 7 is filled, as far as its columns take it: what the functions inside the crate promise. Assumes nothing.
 use mathlib.Core.Path.{_≡_}
 use mathlib.Core.List.{List, map}
 use Prim.Native.Nat.{ℕ, _≤_}

@@ -5,23 +5,24 @@ use Prim.Native.Nat.{ℕ, min}
 use lib.ListN.{length}
 use Rattle.refusal.specs.Said.{Said, accepted, follow}
 use Rattle.table.specs.Table.{laid}
+use Rattle.table.specs.Shape.{width, limit}
 use Rattle.table.specs.Listing.{fitted, rowsIn}
-use Rattle.sorting.specs.Sort.{keep, upFrom}
-use Rattle.sorting.specs.Keys.{nameAt}
-use Rattle.imports.specs.Queries.{asked, kindIs}
+use Rattle.sorting.specs.Sort.{selected, upFrom}
+use Rattle.sorting.specs.Keys.{rowName}
+use Rattle.import_rows.specs.Queries.{asked, kindIs}
 use Rattle.domains.specs.Classify.{importDomain}
 
 -- how many requirements two columns of so many cells take
 abbrev pub roomOf : ℕ → ℕ → ℕ
-roomOf domains rows = min (min domains rows) 1024
+roomOf domains rows = min (min domains rows) (limit 7)
 
 -- ---- a module's: the rows of table 2 that import a function, each with its domain
 abbrev pub functionRows : List ℕ → ℕ → List ℕ
-functionRows imports n = keep (kindIs imports 0) (upFrom 0 n)
+functionRows imports n = selected (kindIs imports 0) (upFrom 0 n)
 
 -- of row i, by its module name and its field
 abbrev pub rowDomain : List ℕ → List ℕ → ℕ → ℕ
-rowDomain file imports i = importDomain (nameAt file imports 5 0 1 i) (nameAt file imports 5 2 3 i)
+rowDomain file imports i = importDomain (rowName file imports (width 2) 0 1 i) (rowName file imports (width 2) 2 3 i)
 
 unfoldable pub moduleRows : List ℕ → List ℕ → ℕ → ℕ → Said (List ℕ)
 moduleRows file imports n room = asked file imports n (fitted 7 room (functionRows imports n))

@@ -9,12 +9,19 @@ use files::read_argument;
 use policy::Policy;
 use refusal::Answer;
 use refusal::Count;
+use refusal::MAX_TEXT;
 use refusal::Refusal;
 use report::refusal_line;
 use report::stand_line;
 use report::verdict_line;
-use requirements::requirements_from_module;
+use requirements::module::requirements_from_module;
 use table::range;
+use table::shape::EXPORT_DIFF_WIDTH;
+use table::shape::EXPORT_WIDTH;
+use table::shape::IMPORT_WIDTH;
+use table::shape::NAME_WIDTH;
+use table::shape::NEED_DIFF_WIDTH;
+use table::shape::SECTION_WIDTH;
 use tell::name_policy;
 use tell::print_counts;
 use tell::print_line;
@@ -27,6 +34,26 @@ use verdicts::is_compliant;
 use verdicts::unjudged;
 use wasm::ModuleRead;
 
+// A policy and a build have at most so many bytes here; a buffer has one more, so that 14 is seen.
+const MAX_INPUT: usize = MAX_TEXT;
+
+const BUFFER: usize = MAX_INPUT + 1;
+
+// Every table has so many rows.
+const ROWS: usize = 1024;
+
+const SECTIONS: usize = ROWS * SECTION_WIDTH;
+
+const IMPORTS: usize = ROWS * IMPORT_WIDTH;
+
+const EXPORTS: usize = ROWS * EXPORT_WIDTH;
+
+const NAMES: usize = ROWS * NAME_WIDTH;
+
+const EXPORT_DIFFS: usize = ROWS * EXPORT_DIFF_WIDTH;
+
+const NEED_DIFFS: usize = ROWS * NEED_DIFF_WIDTH;
+
 fn main() {
     if os::arg_count() < 4 {
         io::write_all(
@@ -35,8 +62,7 @@ fn main() {
         );
         return;
     }
-    // one byte more than a file may have, so that 14 is seen
-    let mut text = [0u8; 65537];
+    let mut text = [0u8; BUFFER];
     let input = read_argument(1, &mut text);
     if input.failed {
         return;
@@ -60,7 +86,7 @@ fn with_text(text: &[u8]) {
 }
 
 fn with_policy(p: Policy) {
-    let mut file = [0u8; 65537];
+    let mut file = [0u8; BUFFER];
     let input = read_argument(2, &mut file);
     if input.failed {
         return;
@@ -70,8 +96,8 @@ fn with_policy(p: Policy) {
 }
 
 fn with_baseline(p: Policy, baseline: &[u8]) {
-    let mut imports = [0usize; 5120];
-    let mut exports = [0usize; 4096];
+    let mut imports = [0usize; IMPORTS];
+    let mut exports = [0usize; EXPORTS];
     name_file(b"baseline: ", 2);
     match read_build(baseline, &mut imports, &mut exports) {
         ModuleRead::Refused(why) => print_line(refusal_line(why)),
@@ -82,13 +108,13 @@ fn with_baseline(p: Policy, baseline: &[u8]) {
     }
 }
 
-// Tables of 1,024 rows, cleared before the read.
+// Tables of so many rows, cleared before the read.
 fn read_build(file: &[u8], imports: &mut [usize], exports: &mut [usize]) -> ModuleRead {
-    if file.len() > 65536 {
+    if file.len() > MAX_INPUT {
         return ModuleRead::Refused(Refusal::TooLong);
     }
-    let mut sections = [0usize; 5120];
-    let mut names = [0usize; 3072];
+    let mut sections = [0usize; SECTIONS];
+    let mut names = [0usize; NAMES];
     wasm::read_module(file, &mut sections, imports, exports, &mut names)
 }
 
@@ -107,7 +133,7 @@ fn review_one(
     be: &[usize],
     nbe: usize,
 ) {
-    let mut file = [0u8; 65537];
+    let mut file = [0u8; BUFFER];
     let input = read_argument(i, &mut file);
     if input.failed {
         return;
@@ -126,8 +152,8 @@ fn with_candidate<'a>(
     nbe: usize,
     candidate: &'a [u8],
 ) {
-    let mut imports = [0usize; 5120];
-    let mut exports = [0usize; 4096];
+    let mut imports = [0usize; IMPORTS];
+    let mut exports = [0usize; EXPORTS];
     name_file(b"candidate: ", i);
     match read_build(candidate, &mut imports, &mut exports) {
         ModuleRead::Refused(why) => print_line(refusal_line(why)),
@@ -154,8 +180,8 @@ fn with_candidate<'a>(
 }
 
 fn evaluate(p: Policy, file: &[u8], imports: &[usize], n: usize) -> Evaluation {
-    let mut domains = [0usize; 1024];
-    let mut rows = [0usize; 1024];
+    let mut domains = [0usize; ROWS];
+    let mut rows = [0usize; ROWS];
     match requirements_from_module(file, imports, n, &mut domains, &mut rows) {
         Count::Refused(why) => unjudged(why),
         Count::Rows(k) => evaluate_domains(&domains, k, p),
@@ -177,8 +203,8 @@ fn compare<'a>(
     ce: &[usize],
     nce: usize,
 ) {
-    let mut xd = [0usize; 2048];
-    let mut cd = [0usize; 3072];
+    let mut xd = [0usize; EXPORT_DIFFS];
+    let mut cd = [0usize; NEED_DIFFS];
     match compare_modules(
         baseline,
         bi,

@@ -1,13 +1,13 @@
 // What is printed.
 use differences::Change;
+use differences::parts::capability_diff_source;
+use differences::parts::export_diff_name;
 use domains::Domain;
 use domains::DomainFound;
 use domains::domain_of;
 use kinds::ExternalKind;
 use kinds::kind_of;
 use libc::STDOUT_FILENO;
-use parts::capability_diff_source;
-use parts::export_diff_name;
 use policy::Policy;
 use refusal::Written;
 use report::added_line;
@@ -20,6 +20,9 @@ use report::refusal_line;
 use report::removed_line;
 use table::cell;
 use table::range;
+use table::shape::EXPORT_DIFF_WIDTH;
+use table::shape::EXPORT_WIDTH;
+use table::shape::NEED_DIFF_WIDTH;
 use verdicts::Evaluation;
 use wasm::Module;
 
@@ -88,8 +91,16 @@ pub(crate) fn tell_removed<'a>(
     n: usize,
 ) {
     for i in 0..n {
-        if cell(xd, 2, i, 0) == 0 {
-            print_removed(baseline, be, nbe, candidate, ce, nce, cell(xd, 2, i, 1));
+        if cell(xd, EXPORT_DIFF_WIDTH, i, 0) == 0 {
+            print_removed(
+                baseline,
+                be,
+                nbe,
+                candidate,
+                ce,
+                nce,
+                cell(xd, EXPORT_DIFF_WIDTH, i, 1),
+            );
         }
     }
 }
@@ -110,7 +121,7 @@ fn print_removed<'a>(
 }
 
 fn kind_at(exports: &[usize], row: usize) -> ExternalKind {
-    let kind = cell(exports, 4, row, 2);
+    let kind = cell(exports, EXPORT_WIDTH, row, 2);
     if kind < 256 {
         return kind_of(kind as u8);
     }
@@ -129,7 +140,7 @@ pub(crate) fn tell_added<'a>(
     n: usize,
 ) {
     for i in 0..n {
-        if cell(cd, 3, i, 0) != 0 {
+        if cell(cd, NEED_DIFF_WIDTH, i, 0) != 0 {
             print_added(
                 baseline,
                 bi,
@@ -137,8 +148,8 @@ pub(crate) fn tell_added<'a>(
                 candidate,
                 ci,
                 nci,
-                cell(cd, 3, i, 1),
-                cell(cd, 3, i, 2),
+                cell(cd, NEED_DIFF_WIDTH, i, 1),
+                cell(cd, NEED_DIFF_WIDTH, i, 2),
             );
         }
     }

@@ -3,14 +3,19 @@ use libc::STDIN_FILENO;
 use libc::STDOUT_FILENO;
 use policy::Policy;
 use refusal::Answer;
+use refusal::MAX_TEXT;
 use refusal::Refusal;
 use refusal::Written;
 ghost use Prim.Native.Nat.{_≤_};
 ghost use lib.ListN.{length};
 
+// One byte more than a text may have, so that 14 is seen; and room for what is written.
+const BUFFER: usize = MAX_TEXT + 1;
+
+const ROOM: usize = MAX_TEXT * 2;
+
 fn main() {
-    // one byte more than a text may have, so that 14 is seen
-    let mut text = [0u8; 65537];
+    let mut text = [0u8; BUFFER];
     let input = read_input(&mut text);
     if input.failed {
         os::fail(b"standard input");
@@ -66,8 +71,8 @@ fn rewrite(s: &[u8]) {
 }
 
 fn write(s: &[u8], p: Policy) {
-    let mut out = [0u8; 131072];
-    match rewriting::write_policy(s, p, &mut out) {
+    let mut out = [0u8; ROOM];
+    match policy_text::write_policy(s, p, &mut out) {
         Written::Refused(why) => print_refusal(why),
         Written::Bytes(n) => print_text(&out[..n]),
     }

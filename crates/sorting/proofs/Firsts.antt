@@ -8,7 +8,7 @@ use Rattle.text.specs.Order.{flip}
 use Rattle.text.specs.declared.order.Order.{Order}
 use Rattle.text.specs.declared.order.Order.the-variants.{Less, Equal, Greater}
 use Rattle.sorting.specs.Order.{Lawful}
-use Rattle.sorting.specs.Sort.{_∈_, place, put, sort, Ascending, First}
+use Rattle.sorting.specs.Sort.{_∈_, place, putInOrder, sort, Ascending, First}
 use Rattle.sorting.proofs.Sorts.{before-lt, before-eq, mem-before, put-has, sort-ascends}
 
 apart-tie : {o : Order} → o ≡ Less → o ≡ Equal → ⊥
@@ -18,12 +18,12 @@ module _ {A : Type 0} (cmp : A → A → Order) (laws : Lawful cmp) where
   lt-no-tie : (x e : A) → cmp x e ≡ Less → cmp e x ≡ Equal → ⊥
   lt-no-tie x e h k = apart-tie h (laws .turn e x ∙ ap flip k)
 
-  put-first : (x e : A) (l : List A) → Ascending cmp l → e ∈ put cmp x l → (e ≡ x) ⊎ ((cmp e x ≡ Equal → ⊥) × (e ∈ l))
+  put-first : (x e : A) (l : List A) → Ascending cmp l → e ∈ putInOrder cmp x l → (e ≡ x) ⊎ ((cmp e x ≡ Equal → ⊥) × (e ∈ l))
   put-first x e [] a m = ⊎-elim inl (λ t. absurd (List·Memᴰ·not-nil t)) (List·Memᴰ·cases-cons m)
   put-first x e (y ∷ l) a m = go (cmp x y) refl m (put-first x e l (a .1))
     where
-      go : (o : Order) → cmp x y ≡ o → e ∈ place o x y l (put cmp x l)
-          → (e ∈ put cmp x l → (e ≡ x) ⊎ ((cmp e x ≡ Equal → ⊥) × (e ∈ l))) → (e ≡ x) ⊎ ((cmp e x ≡ Equal → ⊥) × (e ∈ (y ∷ l)))
+      go : (o : Order) → cmp x y ≡ o → e ∈ place o x y l (putInOrder cmp x l)
+          → (e ∈ putInOrder cmp x l → (e ≡ x) ⊎ ((cmp e x ≡ Equal → ⊥) × (e ∈ l))) → (e ≡ x) ⊎ ((cmp e x ≡ Equal → ⊥) × (e ∈ (y ∷ l)))
       go Less h i ih =
           ⊎-elim inl (λ t. inr (lt-no-tie x e (mem-before cmp laws x e (y ∷ l) (h, before-lt cmp laws x y l h (a .0)) t), t))
           (List·Memᴰ·cases-cons i)
@@ -35,11 +35,11 @@ module _ {A : Type 0} (cmp : A → A → Order) (laws : Lawful cmp) where
           (λ t. ⊎-elim inl (λ u. inr (u .0, List·Memᴰ·tail (u .1))) (ih t))
           (List·Memᴰ·cases-cons i)
 
-  put-rest : (x e : A) (l : List A) → (cmp e x ≡ Equal → ⊥) → e ∈ l → e ∈ put cmp x l
+  put-rest : (x e : A) (l : List A) → (cmp e x ≡ Equal → ⊥) → e ∈ l → e ∈ putInOrder cmp x l
   put-rest x e [] n m = absurd (List·Memᴰ·not-nil m)
   put-rest x e (y ∷ l) n m = go (cmp x y) refl (List·Memᴰ·cases-cons m) (put-rest x e l n)
     where
-      go : (o : Order) → cmp x y ≡ o → (e ≡ y) ⊎ (e ∈ l) → (e ∈ l → e ∈ put cmp x l) → e ∈ place o x y l (put cmp x l)
+      go : (o : Order) → cmp x y ≡ o → (e ≡ y) ⊎ (e ∈ l) → (e ∈ l → e ∈ putInOrder cmp x l) → e ∈ place o x y l (putInOrder cmp x l)
       go Less h i ih = List·Memᴰ·tail m
       go Equal h (inl p) ih = absurd (n (subst (λ (z : A). cmp z x ≡ Equal) (sym p) (laws .turn x y ∙ ap flip h)))
       go Equal h (inr t) ih = List·Memᴰ·tail t

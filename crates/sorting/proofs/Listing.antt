@@ -14,7 +14,7 @@ use Rattle.table.specs.Entries.{finished, fitting}
 use Rattle.refusal.proofs.Following.{never}
 use Rattle.table.proofs.Laws.{laid-nil, drop-replicate}
 use Rattle.sorting.specs.Order.{Lawful}
-use Rattle.sorting.specs.Sort.{put, sort, keep, upFrom}
+use Rattle.sorting.specs.Sort.{putInOrder, sort, selected, upFrom}
 use Rattle.sorting.specs.Keys.{saidSorted, Sorts}
 use Rattle.sorting.specs.Filling.{Placed, Ordered, Filled, Inserted, inserted}
 use Rattle.sorting.specs.declared.Place.the-variants.{Before, Over}
@@ -25,18 +25,18 @@ use Rattle.sorting.proofs.Sorts.{put-grows, sort-ascends}
 -- ---- a row put in, at either kind of place
 module _ (cmp : ℕ → ℕ → Order) (x : ℕ) (table : List ℕ) (k p : ℕ) where
   -- the list has one row more
-  pub placed-more : k ≤ length table → Placed cmp x (take k table) (Before p) → k + 1 ≡ length (put cmp x (take k table))
+  pub placed-more : k ≤ length table → Placed cmp x (take k table) (Before p) → k + 1 ≡ length (putInOrder cmp x (take k table))
   placed-more h g =
       let n : length (take k table) ≡ k = length-take-le k table h in
       let q : p ≤ length (take k table) = g .within in
       rw (g .put-is) (simp (length-append, length-drop, length-take-le p (take k table) q) (omega arith))
 
   pub placed-full : k ≤ length table → length table ≤ k → Placed cmp x (take k table) (Before p)
-      → length table < length (put cmp x (take k table))
+      → length table < length (putInOrder cmp x (take k table))
   placed-full h f g = omega (arith, placed-more h g)
 
   pub filled-before : k < length table → Placed cmp x (take k table) (Before p)
-      → Filled (put cmp x (take k table)) table (inserted table p k x) (k + 1)
+      → Filled (putInOrder cmp x (take k table)) table (inserted table p k x) (k + 1)
   filled-before h g =
       let n : length (take k table) ≡ k = length-take-le k table (omega arith) in
       let q : p ≤ length (take k table) = g .within in
@@ -46,7 +46,7 @@ module _ (cmp : ℕ → ℕ → Order) (x : ℕ) (table : List ℕ) (k p : ℕ) 
       }
 
   pub filled-over : k ≤ length table → Placed cmp x (take k table) (Over p)
-      → Filled (put cmp x (take k table)) table (set table p x) k
+      → Filled (putInOrder cmp x (take k table)) table (set table p x) k
   filled-over h g =
       let n : length (take k table) ≡ k = length-take-le k table h in
       let q : p < length (take k table) = g .within in
@@ -90,27 +90,28 @@ module _ (cmp : ℕ → ℕ → Order) (laws : Lawful cmp) (l before table : Lis
       }
 
   -- and with one more row put in, it is filled with that of the row and l
-  pub filled-step : (x : ℕ) (after : List ℕ) {s : Sorted} (r : ℕ) → s ≡ Rows r → Inserted (put cmp x (take k table)) table after s
+  pub filled-step : (x : ℕ) (after : List ℕ) {s : Sorted} (r : ℕ) → s ≡ Rows r → Inserted (putInOrder cmp x (take k table)) table after s
       → Filled (sort cmp (x ∷ l)) before after r
   filled-step x after r q h =
-      let g : Filled (put cmp x (take k table)) table after r = subst (Inserted (put cmp x (take k table)) table after) q h in
+      let g : Filled (putInOrder cmp x (take k table)) table after r = subst (Inserted (putInOrder cmp x (take k table)) table after) q h in
       let e = filled-take (sort cmp l) before table k f in
-      let p : put cmp x (take k table) ≡ sort cmp (x ∷ l) = ap (put cmp x) e in
+      let p : putInOrder cmp x (take k table) ≡ sort cmp (x ∷ l) = ap (putInOrder cmp x) e in
       let more : k ≤ r = omega (arith, g .count, f .count, put-grows cmp x (take k table), ap length e) in
       record {
         count = rw (← p) (g .count);
         holds =
             rw (← p)
             (g .holds
-            ∙ ap (λ (t : List ℕ). put cmp x (take k table) ++ t)
+            ∙ ap (λ (t : List ℕ). putInOrder cmp x (take k table) ++ t)
             (ap (drop r) (f .holds) ∙ drop-past (sort cmp l) before k r (f .count) more));
       }
 
   -- or the list of the row and l is longer than the table
-  pub full-step : (x : ℕ) (after : List ℕ) {s : Sorted} → s ≡ Full → Inserted (put cmp x (take k table)) table after s
+  pub full-step : (x : ℕ) (after : List ℕ) {s : Sorted} → s ≡ Full → Inserted (putInOrder cmp x (take k table)) table after s
       → length table < length (sort cmp (x ∷ l))
   full-step x after q h =
-      let g : length table < length (put cmp x (take k table)) = subst (Inserted (put cmp x (take k table)) table after) q h in
+      let g : length table < length (putInOrder cmp x (take k table)) = subst
+      (Inserted (putInOrder cmp x (take k table)) table after) q h in
       rw (filled-take (sort cmp l) before table k f) at g
 
 -- the list replaced by an equal one
@@ -120,7 +121,7 @@ filled-as cmp {before = before} {table} {k} e f = subst (λ (t : List ℕ). Fill
 
 -- ---- the rows from i on below n that pass a test: none, one more or no more, all
 abbrev pub keptFrom : (ℕ → Bool) → ℕ → ℕ → List ℕ
-keptFrom p i n = keep p (upFrom i (n - i))
+keptFrom p i n = selected p (upFrom i (n - i))
 
 rows-step : (n i j : ℕ) → j + 1 ≡ i → i ≤ n → upFrom j (n - j) ≡ j ∷ upFrom i (n - i)
 rows-step n i j h b =
@@ -129,28 +130,28 @@ rows-step n i j h b =
     ap (upFrom j) e ∙ ap (λ (m : ℕ). j ∷ upFrom m (n - i)) d
 
 pub kept-none : (p : ℕ → Bool) (n i : ℕ) → n ≤ i → keptFrom p i n ≡ []
-kept-none p n i h = let e : n - i ≡ 0 = omega arith in ap (λ (m : ℕ). keep p (upFrom i m)) e
+kept-none p n i h = let e : n - i ≡ 0 = omega arith in ap (λ (m : ℕ). selected p (upFrom i m)) e
 
 pub kept-yes : (p : ℕ → Bool) (n i j : ℕ) → j + 1 ≡ i → i ≤ n → p j ≡ true → keptFrom p j n ≡ j ∷ keptFrom p i n
-kept-yes p n i j h b t = ap (keep p) (rows-step n i j h b) ∙ rw t
+kept-yes p n i j h b t = ap (selected p) (rows-step n i j h b) ∙ rw t
 
 pub kept-no : (p : ℕ → Bool) (n i j : ℕ) → j + 1 ≡ i → i ≤ n → p j ≡ false → keptFrom p j n ≡ keptFrom p i n
-kept-no p n i j h b t = ap (keep p) (rows-step n i j h b) ∙ rw t
+kept-no p n i j h b t = ap (selected p) (rows-step n i j h b) ∙ rw t
 
-pub kept-all : (p : ℕ → Bool) (n i : ℕ) → i ≤ 0 → keptFrom p i n ≡ keep p (upFrom 0 n)
+pub kept-all : (p : ℕ → Bool) (n i : ℕ) → i ≤ 0 → keptFrom p i n ≡ selected p (upFrom 0 n)
 kept-all p n i h =
     let e : i ≡ 0 = omega arith in
     let d : n - i ≡ n = omega arith in
-    ap (λ (m : ℕ). keep p (upFrom i m)) d ∙ ap (λ (m : ℕ). keep p (upFrom m n)) e
+    ap (λ (m : ℕ). selected p (upFrom i m)) d ∙ ap (λ (m : ℕ). selected p (upFrom m n)) e
 
 -- the list only grows towards the first row
 pub kept-grows : (cmp : ℕ → ℕ → Order) (p : ℕ → Bool) (n i : ℕ) → i ≤ n
-    → length (sort cmp (keptFrom p i n)) ≤ length (sort cmp (keep p (upFrom 0 n)))
+    → length (sort cmp (keptFrom p i n)) ≤ length (sort cmp (selected p (upFrom 0 n)))
 kept-grows cmp p n zero h = omega (arith, ap (λ (l : List ℕ). length (sort cmp l)) (kept-all p n zero (omega arith)))
 kept-grows cmp p n (suc i) h = by (p i) refl (kept-grows cmp p n i (omega arith))
   where
-    by : (t : Bool) → p i ≡ t → length (sort cmp (keptFrom p i n)) ≤ length (sort cmp (keep p (upFrom 0 n)))
-        → length (sort cmp (keptFrom p (suc i) n)) ≤ length (sort cmp (keep p (upFrom 0 n)))
+    by : (t : Bool) → p i ≡ t → length (sort cmp (keptFrom p i n)) ≤ length (sort cmp (selected p (upFrom 0 n)))
+        → length (sort cmp (keptFrom p (suc i) n)) ≤ length (sort cmp (selected p (upFrom 0 n)))
     by true e ih =
         let q = kept-yes p n (suc i) i (omega arith) h e in
         omega (arith, ap (λ (l : List ℕ). length (sort cmp l)) q, put-grows cmp i (sort cmp (keptFrom p (suc i) n)))

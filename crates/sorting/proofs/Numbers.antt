@@ -7,24 +7,25 @@ use lib.ListN.{length, getD}
 use Rattle.refusal.specs.Pick.{pick}
 use Rattle.text.specs.declared.order.Order.{Order}
 use Rattle.sorting.specs.Order.{Lawful, on}
-use Rattle.sorting.specs.Sort.{_∈_, put, sort, keep, upFrom, rowsAt}
+use Rattle.sorting.specs.Sort.{_∈_, putInOrder, sort, selected, upFrom, rowsAt}
 use Rattle.sorting.proofs.Sorts.{sort-map, sort-only}
 
 -- ---- a test and a function, a test and two lists
-pub keep-map : {A B : Type 0} (f : A → B) (p : B → Bool) (l : List A) → keep p (map f l) ≡ map f (keep (λ x. p (f x)) l)
+pub keep-map : {A B : Type 0} (f : A → B) (p : B → Bool) (l : List A) → selected p (map f l) ≡ map f (selected (λ x. p (f x)) l)
 keep-map f p [] = refl
 keep-map f p (x ∷ l) = rw (keep-map f p l) (go (p (f x)))
   where
-    go : (t : Bool) → pick t (f x ∷ map f (keep (λ y. p (f y)) l)) (map f (keep (λ y. p (f y)) l))
-        ≡ map f (pick t (x ∷ keep (λ y. p (f y)) l) (keep (λ y. p (f y)) l))
+    go : (t : Bool) → pick t (f x ∷ map f (selected (λ y. p (f y)) l)) (map f (selected (λ y. p (f y)) l))
+        ≡ map f (pick t (x ∷ selected (λ y. p (f y)) l) (selected (λ y. p (f y)) l))
     go true = refl
     go false = refl
 
-pub keep-append : {A : Type 0} (p : A → Bool) (l m : List A) → keep p (l ++ m) ≡ keep p l ++ keep p m
+pub keep-append : {A : Type 0} (p : A → Bool) (l m : List A) → selected p (l ++ m) ≡ selected p l ++ selected p m
 keep-append p [] m = refl
 keep-append p (x ∷ l) m = rw (keep-append p l m) (go (p x))
   where
-    go : (t : Bool) → pick t (x ∷ (keep p l ++ keep p m)) (keep p l ++ keep p m) ≡ pick t (x ∷ keep p l) (keep p l) ++ keep p m
+    go : (t : Bool) → pick t (x ∷ (selected p l ++ selected p m)) (selected p l ++ selected p m)
+        ≡ pick t (x ∷ selected p l) (selected p l) ++ selected p m
     go true = refl
     go false = refl
 
@@ -40,20 +41,20 @@ module _ {A : Type 0} (d : A) where
 
   -- the numbers of the rows that pass a test, sorted by comparing the rows, name the sorted list of these rows
   pub sort-numbers : (cmp : A → A → Order) (p : A → Bool) (l : List A) → let row : ℕ → A = λ i. getD l i d in
-      rowsAt d l (sort (on cmp row) (keep (λ i. p (row i)) (upFrom 0 (length l)))) ≡ sort cmp (keep p l)
+      rowsAt d l (sort (on cmp row) (selected (λ i. p (row i)) (upFrom 0 (length l)))) ≡ sort cmp (selected p l)
   sort-numbers cmp p l =
       let row : ℕ → A = λ i. getD l i d in
-      sym (sort-map (on cmp row) cmp row (λ x y. refl) (keep (λ i. p (row i)) (upFrom 0 (length l))))
-      ∙ ap (sort cmp) (sym (keep-map row p (upFrom 0 (length l))) ∙ ap (keep p) (all-rows l))
+      sym (sort-map (on cmp row) cmp row (λ x y. refl) (selected (λ i. p (row i)) (upFrom 0 (length l))))
+      ∙ ap (sort cmp) (sym (keep-map row p (upFrom 0 (length l))) ∙ ap (selected p) (all-rows l))
 
 -- ---- two orders that agree on a list sort it alike
 module _ {A : Type 0} (c d : A → A → Order) where
-  put-agree : (x : A) (l : List A) → ((y : A) → y ∈ l → c x y ≡ d x y) → put c x l ≡ put d x l
+  put-agree : (x : A) (l : List A) → ((y : A) → y ∈ l → c x y ≡ d x y) → putInOrder c x l ≡ putInOrder d x l
   put-agree x [] h = refl
   put-agree x (y ∷ l) h = rw (h y (List·Memᴰ·head refl), put-agree x l (λ z m. h z (List·Memᴰ·tail m)))
 
   pub sort-agree : Lawful d → (l : List A) → ((x y : A) → x ∈ l → y ∈ l → c x y ≡ d x y) → sort c l ≡ sort d l
   sort-agree laws [] h = refl
   sort-agree laws (x ∷ l) h =
-      ap (put c x) (sort-agree laws l (λ y z i j. h y z (List·Memᴰ·tail i) (List·Memᴰ·tail j)))
+      ap (putInOrder c x) (sort-agree laws l (λ y z i j. h y z (List·Memᴰ·tail i) (List·Memᴰ·tail j)))
       ∙ put-agree x (sort d l) (λ y m. h x y (List·Memᴰ·head refl) (List·Memᴰ·tail (sort-only d laws y l m)))

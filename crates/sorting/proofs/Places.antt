@@ -10,12 +10,12 @@ use lib.Seq.{slice, slice-empty, slice-cons, take-suc, getD-take, set-at, length
 use Rattle.text.specs.declared.order.Order.{Order}
 use Rattle.text.specs.declared.order.Order.the-variants.{Less, Equal, Greater}
 use Rattle.sorting.specs.Order.{Lawful}
-use Rattle.sorting.specs.Sort.{put, Before, Ascending}
+use Rattle.sorting.specs.Sort.{putInOrder, Before, Ascending}
 
 module _ {A : Type 0} (cmp : A → A → Order) (x d : A) where
   -- past p elements that x comes after, and before one that it comes before or the end: x goes in there
   pub put-before : (l : List A) (p : ℕ) → p ≤ length l → ((j : ℕ) → j < p → cmp x (getD l j d) ≡ Greater)
-      → (p < length l → cmp x (getD l p d) ≡ Less) → put cmp x l ≡ take p l ++ x ∷ drop p l
+      → (p < length l → cmp x (getD l p d) ≡ Less) → putInOrder cmp x l ≡ take p l ++ x ∷ drop p l
   put-before [] zero h b e = refl
   put-before [] (suc p) h b e = absurd (not-suc-le-zero h)
   put-before (y ∷ l) zero h b e = rw (e (suc-le-suc zero-le))
@@ -26,7 +26,7 @@ module _ {A : Type 0} (cmp : A → A → Order) (x d : A) where
 
   -- past p elements that x comes after, at one that it ties with: x goes in its place
   pub put-over : (l : List A) (p : ℕ) → p < length l → ((j : ℕ) → j < p → cmp x (getD l j d) ≡ Greater) → cmp x (getD l p d) ≡ Equal
-      → put cmp x l ≡ take p l ++ x ∷ drop (suc p) l
+      → putInOrder cmp x l ≡ take p l ++ x ∷ drop (suc p) l
   put-over [] p h b e = absurd (not-suc-le-zero h)
   put-over (y ∷ l) zero h b e = rw e
   put-over (y ∷ l) (suc p) h b e =

@@ -13,9 +13,9 @@ use Rattle.text.specs.declared.order.Order.the-variants.{Equal}
 use Rattle.text.proofs.OrderLaws.{cmp-refl}
 use Rattle.table.specs.Table.{cellOf}
 use Rattle.sorting.specs.Order.{Lawful, on}
-use Rattle.sorting.specs.Sort.{_∈_, keep, upFrom, Before, Ascending}
-use Rattle.sorting.specs.Keys.{byName, nameAt, cellIn, nameOf, rowOrder, marked, sortedRows}
-use Rattle.sorting.specs.Claims.{Listed, Ranked, NameListed, NamesRanked}
+use Rattle.sorting.specs.Sort.{_∈_, selected, upFrom, Before, Ascending}
+use Rattle.sorting.specs.Keys.{byName, rowName, columnAt, nameOf, rowOrder, rowMarked, sortedRows}
+use Rattle.sorting.specs.Claims.{ListedRow, Ranked, NameListed, NamesRanked}
 use Rattle.sorting.specs.declared.Keys.{Keys}
 use Rattle.sorting.proofs.Orders.{exact-nat, exact-bytes, then-tie}
 use Rattle.sorting.proofs.Sorts.{sort-ascends, ascending-unique}
@@ -24,21 +24,21 @@ use Rattle.sorting.proofs.Rowing.{lawful-rows, names-order}
 
 -- ---- the elements that pass a test, and the row numbers
 module _ {A : Type 0} (p : A → Bool) (e : A) where
-  pub keep-to : (l : List A) → e ∈ keep p l → (e ∈ l) × (p e ≡ true)
+  pub keep-to : (l : List A) → e ∈ selected p l → (e ∈ l) × (p e ≡ true)
   keep-to [] m = absurd (List·Memᴰ·not-nil m)
   keep-to (x ∷ l) m = go (p x) refl m (keep-to l)
     where
-      go : (t : Bool) → p x ≡ t → e ∈ pick t (x ∷ keep p l) (keep p l) → (e ∈ keep p l → (e ∈ l) × (p e ≡ true))
+      go : (t : Bool) → p x ≡ t → e ∈ pick t (x ∷ selected p l) (selected p l) → (e ∈ selected p l → (e ∈ l) × (p e ≡ true))
           → (e ∈ (x ∷ l)) × (p e ≡ true)
       go true q i ih =
           ⊎-elim (λ h. (List·Memᴰ·head h, ap p h ∙ q)) (λ j. (List·Memᴰ·tail (ih j .0), ih j .1)) (List·Memᴰ·cases-cons i)
       go false q i ih = (List·Memᴰ·tail (ih i .0), ih i .1)
 
-  pub keep-of : (l : List A) → e ∈ l → p e ≡ true → e ∈ keep p l
+  pub keep-of : (l : List A) → e ∈ l → p e ≡ true → e ∈ selected p l
   keep-of [] m h = absurd (List·Memᴰ·not-nil m)
   keep-of (x ∷ l) m h = go (p x) refl (List·Memᴰ·cases-cons m) (λ i. keep-of l i h)
     where
-      go : (t : Bool) → p x ≡ t → (e ≡ x) ⊎ (e ∈ l) → (e ∈ l → e ∈ keep p l) → e ∈ pick t (x ∷ keep p l) (keep p l)
+      go : (t : Bool) → p x ≡ t → (e ≡ x) ⊎ (e ∈ l) → (e ∈ l → e ∈ selected p l) → e ∈ pick t (x ∷ selected p l) (selected p l)
       go true q (inl w) ih = List·Memᴰ·head w
       go true q (inr i) ih = List·Memᴰ·tail (ih i)
       go false q (inl w) ih = let z = sym h ∙ ap p w ∙ q in absurd (let z : _≡_ {A = ℕ} 0 1 = cc in omega arith)
@@ -61,24 +61,24 @@ up-of e i (suc m) h k = ⊎-elim (λ p. List·Memᴰ·head p) (λ l. List·Mem�
     apart (suc a) (suc b) h = ⊎-elim (λ p. inl (ap suc p)) (λ l. inr (omega arith)) (apart a b (omega arith))
 
 -- row numbers that pass a test are numbered upwards
-numbered : (cmp : ℕ → ℕ → Order) (laws : Lawful cmp) (p : ℕ → Bool) (i m : ℕ) → Up cmp laws (λ e. e) (keep p (upFrom i m))
+numbered : (cmp : ℕ → ℕ → Order) (laws : Lawful cmp) (p : ℕ → Bool) (i m : ℕ) → Up cmp laws (λ e. e) (selected p (upFrom i m))
 numbered cmp laws p i zero = tt
 numbered cmp laws p i (suc m) = go (p i) (numbered cmp laws p (suc i) m)
   where
-    go : (t : Bool) → Up cmp laws (λ e. e) (keep p (upFrom (suc i) m))
-        → Up cmp laws (λ e. e) (pick t (i ∷ keep p (upFrom (suc i) m)) (keep p (upFrom (suc i) m)))
+    go : (t : Bool) → Up cmp laws (λ e. e) (selected p (upFrom (suc i) m))
+        → Up cmp laws (λ e. e) (pick t (i ∷ selected p (upFrom (suc i) m)) (selected p (upFrom (suc i) m)))
     go true ih = ((λ f j t. omega (arith, up-to f (suc i) m (keep-to p f (upFrom (suc i) m) j .0))), ih)
     go false ih = ih
 
 -- ---- the claim
 module _ (first second rows : List ℕ) (k : Keys) (n : ℕ) where
-  each-is : (e : ℕ) → e ∈ sortedRows first second rows k n ↔ Listed first second rows k n e
+  each-is : (e : ℕ) → e ∈ sortedRows first second rows k n ↔ ListedRow first second rows k n e
   unfolding sortedRows
   each-is e =
       let order = rowOrder first second rows k in
       let laws = lawful-rows first second rows k in
-      let test = marked first second rows k in
-      let l = keep test (upFrom 0 n) in
+      let test = rowMarked first second rows k in
+      let l = selected test (upFrom 0 n) in
       let s = sort-lowest order laws (λ e. e) e l (numbered order laws test 0 n) in
       let to : (j : ℕ) → j ∈ l → (j < n) × (test j ≡ true) =
       λ j m. let u = keep-to test j (upFrom 0 n) m in let v = up-to j 0 n (u .0) in (omega arith, u .1) in
@@ -96,7 +96,7 @@ module _ (first second rows : List ℕ) (k : Keys) (n : ℕ) where
       record {
         ascends =
             sort-ascends (rowOrder first second rows k) (lawful-rows first second rows k)
-            (keep (marked first second rows k) (upFrom 0 n));
+            (selected (rowMarked first second rows k) (upFrom 0 n));
         each = each-is;
       }
 
@@ -109,7 +109,7 @@ module _ (first second rows : List ℕ) (k : Keys) (n : ℕ) where
 pub every-apart : (first second rows : List ℕ) (k : Keys) → k .every ≡ true → (i j : ℕ) → rowOrder first second rows k i j ≡ Equal → i ≡ j
 unfolding rowOrder
 every-apart first second rows k h i j e =
-    let cell = cellIn first second rows k in
+    let cell = columnAt first second rows k in
     let name = nameOf first second rows k in
     let last : Order = pick (k .every) (cmpNat i j) Equal in
     let minor : Order = cmpNat (cell (k .minor) i) (cell (k .minor) j) in
@@ -121,11 +121,11 @@ every-apart first second rows k h i j e =
 -- rows listed by name tie where the names are the same bytes
 pub same-name : (first second rows : List ℕ) (width from len mark value i j : ℕ)
     → rowOrder first second rows (byName width from len mark value) i j ≡ Equal
-    ↔ nameAt first rows width from len i ≡ nameAt first rows width from len j
+    ↔ rowName first rows width from len i ≡ rowName first rows width from len j
 same-name first second rows width from len mark value i j =
     let is = names-order first second rows width from len mark value i j in
-    let x = nameAt first rows width from len i in
-    let y = nameAt first rows width from len j in (
+    let x = rowName first rows width from len i in
+    let y = rowName first rows width from len j in (
       (λ e. exact-bytes x y (sym is ∙ e)),
       λ e. is ∙ ap (cmpBytes x) (sym e) ∙ cmp-refl x,
     )
@@ -141,15 +141,15 @@ ascends-as c d same (x ∷ l) a = (before l (a .0), ascends-as c d same l (a .1)
 
 module _ (text rows : List ℕ) (width from len mark value n : ℕ) where
   by-bytes : (i j : ℕ) → rowOrder text text rows (byName width from len mark value) i j
-      ≡ cmpBytes (nameAt text rows width from len i) (nameAt text rows width from len j)
+      ≡ cmpBytes (rowName text rows width from len i) (rowName text rows width from len j)
   by-bytes = names-order text text rows width from len mark value
 
-  wanted-is : (e : ℕ) → marked text text rows (byName width from len mark value) e ≡ true ↔ cellOf rows width e mark ≡ value
-  unfolding marked
+  wanted-is : (e : ℕ) → rowMarked text text rows (byName width from len mark value) e ≡ true ↔ cellOf rows width e mark ≡ value
+  unfolding rowMarked
   wanted-is e = (eqb-true (cellOf rows width e mark) value, eq-eqb (cellOf rows width e mark) value)
 
   -- listed as a row, and listed as a name
-  as-name : (e : ℕ) → Listed text text rows (byName width from len mark value) n e ↔ NameListed text rows width from len mark value n e
+  as-name : (e : ℕ) → ListedRow text text rows (byName width from len mark value) n e ↔ NameListed text rows width from len mark value n e
   as-name e = (
     (λ h.
         record {
@@ -172,7 +172,7 @@ module _ (text rows : List ℕ) (width from len mark value n : ℕ) where
       let r = sorted-ranked text text rows k n in
       record {
         ascends =
-            ascends-as (rowOrder text text rows k) (on cmpBytes (nameAt text rows width from len)) by-bytes l (r .ascends);
+            ascends-as (rowOrder text text rows k) (on cmpBytes (rowName text rows width from len)) by-bytes l (r .ascends);
         each = λ e. ((λ m. as-name e .0 (r .each e .0 m)), λ h. r .each e .1 (as-name e .1 h));
       }
 
@@ -183,7 +183,7 @@ module _ (text rows : List ℕ) (width from len mark value n : ℕ) where
       ranked-only text text rows k n l
       (record {
         ascends =
-            ascends-as (on cmpBytes (nameAt text rows width from len)) (rowOrder text text rows k) (λ i j. sym (by-bytes i j)) l
+            ascends-as (on cmpBytes (rowName text rows width from len)) (rowOrder text text rows k) (λ i j. sym (by-bytes i j)) l
             (r .ascends);
         each = λ e. ((λ m. as-name e .1 (r .each e .0 m)), λ h. r .each e .1 (as-name e .0 h));
       })

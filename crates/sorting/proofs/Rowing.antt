@@ -12,14 +12,15 @@ use Rattle.text.specs.declared.order.Order.the-variants.{Equal}
 use Rattle.table.specs.Table.{rangeOf}
 use Rattle.table.proofs.Cells.{cell-beside}
 use Rattle.sorting.specs.Order.{Lawful}
-use Rattle.sorting.specs.Keys.{byName, nameAt, cellIn, fileOf, nameOf, rowOrder, marked, unmarked, wanted}
+use Rattle.sorting.specs.Keys.{byName, rowName, columnAt, fileOf, nameOf, rowOrder, rowMarked, unmarked, wanted}
 use Rattle.sorting.specs.declared.Keys.{Keys}
 use Rattle.sorting.proofs.Orders.{decided, undecided, lawful-nat, lawful-bytes, lawful-on, lawful-then, lawful-tie, nat-same}
 
 module _ (first second rows : List ℕ) (k : Keys) where
   -- the bytes of a row, from its three cells
-  module _ {from len file : ℕ} (i : ℕ) (f : from ≡ cellIn first second rows k (k .from) i) (l : len ≡ cellIn first second rows k (k .len) i)
-      (e : file ≡ cellIn first second rows k (k .file) i) where
+  module _ {from len file : ℕ} (i : ℕ) (f : from ≡ columnAt first second rows k (k .from) i)
+      (l : len ≡ columnAt first second rows k (k .len) i)
+      (e : file ≡ columnAt first second rows k (k .file) i) where
     pub name-first : file ≡ 0 → rangeOf first from len ≡ nameOf first second rows k i
     unfolding nameOf fileOf
     name-first z = rw (f, l, eq-eqb _ _ (sym e ∙ z))
@@ -29,21 +30,21 @@ module _ (first second rows : List ℕ) (k : Keys) where
     name-second z = rw (f, l, ne-eqb _ _ (λ q. z (e ∙ q)))
 
   -- a row's mark, from its cell
-  marked-yes : {x : ℕ} (i : ℕ) → x ≡ cellIn first second rows k (k .mark) i → x ≡ k .value → marked first second rows k i ≡ true
-  unfolding marked
+  marked-yes : {x : ℕ} (i : ℕ) → x ≡ columnAt first second rows k (k .mark) i → x ≡ k .value → rowMarked first second rows k i ≡ true
+  unfolding rowMarked
   marked-yes i e q = eq-eqb _ _ (sym e ∙ q)
 
-  marked-no : {x : ℕ} (i : ℕ) → x ≡ cellIn first second rows k (k .mark) i → (x ≡ k .value → ⊥) → marked first second rows k i ≡ false
-  unfolding marked
+  marked-no : {x : ℕ} (i : ℕ) → x ≡ columnAt first second rows k (k .mark) i → (x ≡ k .value → ⊥) → rowMarked first second rows k i ≡ false
+  unfolding rowMarked
   marked-no i e q = ne-eqb _ _ (λ h. q (e ∙ h))
 
-  pub wanted-yes : {x : ℕ} (like : Bool) (i : ℕ) → x ≡ cellIn first second rows k (k .mark) i → x ≡ k .value
+  pub wanted-yes : {x : ℕ} (like : Bool) (i : ℕ) → x ≡ columnAt first second rows k (k .mark) i → x ≡ k .value
       → like ≡ wanted first second rows k like i
   unfolding wanted unmarked
   wanted-yes true i e q = sym (marked-yes i e q)
   wanted-yes false i e q = rw (marked-yes i e q)
 
-  pub wanted-no : {x : ℕ} (like : Bool) (i : ℕ) → x ≡ cellIn first second rows k (k .mark) i → (x ≡ k .value → ⊥)
+  pub wanted-no : {x : ℕ} (like : Bool) (i : ℕ) → x ≡ columnAt first second rows k (k .mark) i → (x ≡ k .value → ⊥)
       → not like ≡ wanted first second rows k like i
   unfolding wanted unmarked
   wanted-no true i e q = sym (marked-no i e q)
@@ -52,7 +53,7 @@ module _ (first second rows : List ℕ) (k : Keys) where
   -- the order of two rows, by the first answer that is no tie
   module _ (i j : ℕ) where
     abbrev pub byCell : ℕ → Order
-    byCell column = cmpNat (cellIn first second rows k column i) (cellIn first second rows k column j)
+    byCell column = cmpNat (columnAt first second rows k column i) (columnAt first second rows k column j)
 
     abbrev pub byBytes : Order
     byBytes = cmpBytes (nameOf first second rows k i) (nameOf first second rows k j)
@@ -79,9 +80,9 @@ module _ (first second rows : List ℕ) (k : Keys) where
   pub lawful-rows : Lawful (rowOrder first second rows k)
   unfolding rowOrder
   lawful-rows =
-      lawful-then (lawful-on lawful-nat (cellIn first second rows k (k .major)))
+      lawful-then (lawful-on lawful-nat (columnAt first second rows k (k .major)))
       (lawful-then (lawful-on lawful-bytes (nameOf first second rows k))
-      (lawful-then (lawful-on lawful-nat (cellIn first second rows k (k .minor))) (last (k .every))))
+      (lawful-then (lawful-on lawful-nat (columnAt first second rows k (k .minor))) (last (k .every))))
     where
       last : (t : Bool) → Lawful {A = ℕ} (λ i j. pick t (cmpNat i j) Equal)
       last true = lawful-nat
@@ -90,7 +91,7 @@ module _ (first second rows : List ℕ) (k : Keys) where
 -- rows listed by a name alone are compared by the bytes of their ranges
 pub names-order : (first second rows : List ℕ) (width from len mark value i j : ℕ)
     → rowOrder first second rows (byName width from len mark value) i j
-    ≡ cmpBytes (nameAt first rows width from len i) (nameAt first rows width from len j)
+    ≡ cmpBytes (rowName first rows width from len i) (rowName first rows width from len j)
 unfolding rowOrder nameOf fileOf
 names-order first second rows width from len mark value i j =
     rw (cell-beside rows width i width (le-refl width), cell-beside rows width j width (le-refl width), nat-same 0 0 refl) (tied _)

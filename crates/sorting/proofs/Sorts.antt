@@ -11,7 +11,7 @@ use Rattle.text.specs.Order.{flip}
 use Rattle.text.specs.declared.order.Order.{Order}
 use Rattle.text.specs.declared.order.Order.the-variants.{Less, Equal, Greater}
 use Rattle.sorting.specs.Order.{Joins, Lawful}
-use Rattle.sorting.specs.Sort.{_∈_, place, put, sort, Before, Ascending}
+use Rattle.sorting.specs.Sort.{_∈_, place, putInOrder, sort, Before, Ascending}
 
 module _ {A : Type 0} (cmp : A → A → Order) where
   -- x ties with no element of l
@@ -29,7 +29,7 @@ apart p q = let z : _≡_ {A = ℕ} 0 1 = cc in omega arith
 
 module _ {A : Type 0} (cmp : A → A → Order) (laws : Lawful cmp) where
   -- two that do not tie can be put in in either order
-  put-lt : (x y : A) → cmp x y ≡ Less → (l : List A) → put cmp x (put cmp y l) ≡ put cmp y (put cmp x l)
+  put-lt : (x y : A) → cmp x y ≡ Less → (l : List A) → putInOrder cmp x (putInOrder cmp y l) ≡ putInOrder cmp y (putInOrder cmp x l)
   put-lt x y h [] = let k : cmp y x ≡ Greater = laws .turn x y ∙ ap flip h in simp (h, k)
   put-lt x y h (z ∷ l) = go (cmp y z) (cmp x z) refl refl (put-lt x y h l)
     where
@@ -40,32 +40,33 @@ module _ {A : Type 0} (cmp : A → A → Order) (laws : Lawful cmp) where
       j = subst (λ (o : Order). Joins o (cmp y z) (cmp x z)) h (laws .join x y z)
 
       go : (o p : Order) → cmp y z ≡ o → cmp x z ≡ p
-          → put cmp x (put cmp y l) ≡ put cmp y (put cmp x l)
-          → put cmp x (put cmp y (z ∷ l)) ≡ put cmp y (put cmp x (z ∷ l))
+          → putInOrder cmp x (putInOrder cmp y l) ≡ putInOrder cmp y (putInOrder cmp x l)
+          → putInOrder cmp x (putInOrder cmp y (z ∷ l)) ≡ putInOrder cmp y (putInOrder cmp x (z ∷ l))
       go Less p e f ih = let g : cmp x z ≡ Less = rw e at j in simp (h, k, e, g)
       go Equal p e f ih = let g : cmp x z ≡ Less = rw e at j in simp (h, k, e, g)
       go Greater Less e f ih = simp (k, e, f)
       go Greater Equal e f ih = simp (k, e, f)
       go Greater Greater e f ih = simp (e, f, ih)
 
-  pub put-comm : (x y : A) → (cmp x y ≡ Equal → ⊥) → (l : List A) → put cmp x (put cmp y l) ≡ put cmp y (put cmp x l)
+  pub put-comm : (x y : A) → (cmp x y ≡ Equal → ⊥) → (l : List A)
+      → putInOrder cmp x (putInOrder cmp y l) ≡ putInOrder cmp y (putInOrder cmp x l)
   put-comm x y h l = go (cmp x y) refl
     where
-      go : (o : Order) → cmp x y ≡ o → put cmp x (put cmp y l) ≡ put cmp y (put cmp x l)
+      go : (o : Order) → cmp x y ≡ o → putInOrder cmp x (putInOrder cmp y l) ≡ putInOrder cmp y (putInOrder cmp x l)
       go Less e = put-lt x y e l
       go Equal e = absurd (h e)
       go Greater e = sym (put-lt y x (laws .turn x y ∙ ap flip e) l)
 
   -- what ties with nothing in xs can be put in before xs or after
-  put-past : (y : A) (xs : List A) → NoTie cmp y xs → (ys : List A) → put cmp y (sort cmp (xs ++ ys)) ≡ sort cmp (xs ++ y ∷ ys)
+  put-past : (y : A) (xs : List A) → NoTie cmp y xs → (ys : List A) → putInOrder cmp y (sort cmp (xs ++ ys)) ≡ sort cmp (xs ++ y ∷ ys)
   put-past y [] n ys = refl
-  put-past y (x ∷ xs) n ys = put-comm y x (n .0) (sort cmp (xs ++ ys)) ∙ ap (put cmp x) (put-past y xs (n .1) ys)
+  put-past y (x ∷ xs) n ys = put-comm y x (n .0) (sort cmp (xs ++ ys)) ∙ ap (putInOrder cmp x) (put-past y xs (n .1) ys)
 
   -- two lists with no tie across can be sorted in either order
   pub sort-swap : (xs ys : List A) → ((y : A) → y ∈ ys → NoTie cmp y xs) → sort cmp (xs ++ ys) ≡ sort cmp (ys ++ xs)
   sort-swap xs [] n = ap (sort cmp) (append-nil xs)
   sort-swap xs (y ∷ ys) n =
-      sym (put-past y xs (n y (List·Memᴰ·head refl)) ys) ∙ ap (put cmp y) (sort-swap xs ys (λ z m. n z (List·Memᴰ·tail m)))
+      sym (put-past y xs (n y (List·Memᴰ·head refl)) ys) ∙ ap (putInOrder cmp y) (sort-swap xs ys (λ z m. n z (List·Memᴰ·tail m)))
 
   -- x ties with itself
   pub tie-self : (x : A) → cmp x x ≡ Equal
@@ -77,11 +78,11 @@ module _ {A : Type 0} (cmp : A → A → Order) (laws : Lawful cmp) where
       go Greater e = absurd (apart {o = Greater} e refl)
 
   -- a sorted list has only what the list has, and for each element of the list one that ties with it
-  put-only : (x e : A) (l : List A) → e ∈ put cmp x l → (e ≡ x) ⊎ (e ∈ l)
+  put-only : (x e : A) (l : List A) → e ∈ putInOrder cmp x l → (e ≡ x) ⊎ (e ∈ l)
   put-only x e [] m = List·Memᴰ·cases-cons m
   put-only x e (y ∷ l) m = go (cmp x y) m (put-only x e l)
     where
-      go : (o : Order) → e ∈ place o x y l (put cmp x l) → (e ∈ put cmp x l → (e ≡ x) ⊎ (e ∈ l)) → (e ≡ x) ⊎ (e ∈ (y ∷ l))
+      go : (o : Order) → e ∈ place o x y l (putInOrder cmp x l) → (e ∈ putInOrder cmp x l → (e ≡ x) ⊎ (e ∈ l)) → (e ≡ x) ⊎ (e ∈ (y ∷ l))
       go Less m ih = List·Memᴰ·cases-cons m
       go Equal m ih = ⊎-elim inl (λ t. inr (List·Memᴰ·tail t)) (List·Memᴰ·cases-cons m)
       go Greater m ih = ⊎-elim (λ p. inr (List·Memᴰ·head p)) (λ t. ⊎-elim inl (λ u. inr (List·Memᴰ·tail u)) (ih t)) (List·Memᴰ·cases-cons m)
@@ -90,20 +91,21 @@ module _ {A : Type 0} (cmp : A → A → Order) (laws : Lawful cmp) where
   sort-only e [] m = m
   sort-only e (x ∷ l) m = ⊎-elim (λ p. List·Memᴰ·head p) (λ t. List·Memᴰ·tail (sort-only e l t)) (put-only x e (sort cmp l) m)
 
-  pub put-has : (x : A) (l : List A) → x ∈ put cmp x l
+  pub put-has : (x : A) (l : List A) → x ∈ putInOrder cmp x l
   put-has x [] = List·Memᴰ·head refl
   put-has x (y ∷ l) = go (cmp x y) (put-has x l)
     where
-      go : (o : Order) → x ∈ put cmp x l → x ∈ place o x y l (put cmp x l)
+      go : (o : Order) → x ∈ putInOrder cmp x l → x ∈ place o x y l (putInOrder cmp x l)
       go Less ih = List·Memᴰ·head refl
       go Equal ih = List·Memᴰ·head refl
       go Greater ih = List·Memᴰ·tail ih
 
-  put-keeps : (x e : A) (l : List A) → e ∈ l → Tied cmp e (put cmp x l)
+  put-keeps : (x e : A) (l : List A) → e ∈ l → Tied cmp e (putInOrder cmp x l)
   put-keeps x e [] m = absurd (List·Memᴰ·not-nil m)
   put-keeps x e (y ∷ l) m = go (cmp x y) refl (List·Memᴰ·cases-cons m) (put-keeps x e l)
     where
-      go : (o : Order) → cmp x y ≡ o → (e ≡ y) ⊎ (e ∈ l) → (e ∈ l → Tied cmp e (put cmp x l)) → Tied cmp e (place o x y l (put cmp x l))
+      go : (o : Order) → cmp x y ≡ o → (e ≡ y) ⊎ (e ∈ l) → (e ∈ l → Tied cmp e (putInOrder cmp x l))
+          → Tied cmp e (place o x y l (putInOrder cmp x l))
       go Less q c ih = (e, List·Memᴰ·tail m, tie-self e)
       go Equal q (inl p) ih = (x, List·Memᴰ·head refl, rw p (laws .turn x y ∙ ap flip q))
       go Equal q (inr t) ih = (e, List·Memᴰ·tail t, tie-self e)
@@ -114,7 +116,7 @@ module _ {A : Type 0} (cmp : A → A → Order) (laws : Lawful cmp) where
   sort-has e [] m = absurd (List·Memᴰ·not-nil m)
   sort-has e (x ∷ l) m = go (List·Memᴰ·cases-cons m) (sort-has e l)
     where
-      go : (e ≡ x) ⊎ (e ∈ l) → (e ∈ l → Tied cmp e (sort cmp l)) → Tied cmp e (put cmp x (sort cmp l))
+      go : (e ≡ x) ⊎ (e ∈ l) → (e ∈ l → Tied cmp e (sort cmp l)) → Tied cmp e (putInOrder cmp x (sort cmp l))
       go (inl p) ih = (x, put-has x (sort cmp l), rw p (tie-self x))
       go (inr t) ih =
           let s = ih t in
@@ -138,20 +140,20 @@ module _ {A : Type 0} (cmp : A → A → Order) (laws : Lawful cmp) where
   before-eq x y [] h b = tt
   before-eq x y (z ∷ l) h b = (rw (h, b .0) at (laws .join x y z), before-eq x y l h (b .1))
 
-  before-put : (z x : A) (l : List A) → cmp z x ≡ Less → Before cmp z l → Before cmp z (put cmp x l)
+  before-put : (z x : A) (l : List A) → cmp z x ≡ Less → Before cmp z l → Before cmp z (putInOrder cmp x l)
   before-put z x [] h b = (h, tt)
   before-put z x (y ∷ l) h b = go (cmp x y) (before-put z x l h (b .1))
     where
-      go : (o : Order) → Before cmp z (put cmp x l) → Before cmp z (place o x y l (put cmp x l))
+      go : (o : Order) → Before cmp z (putInOrder cmp x l) → Before cmp z (place o x y l (putInOrder cmp x l))
       go Less ih = (h, b)
       go Equal ih = (h, b .1)
       go Greater ih = (b .0, ih)
 
-  put-ascends : (x : A) (l : List A) → Ascending cmp l → Ascending cmp (put cmp x l)
+  put-ascends : (x : A) (l : List A) → Ascending cmp l → Ascending cmp (putInOrder cmp x l)
   put-ascends x [] a = (tt, tt)
   put-ascends x (y ∷ l) a = go (cmp x y) refl (put-ascends x l (a .1))
     where
-      go : (o : Order) → cmp x y ≡ o → Ascending cmp (put cmp x l) → Ascending cmp (place o x y l (put cmp x l))
+      go : (o : Order) → cmp x y ≡ o → Ascending cmp (putInOrder cmp x l) → Ascending cmp (place o x y l (putInOrder cmp x l))
       go Less h ih = ((h, before-lt x y l h (a .0)), a)
       go Equal h ih = (before-eq x y l h (a .0), a .1)
       go Greater h ih = (before-put y x l (laws .turn x y ∙ ap flip h) (a .0), ih)
@@ -191,11 +193,11 @@ module _ {A : Type 0} (cmp : A → A → Order) (laws : Lawful cmp) where
 
 -- a function that keeps the comparison keeps the sorted list
 module _ {A B : Type 0} (c : A → A → Order) (d : B → B → Order) (f : A → B) (keeps : (x y : A) → d (f x) (f y) ≡ c x y) where
-  put-map : (x : A) (l : List A) → put d (f x) (map f l) ≡ map f (put c x l)
+  put-map : (x : A) (l : List A) → putInOrder d (f x) (map f l) ≡ map f (putInOrder c x l)
   put-map x [] = refl
   put-map x (y ∷ l) = rw (keeps x y, put-map x l) (go (c x y))
     where
-      go : (o : Order) → place o (f x) (f y) (map f l) (map f (put c x l)) ≡ map f (place o x y l (put c x l))
+      go : (o : Order) → place o (f x) (f y) (map f l) (map f (putInOrder c x l)) ≡ map f (place o x y l (putInOrder c x l))
       go Less = refl
       go Equal = refl
       go Greater = refl
@@ -206,17 +208,18 @@ module _ {A B : Type 0} (c : A → A → Order) (d : B → B → Order) (f : A �
 
 -- how long
 module _ {A : Type 0} (cmp : A → A → Order) where
-  put-length : (x : A) (l : List A) → (length l ≤ length (put cmp x l)) × (length (put cmp x l) ≤ suc (length l))
+  put-length : (x : A) (l : List A) → (length l ≤ length (putInOrder cmp x l)) × (length (putInOrder cmp x l) ≤ suc (length l))
   put-length x [] = (omega arith, omega arith)
   put-length x (y ∷ l) = go (cmp x y) (put-length x l)
     where
-      go : (o : Order) → (length l ≤ length (put cmp x l)) × (length (put cmp x l) ≤ suc (length l))
-          → (length (y ∷ l) ≤ length (place o x y l (put cmp x l))) × (length (place o x y l (put cmp x l)) ≤ suc (length (y ∷ l)))
+      go : (o : Order) → (length l ≤ length (putInOrder cmp x l)) × (length (putInOrder cmp x l) ≤ suc (length l))
+          → (length (y ∷ l) ≤ length (place o x y l (putInOrder cmp x l))) ×
+          (length (place o x y l (putInOrder cmp x l)) ≤ suc (length (y ∷ l)))
       go Less ih = (omega arith, omega arith)
       go Equal ih = (omega arith, omega arith)
       go Greater ih = (omega arith, omega arith)
 
-  pub put-grows : (x : A) (l : List A) → length l ≤ length (put cmp x l)
+  pub put-grows : (x : A) (l : List A) → length l ≤ length (putInOrder cmp x l)
   put-grows x l = put-length x l .0
 
   pub sort-length : (l : List A) → length (sort cmp l) ≤ length l

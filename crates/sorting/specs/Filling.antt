@@ -1,11 +1,11 @@
--- How a sorted list is made in its table, row by row: what the functions inside the crate promise. Assumes nothing.
+-- For the code: how a sorted list is made in its table, row by row: what the functions inside the crate promise. Assumes nothing.
 use mathlib.Core.Path.{_≡_}
 use mathlib.Core.List.{List, _∷_, _++_}
 use Prim.Native.Nat.{ℕ, suc, _≤_, _<_}
 use lib.ListN.{length, take, drop}
 use lib.Seq.{slice}
 use Rattle.text.specs.declared.order.Order.{Order}
-use Rattle.sorting.specs.Sort.{put, Ascending}
+use Rattle.sorting.specs.Sort.{putInOrder, Ascending}
 use Rattle.sorting.specs.declared.Place.{Place}
 use Rattle.sorting.specs.declared.Place.the-variants.{Before, Over}
 use Rattle.sorting.specs.declared.Sorted.{Sorted}
@@ -17,19 +17,19 @@ pub record Ordered (cmp : ℕ → ℕ → Order) (table : List ℕ) (k : ℕ) : 
   pub ascends : Ascending cmp (take k table)
 
 -- x put into the list at a place
-abbrev pub placed : Place → ℕ → List ℕ → List ℕ
-placed (Before p) x l = take p l ++ x ∷ drop p l
-placed (Over p) x l = take p l ++ x ∷ drop (suc p) l
+abbrev pub insertedAt : Place → ℕ → List ℕ → List ℕ
+insertedAt (Before p) x l = take p l ++ x ∷ drop p l
+insertedAt (Over p) x l = take p l ++ x ∷ drop (suc p) l
 
 -- the place is one of the list
-abbrev pub Within : Place → List ℕ → Type 0
-Within (Before p) l = p ≤ length l
-Within (Over p) l = p < length l
+abbrev pub PlaceWithin : Place → List ℕ → Type 0
+PlaceWithin (Before p) l = p ≤ length l
+PlaceWithin (Over p) l = p < length l
 
--- the place at which `put` puts x
+-- the place at which `putInOrder` puts x
 pub record Placed (cmp : ℕ → ℕ → Order) (x : ℕ) (l : List ℕ) (r : Place) : Type 0 where
-  pub within : Within r l
-  pub put-is : put cmp x l ≡ placed r x l
+  pub within : PlaceWithin r l
+  pub put-is : putInOrder cmp x l ≡ insertedAt r x l
 
 -- the list with v put in at p and the element at k lost
 abbrev pub inserted : List ℕ → ℕ → ℕ → ℕ → List ℕ

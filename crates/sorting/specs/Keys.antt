@@ -12,7 +12,7 @@ use Rattle.text.specs.declared.order.Order.the-variants.{Equal}
 use Rattle.refusal.specs.Said.{Said, accepted, refused}
 use Rattle.table.specs.Table.{laid, cellOf, rangeOf}
 use Rattle.table.specs.Entries.{finished, fitting}
-use Rattle.sorting.specs.Sort.{sort, keep, upFrom}
+use Rattle.sorting.specs.Sort.{sort, selected, upFrom}
 use Rattle.sorting.specs.declared.Keys.{Keys}
 use Rattle.sorting.specs.declared.Sorted.{Sorted}
 use Rattle.sorting.specs.declared.Sorted.the-variants.{Rows, Full}
@@ -33,51 +33,51 @@ byName width from len mark value =
     }
 
 -- the bytes of `file` in the range at cells `from` and `len` of row i; a range outside the file is empty
-abbrev pub nameAt : List ℕ → List ℕ → ℕ → ℕ → ℕ → ℕ → List ℕ
-nameAt file rows width from len i = rangeOf file (cellOf rows width i from) (cellOf rows width i len)
+abbrev pub rowName : List ℕ → List ℕ → ℕ → ℕ → ℕ → ℕ → List ℕ
+rowName file rows width from len i = rangeOf file (cellOf rows width i from) (cellOf rows width i len)
 
 module _ (first second rows : List ℕ) (k : Keys) where
   -- the cell of row i in a column; 0 where the row has none
-  abbrev pub cellIn : ℕ → ℕ → ℕ
-  cellIn column i = cellOf rows (k .width) i column
+  abbrev pub columnAt : ℕ → ℕ → ℕ
+  columnAt column i = cellOf rows (k .width) i column
 
   -- the file that row i names
   unfoldable pub fileOf : ℕ → List ℕ
-  fileOf i = pick (eqb (cellIn (k .file) i) 0) first second
+  fileOf i = pick (eqb (columnAt (k .file) i) 0) first second
 
   -- the bytes of row i
   unfoldable pub nameOf : ℕ → List ℕ
-  nameOf i = nameAt (fileOf i) rows (k .width) (k .from) (k .len) i
+  nameOf i = rowName (fileOf i) rows (k .width) (k .from) (k .len) i
 
   -- by the major cell, then by bytes, then by the minor cell; and by row number where every row is wanted
   unfoldable pub rowOrder : ℕ → ℕ → Order
   rowOrder i j =
-      andThen (cmpNat (cellIn (k .major) i) (cellIn (k .major) j))
+      andThen (cmpNat (columnAt (k .major) i) (columnAt (k .major) j))
       (andThen (cmpBytes (nameOf i) (nameOf j))
-      (andThen (cmpNat (cellIn (k .minor) i) (cellIn (k .minor) j)) (pick (k .every) (cmpNat i j) Equal)))
+      (andThen (cmpNat (columnAt (k .minor) i) (columnAt (k .minor) j)) (pick (k .every) (cmpNat i j) Equal)))
 
   -- row i is marked
-  unfoldable pub marked : ℕ → Bool
-  marked i = eqb (cellIn (k .mark) i) (k .value)
+  unfoldable pub rowMarked : ℕ → Bool
+  rowMarked i = eqb (columnAt (k .mark) i) (k .value)
 
   -- the marked rows below n in order; of rows that tie the lowest
   unfoldable pub sortedRows : ℕ → List ℕ
-  sortedRows n = sort rowOrder (keep marked (upFrom 0 n))
+  sortedRows n = sort rowOrder (selected rowMarked (upFrom 0 n))
 
   -- and those that are not marked
   unfoldable pub unmarked : ℕ → Bool
-  unmarked i = pick (marked i) false true
+  unmarked i = pick (rowMarked i) false true
 
   unfoldable pub otherRows : ℕ → List ℕ
-  otherRows n = sort rowOrder (keep unmarked (upFrom 0 n))
+  otherRows n = sort rowOrder (selected unmarked (upFrom 0 n))
 
   -- for the code: the ones or the others
   unfoldable pub wanted : Bool → ℕ → Bool
-  wanted true i = marked i
+  wanted true i = rowMarked i
   wanted false i = unmarked i
 
   unfoldable pub wantedRows : Bool → ℕ → List ℕ
-  wantedRows like n = sort rowOrder (keep (wanted like) (upFrom 0 n))
+  wantedRows like n = sort rowOrder (selected (wanted like) (upFrom 0 n))
 
 -- the answer in the paper's words, for a table with the number tn
 abbrev pub saidSorted : ℕ → Sorted → Said ℕ

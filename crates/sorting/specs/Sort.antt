@@ -22,20 +22,20 @@ module _ {A : Type 0} where
   place Greater x y l r = y ∷ r
 
   -- the elements that pass the test
-  abbrev pub keep : (A → Bool) → List A → List A
-  keep p [] = []
-  keep p (x ∷ l) = pick (p x) (x ∷ keep p l) (keep p l)
+  abbrev pub selected : (A → Bool) → List A → List A
+  selected p [] = []
+  selected p (x ∷ l) = pick (p x) (x ∷ selected p l) (selected p l)
 
 module _ {A : Type 0} (cmp : A → A → Order) where
   -- x put into a sorted list, in the place of an element that it ties with
-  abbrev pub put : A → List A → List A
-  put x [] = x ∷ []
-  put x (y ∷ l) = place (cmp x y) x y l (put x l)
+  abbrev pub putInOrder : A → List A → List A
+  putInOrder x [] = x ∷ []
+  putInOrder x (y ∷ l) = place (cmp x y) x y l (putInOrder x l)
 
   -- the elements in the order of `cmp`; of elements that tie, the one that stands first in the list
   abbrev pub sort : List A → List A
   sort [] = []
-  sort (x ∷ l) = put x (sort l)
+  sort (x ∷ l) = putInOrder x (sort l)
 
   -- each element of l comes after x
   abbrev pub Before : A → List A → Type 0

@@ -6,12 +6,12 @@ ghost use mathlib.Core.List.{List};
 ghost use lib.ListN.{length, take};
 ghost use Rattle.text.specs.Order.{cmpNat};
 ghost use Rattle.table.specs.Table.{cellOf};
-ghost use Rattle.sorting.specs.Sort.{put};
+ghost use Rattle.sorting.specs.Sort.{putInOrder};
 ghost use Rattle.sorting.specs.Keys.{byName, nameOf, rowOrder, wanted, wantedRows, sortedRows, otherRows, Sorts};
 ghost use Rattle.sorting.specs.Filling.{Placed, Ordered, inserted, Inserted};
 
-// Which rows are sorted, and by which of their cells. A cell that a row does not have is zero, so a column
-// from `width` on leaves the matter out.
+// Which rows are sorted, and by which of their cells. A cell that a row does not have is zero, so a column from `width` on leaves the
+// matter out.
 pub struct Keys {
     pub width: usize,
     // the rows whose cell `mark` is `value`
@@ -142,7 +142,7 @@ fn insert<'a, 'b, 'c>(
 ) -> Sorted
     requires { ⌜ Ordered (rowOrder (now first) (now second) (now rows) keys) (now sorted) k ⌝ }
     ensures { λ r. ⌜ Inserted
-        (put (rowOrder (now (first .entry)) (now (second .entry)) (now (rows .entry)) keys) x (take k (now (sorted .entry))))
+        (putInOrder (rowOrder (now (first .entry)) (now (second .entry)) (now (rows .entry)) keys) x (take k (now (sorted .entry))))
         (now (sorted .entry)) (now (sorted .exit)) r ⌝ }
 {
     let place = find_place(first, second, rows, keys, sorted, k, x);

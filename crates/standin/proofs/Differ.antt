@@ -17,7 +17,7 @@ use Rattle.differences.specs.declared.Change.{Change}
 use Rattle.differences.specs.declared.Change.the-variants.{Removed, Added}
 use Rattle.differences.specs.View.{Row}
 use Rattle.differences.specs.Differences.{Entry, entry, ties, hasKey, without, changes, isChange, hasNo}
-use Rattle.standin.specs.Replacing.{keys, Reports, Only, IsChange, other, turned}
+use Rattle.standin.specs.Replacing.{keys, Reports, Only, IsChange, other, reversed}
 
 -- membership under map
 pub mem-map : {A B : Type 0} (f : A → B) (x : A) (l : List A) → x ∈ l → f x ∈ map f l
@@ -40,7 +40,7 @@ not-both p q = let z : _≡_ {A = ℕ} 0 1 = cc in omega arith
 
 -- a list of two parts with the changes turned round
 turned-parts : {K : Type 0} (xs ys : List (Row K))
-    → map turned (map (entry Removed) xs ++ map (entry Added) ys) ≡ map (entry Added) xs ++ map (entry Removed) ys
+    → map reversed (map (entry Removed) xs ++ map (entry Added) ys) ≡ map (entry Added) xs ++ map (entry Removed) ys
 turned-parts (x ∷ xs) ys = ap (_∷_ (entry Added x)) (turned-parts xs ys)
 turned-parts [] [] = refl
 turned-parts [] (y ∷ ys) = ap (_∷_ (entry Removed y)) (turned-parts [] ys)
@@ -86,8 +86,8 @@ module _ {K : Type 0} where
       (λ h. rw h (none-hasNo c d (λ k r. n k (r .0, List·Memᴰ·tail (r .1), r .2, r .3))))
 
   -- turning a list's changes round turns its reports round
-  pub reports-turned : (c : Change) (k : K) (d : List (Entry K)) → Reports c k d → Reports (other c) k (map turned d)
-  reports-turned c k d r = (turned (r .0), mem-map turned (r .0) d (r .1), ap other (r .2), r .3)
+  pub reports-turned : (c : Change) (k : K) (d : List (Entry K)) → Reports c k d → Reports (other c) k (map reversed d)
+  reports-turned c k d r = (reversed (r .0), mem-map reversed (r .0) d (r .1), ap other (r .2), r .3)
 
 -- a comparison of keys and an order of entries that serve: both lawful, only equal keys tie, and the order goes by the key and not by
 -- the change
@@ -96,7 +96,7 @@ pub record Keyed {K : Type 0} (cmp : K → K → Order) (fine : Entry K → Entr
   pub exact : (x y : K) → cmp x y ≡ Equal → x ≡ y
   pub flaws : Lawful fine
   pub ties : (e f : Entry K) → fine e f ≡ Equal → e .row .key ≡ f .row .key
-  pub blind : (e f : Entry K) → fine (turned e) (turned f) ≡ fine e f
+  pub blind : (e f : Entry K) → fine (reversed e) (reversed f) ≡ fine e f
 
 module _ {K : Type 0} {cmp : K → K → Order} {fine : Entry K → Entry K → Order} (o : Keyed cmp fine) where
   hasKey-mem : (k : K) (l : List (Row K)) → hasKey cmp k l ≡ true → k ∈ keys l
@@ -169,13 +169,13 @@ module _ {K : Type 0} {cmp : K → K → Order} {fine : Entry K → Entry K → 
     one-kind e f (inr u) (inr v) p = u .0 ∙ sym (v .0)
 
     -- the two modules exchanged: the same rows in the same order, with added for removed and removed for added
-    pub exchange : sort fine (changes cmp c b) ≡ map turned (sort fine (changes cmp b c))
+    pub exchange : sort fine (changes cmp c b) ≡ map reversed (sort fine (changes cmp b c))
     exchange =
         sort-swap fine (o .flaws) removed added
         (λ y m. no-tie-of fine y removed (λ x i t.
         apart (x .row) (y .row) c b (part-mem Removed x c b i .1) (part-mem Added y b c m .1) (sym (o .ties y x t))))
         ∙ ap (sort fine) (sym (turned-parts (without cmp b c) (without cmp c b)))
-        ∙ sort-map fine fine turned (o .blind) (changes cmp b c)
+        ∙ sort-map fine fine reversed (o .blind) (changes cmp b c)
       where
         removed : List (Entry K)
         removed = map (entry Removed) (without cmp c b)

@@ -9,18 +9,21 @@ use lib.ListN.{length, take, drop, replicate, length-map}
 use lib.Seq.{take-append-seam}
 use borrow.Author.Tests.{le-leb, le-ltb}
 use Rattle.refusal.specs.Pick.{pick}
+use Rattle.refusal.specs.Sizes.{fileLimit}
 use Rattle.refusal.specs.Said.{accepted, follow}
 use Rattle.refusal.proofs.Following.{one-value}
 use Rattle.text.specs.Find.{begins, same}
 use Rattle.table.specs.Table.{laid}
+use Rattle.table.specs.Shape.{width, limit}
 use Rattle.table.proofs.Laws.{length-laid}
-use Rattle.sorting.specs.Sort.{_∈_, keep, upFrom}
-use Rattle.sorting.specs.Keys.{nameAt}
+use Rattle.sorting.specs.Sort.{_∈_, selected, upFrom}
+use Rattle.sorting.specs.Keys.{rowName}
 use Rattle.policy.specs.declared.Policy.{Policy}
-use Rattle.domains.specs.Classify.{passes, Entry, entry, judged, preview, heads, wasi, preview1, unstable, headOf, pathDomain, importDomain}
+use Rattle.domains.specs.Classify.{passes, Clue, entry, classedBy, preview, heads, wasi, preview1, unstable, headOf, pathDomain}
+use Rattle.domains.specs.Classify.{importDomain}
 use Rattle.verdicts.specs.Evaluate.{firstPast, domainsTest}
 use Rattle.differences.specs.View.{Need, Row, row, needAt}
-use Rattle.imports.specs.Queries.{asked, kindIs, importsTested}
+use Rattle.import_rows.specs.Queries.{asked, kindIs, importsTested}
 use Rattle.requirements.specs.Requirements.{functionRows, rowDomain, moduleRows}
 use Rattle.table.specs.Listing.{fitted}
 use Rattle.standin.specs.Replacing.{keys}
@@ -36,12 +39,12 @@ pick-small : (t : Bool) {x y : ℕ} → x < 7 → y < 7 → pick t x y < 7
 pick-small true h k = h
 pick-small false h k = k
 
-abbrev Small : List Entry → Type 0
+abbrev Small : List Clue → Type 0
 Small [] = Unit {0}
 Small (entry t d ∷ es) = (d < 7) × Small es
 
-judged-small : (es : List Entry) (s : List ℕ) → Small es → judged es s < 7
-unfolding judged
+judged-small : (es : List Clue) (s : List ℕ) → Small es → classedBy es s < 7
+unfolding classedBy
 judged-small [] s h = omega arith
 judged-small (entry t d ∷ es) s h = pick-small (passes t s) (h .0) (judged-small es s (h .1))
 
@@ -62,14 +65,14 @@ import-small m f =
 
 pub need-small : (file imports : List ℕ) (i : ℕ) → needAt file imports i .domain < 7
 unfolding needAt
-need-small file imports i = import-small (nameAt file imports 5 0 1 i) (nameAt file imports 5 2 3 i)
+need-small file imports i = import-small (rowName file imports (width 2) 0 1 i) (rowName file imports (width 2) 2 3 i)
 
 -- each domain of a build is one
 pub small : (b : Build) (d : ℕ) → d ∈ domains b → d < 7
 small b d m =
     let u = map-mem (λ (n : Need). n .domain) d (pairs b) m in
     let v = map-mem (λ (r : Row Need). r .key) (u .0) (view b .needs) (u .1) in
-    let fns = keep (kindIs (b .tables .imports) 0) (upFrom 0 (b .answer .imports)) in
+    let fns = selected (kindIs (b .tables .imports) 0) (upFrom 0 (b .answer .imports)) in
     let w = map-mem (row (needAt (b .file) (b .tables .imports))) (v .0) fns (v .1) in
     let e : d ≡ needAt (b .file) (b .tables .imports) (w .0) .domain =
     u .2 ∙ ap (λ (n : Need). n .domain) (v .2 ∙ ap (λ (r : Row Need). r .key) (w .2)) in
@@ -86,14 +89,14 @@ laid-front : (n : ℕ) (ds : List ℕ) → take (length ds) (laid n ds) ≡ ds
 unfolding laid
 laid-front n ds = take-append-seam ds (replicate (n - length ds) 0)
 
-test-passes : (ds : List ℕ) → length ds ≤ 1024 → ((d : ℕ) → d ∈ ds → d < 7) → domainsTest (laid 1024 ds) (length ds) ≡ accepted tt
+test-passes : (ds : List ℕ) → length ds ≤ limit 7 → ((d : ℕ) → d ∈ ds → d < 7) → domainsTest (laid (limit 7) ds) (length ds) ≡ accepted tt
 unfolding domainsTest
 test-passes ds few h =
     rw (
-      length-laid 1024 ds few,
-      laid-front 1024 ds,
+      length-laid (limit 7) ds few,
+      laid-front (limit 7) ds,
       none-past ds h,
-      le-ltb 1024 (length ds) few,
+      le-ltb (limit 7) (length ds) few,
       le-ltb (length ds) (length ds) (omega arith),
     )
 
@@ -102,22 +105,23 @@ test-passes ds few h =
 unfoldable pub functions : Build → List ℕ
 functions b = functionRows (b .tables .imports) (b .answer .imports)
 
-few-rows : (imports : List ℕ) (n : ℕ) → n ≤ 1024 → length (functionRows imports n) ≤ 1024
+few-rows : (imports : List ℕ) (n : ℕ) → n ≤ limit 2 → length (functionRows imports n) ≤ limit 7
 few-rows imports n few = omega (arith, up-length 0 n, keep-length (kindIs imports 0) (upFrom 0 n))
 
-few-functions : (b : Build) → length (functions b) ≤ 1024
+few-functions : (b : Build) → length (functions b) ≤ limit 7
 unfolding functions
 few-functions b = few-rows (b .tables .imports) (b .answer .imports) (few-imports b)
 
 -- good rows are listed
-pub asked-rows : (file imports : List ℕ) (n : ℕ) → length file ≤ 16777216 → n ≤ 1024 → importsTested (length file) imports n ≡ accepted tt
-    → moduleRows file imports n 1024 ≡ accepted (functionRows imports n)
+pub asked-rows : (file imports : List ℕ) (n : ℕ) → length file ≤ fileLimit → n ≤ limit 2
+    → importsTested (length file) imports n ≡ accepted tt
+    → moduleRows file imports n (limit 7) ≡ accepted (functionRows imports n)
 unfolding moduleRows asked fitted follow
 asked-rows file imports n short few good =
-    rw (le-ltb 16777216 (length file) short, good, le-leb (length (functionRows imports n)) 1024 (few-rows imports n few))
+    rw (le-ltb fileLimit (length file) short, good, le-leb (length (functionRows imports n)) (limit 7) (few-rows imports n few))
 
 module _ (b : Build) where
-  asked-for : moduleRows (b .file) (b .tables .imports) (b .answer .imports) 1024 ≡ accepted (functions b)
+  asked-for : moduleRows (b .file) (b .tables .imports) (b .answer .imports) (limit 7) ≡ accepted (functions b)
   unfolding functions
   asked-for = asked-rows (b .file) (b .tables .imports) (b .answer .imports) (short b) (few-imports b) (imports-tested b)
 
@@ -137,9 +141,9 @@ module _ (p : Policy) (b : Build) where
 
   -- both calls in one
   abbrev Passed : List ℕ → Type 0
-  Passed ds = Passes p (laid 1024 ds) (length ds)
+  Passed ds = Passes p (laid (limit 7) ds) (length ds)
 
-  good : domainsTest (laid 1024 (domains b)) (length (domains b)) ≡ accepted tt
+  good : domainsTest (laid (limit 7) (domains b)) (length (domains b)) ≡ accepted tt
   good = test-passes (domains b) (omega (arith, few-functions b, long)) (small b)
     where
       long : length (domains b) ≡ length (functions b)
@@ -147,8 +151,8 @@ module _ (p : Policy) (b : Build) where
 
   pub meets-allows : Meets p b → Allows p (domains b)
   meets-allows q =
-      rw (laid-front 1024 (domains b)) at
-      (passes-allows p (laid 1024 (domains b)) (length (domains b)) good (rw (laid-front 1024 (domains b)) (small b)) passed)
+      rw (laid-front (limit 7) (domains b)) at
+      (passes-allows p (laid (limit 7) (domains b)) (length (domains b)) good (rw (laid-front (limit 7) (domains b)) (small b)) passed)
     where
       rows : q .rows ≡ functions b
       rows = one-value (sym (q .required) ∙ asked-for b)
@@ -156,7 +160,7 @@ module _ (p : Policy) (b : Build) where
       passed : Passed (domains b)
       passed =
           subst Passed (ap (λ (l : List ℕ). map of l) rows ∙ sym (domains-are b))
-          (subst (λ (n : ℕ). Passes p (laid 1024 (map of (q .rows))) n) (sym (length-map (q .rows) of)) (q .passes))
+          (subst (λ (n : ℕ). Passes p (laid (limit 7) (map of (q .rows))) n) (sym (length-map (q .rows) of)) (q .passes))
 
   pub allows-meets : Allows p (domains b) → Meets p b
   allows-meets a =
@@ -164,7 +168,7 @@ module _ (p : Policy) (b : Build) where
         rows = functions b;
         required = asked-for b;
         passes =
-            subst (λ (n : ℕ). Passes p (laid 1024 (map of (functions b))) n) (length-map (functions b) of)
+            subst (λ (n : ℕ). Passes p (laid (limit 7) (map of (functions b))) n) (length-map (functions b) of)
             (subst Passed (domains-are b)
-            (allows-passes p (laid 1024 (domains b)) (length (domains b)) good (rw (laid-front 1024 (domains b)) a)));
+            (allows-passes p (laid (limit 7) (domains b)) (length (domains b)) good (rw (laid-front (limit 7) (domains b)) a)));
       }

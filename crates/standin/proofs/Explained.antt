@@ -9,21 +9,24 @@ use lib.Dec.{leb, ltb, eqb}
 use lib.ListN.{length, getD}
 use borrow.Author.Tests.{le-leb, lt-ltb, leb-true}
 use Rattle.refusal.specs.Pick.{pick}
+use Rattle.refusal.specs.Sizes.{fileLimit}
 use Rattle.refusal.specs.Said.{Said, accepted, refused, follow}
 use Rattle.refusal.proofs.Following.{never, one-value, followed, follow-goes}
-use Rattle.table.specs.Table.{laid, cells, cellOf, capacityOf}
+use Rattle.table.specs.Table.{laid, cells, capacityOf}
+use Rattle.table.specs.Shape.{width, limit, fullCells, cellIn}
 use Rattle.table.specs.Entries.{finished}
 use Rattle.table.proofs.Laws.{cell-laid}
-use Rattle.sorting.specs.Sort.{_∈_, keep, upFrom}
+use Rattle.table.specs.Testing.{bad}
+use Rattle.sorting.specs.Sort.{_∈_, selected, upFrom}
 use Rattle.sorting.proofs.Sorts.{sort-only, getD-mem}
 use Rattle.sorting.proofs.Ranking.{keep-to, up-to}
-use Rattle.imports.specs.Queries.{kindIs}
+use Rattle.import_rows.specs.Queries.{kindIs}
 use Rattle.differences.specs.declared.Change.the-variants.{Removed}
-use Rattle.differences.specs.View.{Export, Need, Row, row, exportAt, needAt}
+use Rattle.differences.specs.View.{ExportKey, Need, Row, row, exportKeyAt, needAt}
 use Rattle.differences.specs.Differences.{Entry, entry, cmpNeed, needOrder, changes, exportDiff, needDiff}
 use Rattle.differences.specs.Compared.{Given, viewed, tablesTested, bothTested, Lists, lists, roomed, compared}
-use Rattle.differences.specs.Compared.{changeNumber, exportCells, needCells}
-use Rattle.reasons.specs.Reasons.{exportDiffFits, exportDiffBad, needDiffFits, needDiffBad, exportDiffsTested, needDiffsTested}
+use Rattle.differences.specs.Compared.{changeNumber, exportDiffCells, needDiffCells}
+use Rattle.reasons.specs.Reasons.{exportDiffFits, needDiffFits, exportDiffsTested, needDiffsTested}
 use Rattle.reasons.specs.Reasons.{diffsTested, reasonsTested}
 use Rattle.listed.specs.Comparisons.{tabled, explained}
 use Rattle.standin.specs.Replacing.{IsChange}
@@ -53,7 +56,7 @@ record Made (b c : Given) (room8 room9 : ℕ) (l : Lists) : Type 0 where
 made : (b c : Given) (room8 room9 : ℕ) (l : Lists) → compared b c room8 room9 ≡ accepted l → Made b c room8 room9 l
 unfolding compared bothTested roomed
 made b c room8 room9 l e =
-    let p = by (ltb 16777216 (length (b .file))) (ltb 16777216 (length (c .file))) e in
+    let p = by (ltb fileLimit (length (b .file))) (ltb fileLimit (length (c .file))) e in
     let f = followed (finished 8 room8 (exportDiff (viewed b) (viewed c))) _ (p .1) in
     let g = followed (finished 9 room9 (needDiff (viewed b) (viewed c))) _ (f .then) in
     let q : l ≡ lists (viewed b) (viewed c) = one-value (sym (g .then)) in
@@ -77,16 +80,16 @@ made b c room8 room9 l e =
         (sym (follow-goes (λ u. tablesTested c) (f .first) (sym (g .first))), g .then)
 
 -- ---- where the rows of the lists point
-below-export : (file exports : List ℕ) (n : ℕ) (r : Row Export) → r ∈ map (row (exportAt file exports)) (upFrom 0 n) → r .at < n
+below-export : (file exports : List ℕ) (n : ℕ) (r : Row ExportKey) → r ∈ map (row (exportKeyAt file exports)) (upFrom 0 n) → r .at < n
 below-export file exports n r m =
-    let u = map-mem (row (exportAt file exports)) r (upFrom 0 n) m in
-    let e : r .at ≡ u .0 = ap (λ (s : Row Export). s .at) (u .2) in
+    let u = map-mem (row (exportKeyAt file exports)) r (upFrom 0 n) m in
+    let e : r .at ≡ u .0 = ap (λ (s : Row ExportKey). s .at) (u .2) in
     omega (arith, up-to (u .0) 0 n (u .1) .1)
 
 below-need : (file imports : List ℕ) (n : ℕ) (r : Row Need)
-    → r ∈ map (row (needAt file imports)) (keep (kindIs imports 0) (upFrom 0 n)) → (r .at < n) × (r .key .domain ≤ 6)
+    → r ∈ map (row (needAt file imports)) (selected (kindIs imports 0) (upFrom 0 n)) → (r .at < n) × (r .key .domain ≤ 6)
 below-need file imports n r m =
-    let u = map-mem (row (needAt file imports)) r (keep (kindIs imports 0) (upFrom 0 n)) m in
+    let u = map-mem (row (needAt file imports)) r (selected (kindIs imports 0) (upFrom 0 n)) m in
     let k = keep-to (kindIs imports 0) (u .0) (upFrom 0 n) (u .1) in
     let e : r .at ≡ u .0 = ap (λ (s : Row Need). s .at) (u .2) in
     let d : r .key .domain ≡ needAt file imports (u .0) .domain = ap (λ (s : Row Need). s .key .domain) (u .2) in
@@ -99,7 +102,7 @@ of-side P e b c nb nc (inl u) inB inC = rw (u .0) (inB (e .row) (u .1 .0))
 of-side P e b c nb nc (inr u) inB inC = rw (u .0) (inC (e .row) (u .1 .0))
 
 module _ (b c : Given) where
-  export-in : (e : Entry Export) → e ∈ exportDiff (viewed b) (viewed c)
+  export-in : (e : Entry ExportKey) → e ∈ exportDiff (viewed b) (viewed c)
       → e .row .at < pick (eqb (changeNumber (e .change)) 0) (b .exportCount) (c .exportCount)
   export-in e m =
       of-side (λ n r. r .at < n) e (viewed b .exports) (viewed c .exports) (b .exportCount) (c .exportCount)
@@ -116,72 +119,75 @@ module _ (b c : Given) where
       (below-need (b .file) (b .imports) (b .importCount)) (below-need (c .file) (c .imports) (c .importCount))
 
 -- ---- so no row is bad
-noExport : Entry Export
+noExport : Entry ExportKey
 noExport = entry Removed (record { at = 0; key = record { name = []; kind = 0 } })
 
 noNeed : Entry Need
 noNeed = entry Removed (record { at = 0; key = record { domain = 0; source = [] } })
 
-export-wide : (e : Entry Export) → length (exportCells e) ≡ 2
+export-wide : (e : Entry ExportKey) → length (exportDiffCells e) ≡ width 8
 export-wide e = refl
 
-need-wide : (e : Entry Need) → length (needCells e) ≡ 3
+need-wide : (e : Entry Need) → length (needDiffCells e) ≡ width 9
 need-wide e = refl
 
-module _ (nb nc : ℕ) (rows : List (Entry Export))
-    (fit : (e : Entry Export) → e ∈ rows → e .row .at < pick (eqb (changeNumber (e .change)) 0) nb nc) where
-  export-good : (i : ℕ) → i < length rows → exportDiffBad nb nc (laid 4096 (cells exportCells rows)) i ≡ false
-  unfolding exportDiffBad exportDiffFits
+module _ (nb nc : ℕ) (rows : List (Entry ExportKey))
+    (fit : (e : Entry ExportKey) → e ∈ rows → e .row .at < pick (eqb (changeNumber (e .change)) 0) nb nc) where
+  export-good : (i : ℕ) → i < length rows → bad (exportDiffFits nb nc (laid (fullCells 8) (cells exportDiffCells rows))) i ≡ false
+  unfolding exportDiffFits
   export-good i h =
       let e = getD rows i noExport in
-      let a : cellOf (laid 4096 (cells exportCells rows)) 2 i 0 ≡ changeNumber (e .change) =
-      cell-laid exportCells 2 export-wide 4096 rows i 0 noExport h (omega arith) in
-      let p : cellOf (laid 4096 (cells exportCells rows)) 2 i 1 ≡ e .row .at =
-      cell-laid exportCells 2 export-wide 4096 rows i 1 noExport h (omega arith) in
+      let a : cellIn 8 (laid (fullCells 8) (cells exportDiffCells rows)) i 0 ≡ changeNumber (e .change) =
+      cell-laid exportDiffCells (width 8) export-wide (fullCells 8) rows i 0 noExport h (omega arith) in
+      let p : cellIn 8 (laid (fullCells 8) (cells exportDiffCells rows)) i 1 ≡ e .row .at =
+      cell-laid exportDiffCells (width 8) export-wide (fullCells 8) rows i 1 noExport h (omega arith) in
       rw (a, p, lt-ltb (e .row .at) _ (fit e (getD-mem noExport rows i h)))
 
-  exports-pass : length rows ≤ 2048 → exportDiffsTested nb nc (laid 4096 (cells exportCells rows)) (length rows) ≡ accepted tt
+  exports-pass : length rows ≤ limit 8 → exportDiffsTested nb nc (laid (fullCells 8) (cells exportDiffCells rows)) (length rows)
+      ≡ accepted tt
   unfolding exportDiffsTested capacityOf
   exports-pass few =
-      rows-good exportCells 2 2048 4096 export-wide rows few (exportDiffBad nb nc (laid 4096 (cells exportCells rows))) export-good
+      rows-good exportDiffCells (width 8) (limit 8) (fullCells 8) export-wide rows few
+      (bad (exportDiffFits nb nc (laid (fullCells 8) (cells exportDiffCells rows)))) export-good
 
 module _ (nb nc : ℕ) (rows : List (Entry Need))
     (fit : (e : Entry Need) → e ∈ rows
     → (e .row .at < pick (eqb (changeNumber (e .change)) 0) nb nc) × (e .row .key .domain ≤ 6)) where
-  need-good : (i : ℕ) → i < length rows → needDiffBad nb nc (laid 6144 (cells needCells rows)) i ≡ false
-  unfolding needDiffBad needDiffFits
+  need-good : (i : ℕ) → i < length rows → bad (needDiffFits nb nc (laid (fullCells 9) (cells needDiffCells rows))) i ≡ false
+  unfolding needDiffFits
   need-good i h =
       let e = getD rows i noNeed in
       let u = fit e (getD-mem noNeed rows i h) in
-      let a : cellOf (laid 6144 (cells needCells rows)) 3 i 0 ≡ changeNumber (e .change) =
-      cell-laid needCells 3 need-wide 6144 rows i 0 noNeed h (omega arith) in
-      let d : cellOf (laid 6144 (cells needCells rows)) 3 i 1 ≡ e .row .key .domain =
-      cell-laid needCells 3 need-wide 6144 rows i 1 noNeed h (omega arith) in
-      let p : cellOf (laid 6144 (cells needCells rows)) 3 i 2 ≡ e .row .at =
-      cell-laid needCells 3 need-wide 6144 rows i 2 noNeed h (omega arith) in
+      let a : cellIn 9 (laid (fullCells 9) (cells needDiffCells rows)) i 0 ≡ changeNumber (e .change) =
+      cell-laid needDiffCells (width 9) need-wide (fullCells 9) rows i 0 noNeed h (omega arith) in
+      let d : cellIn 9 (laid (fullCells 9) (cells needDiffCells rows)) i 1 ≡ e .row .key .domain =
+      cell-laid needDiffCells (width 9) need-wide (fullCells 9) rows i 1 noNeed h (omega arith) in
+      let p : cellIn 9 (laid (fullCells 9) (cells needDiffCells rows)) i 2 ≡ e .row .at =
+      cell-laid needDiffCells (width 9) need-wide (fullCells 9) rows i 2 noNeed h (omega arith) in
       rw (a, d, p, le-leb (e .row .key .domain) 6 (u .1), lt-ltb (e .row .at) _ (u .0))
 
-  needs-pass : length rows ≤ 2048 → needDiffsTested nb nc (laid 6144 (cells needCells rows)) (length rows) ≡ accepted tt
+  needs-pass : length rows ≤ limit 9 → needDiffsTested nb nc (laid (fullCells 9) (cells needDiffCells rows)) (length rows) ≡ accepted tt
   unfolding needDiffsTested capacityOf
   needs-pass few =
-      rows-good needCells 3 2048 6144 need-wide rows few (needDiffBad nb nc (laid 6144 (cells needCells rows))) need-good
+      rows-good needDiffCells (width 9) (limit 9) (fullCells 9) need-wide rows few
+      (bad (needDiffFits nb nc (laid (fullCells 9) (cells needDiffCells rows)))) need-good
 
 -- ---- the claims
-pub lists-pass : (b c : Given) (l : Lists) → compared b c 2048 2048 ≡ accepted l → reasonsTested b c (tabled l) ≡ accepted tt
+pub lists-pass : (b c : Given) (l : Lists) → compared b c (limit 8) (limit 9) ≡ accepted l → reasonsTested b c (tabled l) ≡ accepted tt
 unfolding reasonsTested diffsTested
 lists-pass b c l e =
-    let m = made b c 2048 2048 l e in
+    let m = made b c (limit 8) (limit 9) l e in
     let x : exportDiffsTested (b .exportCount) (c .exportCount) (tabled l .exports) (length (l .exports)) ≡ accepted tt =
     exports-pass (b .exportCount) (c .exportCount) (l .exports) (rw (m .same) (export-in b c)) (m .few8) in
     let n : needDiffsTested (b .importCount) (c .importCount) (tabled l .needs) (length (l .needs)) ≡ accepted tt =
     needs-pass (b .importCount) (c .importCount) (l .needs) (rw (m .same) (need-in b c)) (m .few9) in
     sym (follow-goes _ (m .both) (follow-goes _ x (sym n)))
 
-pub explained-lists : (b c : Given) → explained b c ≡ follow (compared b c 2048 2048) (λ l. accepted (withReasons b c l))
+pub explained-lists : (b c : Given) → explained b c ≡ follow (compared b c (limit 8) (limit 9)) (λ l. accepted (withReasons b c l))
 unfolding explained
-explained-lists b c = by (compared b c 2048 2048) refl
+explained-lists b c = by (compared b c (limit 8) (limit 9)) refl
   where
-    by : (x : Said Lists) → compared b c 2048 2048 ≡ x
+    by : (x : Said Lists) → compared b c (limit 8) (limit 9) ≡ x
         → follow x (λ l. follow (reasonsTested b c (tabled l)) (λ u. accepted (withReasons b c l)))
         ≡ follow x (λ l. accepted (withReasons b c l))
     by (accepted l) e = unfold follow in sym (follow-goes _ (lists-pass b c l e) refl)

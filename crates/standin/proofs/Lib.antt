@@ -9,3 +9,4 @@ pub mod Domains
 pub mod Limits
 pub mod Explained
 pub mod Theorems
+pub mod Strict

@@ -7,7 +7,7 @@ use Prim.Native.Nat.{ℕ, zero, suc, _<_}
 use native.Mathlib.Omega.{arith}
 use Rattle.refusal.specs.Pick.{pick}
 use Rattle.text.specs.declared.order.Order.the-variants.{Equal}
-use Rattle.sorting.specs.Sort.{_∈_, sort, keep, upFrom}
+use Rattle.sorting.specs.Sort.{_∈_, sort, selected, upFrom}
 use Rattle.sorting.proofs.Sorts.{tie-self}
 use Rattle.sorting.proofs.Firsts.{Up, sort-lowest}
 use Rattle.sorting.proofs.Ranking.{keep-to, up-to}
@@ -26,27 +26,27 @@ module _ {K : Type 0} where
   Rising (r ∷ l) = ((s : Row K) → s ∈ l → r .at < s .at) × Rising l
 
   -- the rows of a table, those that pass a test
-  pub rising-rows : (f : ℕ → K) (p : ℕ → Bool) (i n : ℕ) → Rising (map (row f) (keep p (upFrom i n)))
+  pub rising-rows : (f : ℕ → K) (p : ℕ → Bool) (i n : ℕ) → Rising (map (row f) (selected p (upFrom i n)))
   rising-rows f p i zero = tt
   rising-rows f p i (suc n) = by (p i) (rising-rows f p (suc i) n)
     where
-      later : (s : Row K) → s ∈ map (row f) (keep p (upFrom (suc i) n)) → i < s .at
+      later : (s : Row K) → s ∈ map (row f) (selected p (upFrom (suc i) n)) → i < s .at
       later s m =
-          let u = map-mem (row f) s (keep p (upFrom (suc i) n)) m in
+          let u = map-mem (row f) s (selected p (upFrom (suc i) n)) m in
           let v = keep-to p (u .0) (upFrom (suc i) n) (u .1) in
           let e : s .at ≡ u .0 = ap (λ (r : Row K). r .at) (u .2) in
           omega (arith, up-to (u .0) (suc i) n (v .0) .0)
 
-      by : (t : Bool) → Rising (map (row f) (keep p (upFrom (suc i) n)))
-          → Rising (map (row f) (pick t (i ∷ keep p (upFrom (suc i) n)) (keep p (upFrom (suc i) n))))
+      by : (t : Bool) → Rising (map (row f) (selected p (upFrom (suc i) n)))
+          → Rising (map (row f) (pick t (i ∷ selected p (upFrom (suc i) n)) (selected p (upFrom (suc i) n))))
       by true ih = (later, ih)
       by false ih = ih
 
-  rising-keep : (q : Row K → Bool) (l : List (Row K)) → Rising l → Rising (keep q l)
+  rising-keep : (q : Row K → Bool) (l : List (Row K)) → Rising l → Rising (selected q l)
   rising-keep q [] h = tt
   rising-keep q (r ∷ l) h = by (q r) (rising-keep q l (h .1))
     where
-      by : (t : Bool) → Rising (keep q l) → Rising (pick t (r ∷ keep q l) (keep q l))
+      by : (t : Bool) → Rising (selected q l) → Rising (pick t (r ∷ selected q l) (selected q l))
       by true ih = ((λ s m. h .0 s (keep-to q s l m .0)), ih)
       by false ih = ih
 

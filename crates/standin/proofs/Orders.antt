@@ -16,8 +16,8 @@ use Rattle.sorting.proofs.Orders.{lawful-nat, lawful-bytes, lawful-on, lawful-t
 use Rattle.kinds.specs.declared.ExternalKind.{ExternalKind}
 use Rattle.kinds.specs.declared.ExternalKind.the-variants.{Func, Table, Memory, Global, Other}
 use Rattle.kinds.specs.Kinds.{kindOf, kindByte, kindWord, hexOf}
-use Rattle.differences.specs.View.{Export, Need}
-use Rattle.differences.specs.Differences.{slugOf, cmpExport, cmpNeed, Entry, exportOrder, needOrder}
+use Rattle.differences.specs.View.{ExportKey, Need}
+use Rattle.differences.specs.Differences.{kindSlug, cmpExport, cmpNeed, Entry, exportOrder, needOrder}
 use Rattle.standin.proofs.Differ.{Keyed}
 
 -- ---- a kind is known by its word
@@ -62,15 +62,15 @@ byte-kind b = by (eqb b 0) refl (eqb b 1) refl (eqb b 2) refl (eqb b 3) refl
     by false e false f false g true h = sym (eqb-true b 3 h)
     by false e false f false g false h = refl
 
-exact-slug : (j k : ℕ) → cmpBytes (slugOf j) (slugOf k) ≡ Equal → j ≡ k
+exact-slug : (j k : ℕ) → cmpBytes (kindSlug j) (kindSlug k) ≡ Equal → j ≡ k
 exact-slug j k h =
-    sym (byte-word (kindOf j) ∙ byte-kind j) ∙ ap byteOf (exact-bytes (slugOf j) (slugOf k) h) ∙ byte-word (kindOf k) ∙ byte-kind k
+    sym (byte-word (kindOf j) ∙ byte-kind j) ∙ ap byteOf (exact-bytes (kindSlug j) (kindSlug k) h) ∙ byte-word (kindOf k) ∙ byte-kind k
 
 -- ---- exports, and pairs
-exact-export : (x y : Export) → cmpExport x y ≡ Equal → x ≡ y
+exact-export : (x y : ExportKey) → cmpExport x y ≡ Equal → x ≡ y
 unfolding cmpExport
 exact-export x y h =
-    let s = then-tie (cmpBytes (x .name) (y .name)) (cmpBytes (slugOf (x .kind)) (slugOf (y .kind))) h in
+    let s = then-tie (cmpBytes (x .name) (y .name)) (cmpBytes (kindSlug (x .kind)) (kindSlug (y .kind))) h in
     let p : x .name ≡ y .name = exact-bytes (x .name) (y .name) (s .0) in
     let q : x .kind ≡ y .kind = exact-slug (x .kind) (y .kind) (s .1) in
     λ i. record { name = p i; kind = q i }
@@ -85,7 +85,8 @@ exact-need x y h =
 
 lawful-export : Lawful cmpExport
 unfolding cmpExport
-lawful-export = lawful-then (lawful-on lawful-bytes (λ (e : Export). e .name)) (lawful-on lawful-bytes (λ (e : Export). slugOf (e .kind)))
+lawful-export = lawful-then (lawful-on lawful-bytes (λ (e : ExportKey). e .name))
+    (lawful-on lawful-bytes (λ (e : ExportKey). kindSlug (e .kind)))
 
 lawful-need : Lawful cmpNeed
 unfolding cmpNeed
@@ -98,8 +99,8 @@ of-exports =
       laws = lawful-export;
       exact = exact-export;
       flaws =
-          lawful-then (lawful-on lawful-export (λ (e : Entry Export). e .row .key))
-          (lawful-on lawful-nat (λ (e : Entry Export). e .row .at));
+          lawful-then (lawful-on lawful-export (λ (e : Entry ExportKey). e .row .key))
+          (lawful-on lawful-nat (λ (e : Entry ExportKey). e .row .at));
       ties =
           λ e f h.
           exact-export (e .row .key) (f .row .key)
@@ -119,7 +120,7 @@ of-needs =
     }
 
 -- two entries of exports that tie have one row
-pub tie-row : (e f : Entry Export) → exportOrder e f ≡ Equal → e .row ≡ f .row
+pub tie-row : (e f : Entry ExportKey) → exportOrder e f ≡ Equal → e .row ≡ f .row
 unfolding exportOrder
 tie-row e f h =
     let s = then-tie (cmpExport (e .row .key) (f .row .key)) (cmpNat (e .row .at) (f .row .at)) h in

@@ -14,6 +14,7 @@ use Rattle.refusal.specs.Said.{Said, accepted, refused, follow, saidAnswer}
 use Rattle.refusal.specs.declared.Answer.{Answer}
 use Rattle.refusal.proofs.Following.{never, one-value, follow-goes}
 use Rattle.table.specs.Entries.{finished}
+use Rattle.table.specs.Shape.{limit}
 use Rattle.sorting.specs.Sort.{_∈_}
 use Rattle.wasm.specs.Module.{Parsed, moduleAt, moduleOf, countsOf}
 use Rattle.conform.specs.Claims.{Bytes}
@@ -21,14 +22,15 @@ use Rattle.conform.specs.Sound.{limits}
 use Rattle.policy.specs.declared.Policy.{Policy}
 use Rattle.verdicts.specs.declared.Evaluation.{Evaluation}
 use Rattle.verdicts.specs.Evaluate.{EvaluatedAs, acceptedAs, compliant}
-use Rattle.imports.specs.Queries.{kindIs}
+use Rattle.import_rows.specs.Queries.{kindIs}
 use Rattle.differences.specs.View.{Need, needAt}
 use Rattle.differences.specs.Differences.{cmpExport, cmpNeed, exportOrder, needOrder, exportDiff, needDiff}
-use Rattle.differences.specs.Compared.{Lists, lists, roomed, compared, Verdict, verdictOf}
+use Rattle.differences.specs.Compared.{Lists, lists, roomed, compared, Verdict, verdictOn}
 use Rattle.listed.specs.Comparisons.{explained, build, against, builds}
 use Rattle.standin.specs.Passing.{witness}
-use Rattle.standin.specs.Replacing.{turned}
-use Rattle.standin.specs.Builds.{Build, handed, view, domains, pairs, comparison, StandsIn, Chain, last, exchanged, told, Read, Meets}
+use Rattle.standin.specs.Replacing.{reversed}
+use Rattle.standin.specs.Builds.{Build, handed, view, domains, pairs, buildsCompared, StandsIn, Chain, last, exchanged}
+use Rattle.standin.specs.Builds.{buildsTold, Read, Meets}
 use Rattle.standin.specs.Claims.{Covers, Replacement, Listing, Explanation, FailSafe}
 use Rattle.standin.proofs.Passing.{allBut, witness-reads, but-denied, but-allowed}
 use Rattle.standin.proofs.Differ.{mem-map, map-mem}
@@ -56,62 +58,63 @@ roomed-as room8 room9 l = by (leb (length (l .exports)) room8) refl (leb (length
     by false p u q = full8 (unfold roomed finished follow in rw p) (leb-false (length (l .exports)) room8 p)
 
 -- tables at the limits take both lists
-few-exports : (b c : Build) → length (exportDiff (view b) (view c)) ≤ 2048
+few-exports : (b c : Build) → length (exportDiff (view b) (view c)) ≤ limit 8
 unfolding exportDiff
 few-exports b c = omega (arith, few-changes cmpExport exportOrder (view b .exports) (view c .exports), view-exports b, view-exports c)
 
-few-needs : (b c : Build) → length (needDiff (view b) (view c)) ≤ 2048
+few-needs : (b c : Build) → length (needDiff (view b) (view c)) ≤ limit 9
 unfolding needDiff
 few-needs b c = omega (arith, few-changes cmpNeed needOrder (view b .needs) (view c .needs), view-needs b, view-needs c)
 
 by-lists : (b c : Build) (room8 room9 : ℕ)
-    → comparison b c room8 room9 ≡ follow (roomed room8 room9 (lists (view b) (view c))) (λ l. accepted (verdictOf l))
-by-lists b c room8 room9 = ap (λ (x : Said Lists). follow x (λ l. accepted (verdictOf l))) (compared-is b c room8 room9)
+    → buildsCompared b c room8 room9 ≡ follow (roomed room8 room9 (lists (view b) (view c))) (λ l. accepted (verdictOn l))
+by-lists b c room8 room9 = ap (λ (x : Said Lists). follow x (λ l. accepted (verdictOn l))) (compared-is b c room8 room9)
 
-whole-lists : (b c : Build) → compared (handed b) (handed c) 2048 2048 ≡ accepted (lists (view b) (view c))
-whole-lists b c = compared-is b c 2048 2048 ∙ by (roomed-as 2048 2048 (lists (view b) (view c)))
+whole-lists : (b c : Build) → compared (handed b) (handed c) (limit 8) (limit 9) ≡ accepted (lists (view b) (view c))
+whole-lists b c = compared-is b c (limit 8) (limit 9) ∙ by (roomed-as (limit 8) (limit 9) (lists (view b) (view c)))
   where
-    by : Roomed 2048 2048 (lists (view b) (view c)) → roomed 2048 2048 (lists (view b) (view c)) ≡ accepted (lists (view b) (view c))
+    by : Roomed (limit 8) (limit 9) (lists (view b) (view c))
+        → roomed (limit 8) (limit 9) (lists (view b) (view c)) ≡ accepted (lists (view b) (view c))
     by (room e) = e
     by (full8 e h) = absurd (omega (arith, few-exports b c))
     by (full9 e h) = absurd (omega (arith, few-needs b c))
 
-answered : (b c : Build) → comparison b c 2048 2048 ≡ accepted (verdictOf (lists (view b) (view c)))
+answered : (b c : Build) → buildsCompared b c (limit 8) (limit 9) ≡ accepted (verdictOn (lists (view b) (view c)))
 answered b c = sym (follow-goes _ (whole-lists b c) refl)
 
 otherwise : (b c : Build) (room8 room9 : ℕ)
-    → (comparison b c room8 room9 ≡ comparison b c 2048 2048)
-    ⊎ ((comparison b c room8 room9 ≡ refused 13 8) × (room8 < length (exportDiff (view b) (view c))))
-    ⊎ ((comparison b c room8 room9 ≡ refused 13 9) × (room9 < length (needDiff (view b) (view c))))
+    → (buildsCompared b c room8 room9 ≡ buildsCompared b c (limit 8) (limit 9))
+    ⊎ ((buildsCompared b c room8 room9 ≡ refused 13 8) × (room8 < length (exportDiff (view b) (view c))))
+    ⊎ ((buildsCompared b c room8 room9 ≡ refused 13 9) × (room9 < length (needDiff (view b) (view c))))
 unfolding follow
 otherwise b c room8 room9 = by (roomed-as room8 room9 (lists (view b) (view c)))
   where
     on : Said Lists → Said Verdict
-    on x = follow x (λ l. accepted (verdictOf l))
+    on x = follow x (λ l. accepted (verdictOn l))
 
     by : Roomed room8 room9 (lists (view b) (view c))
-        → (comparison b c room8 room9 ≡ comparison b c 2048 2048)
-        ⊎ ((comparison b c room8 room9 ≡ refused 13 8) × (room8 < length (exportDiff (view b) (view c))))
-        ⊎ ((comparison b c room8 room9 ≡ refused 13 9) × (room9 < length (needDiff (view b) (view c))))
+        → (buildsCompared b c room8 room9 ≡ buildsCompared b c (limit 8) (limit 9))
+        ⊎ ((buildsCompared b c room8 room9 ≡ refused 13 8) × (room8 < length (exportDiff (view b) (view c))))
+        ⊎ ((buildsCompared b c room8 room9 ≡ refused 13 9) × (room9 < length (needDiff (view b) (view c))))
     by (room e) = inl (by-lists b c room8 room9 ∙ ap on e ∙ sym (answered b c))
     by (full8 e h) = inr (inl (by-lists b c room8 room9 ∙ ap on e, h))
     by (full9 e h) = inr (inr (by-lists b c room8 room9 ∙ ap on e, h))
 
 -- ---- what compatible means
 -- an accepted comparison gives the verdict on the whole lists
-verdict-is : (b c : Build) (room8 room9 : ℕ) (v : Verdict) → comparison b c room8 room9 ≡ accepted v
-    → v ≡ verdictOf (lists (view b) (view c))
+verdict-is : (b c : Build) (room8 room9 : ℕ) (v : Verdict) → buildsCompared b c room8 room9 ≡ accepted v
+    → v ≡ verdictOn (lists (view b) (view c))
 verdict-is b c room8 room9 v e = by (otherwise b c room8 room9)
   where
-    by : (comparison b c room8 room9 ≡ comparison b c 2048 2048)
-        ⊎ ((comparison b c room8 room9 ≡ refused 13 8) × (room8 < length (exportDiff (view b) (view c))))
-        ⊎ ((comparison b c room8 room9 ≡ refused 13 9) × (room9 < length (needDiff (view b) (view c))))
-        → v ≡ verdictOf (lists (view b) (view c))
+    by : (buildsCompared b c room8 room9 ≡ buildsCompared b c (limit 8) (limit 9))
+        ⊎ ((buildsCompared b c room8 room9 ≡ refused 13 8) × (room8 < length (exportDiff (view b) (view c))))
+        ⊎ ((buildsCompared b c room8 room9 ≡ refused 13 9) × (room9 < length (needDiff (view b) (view c))))
+        → v ≡ verdictOn (lists (view b) (view c))
     by (inl h) = one-value (sym e ∙ h ∙ answered b c)
     by (inr (inl h)) = absurd (never (sym (h .0) ∙ e))
     by (inr (inr h)) = absurd (never (sym (h .0) ∙ e))
 
-means : (b c : Build) (room8 room9 : ℕ) (v : Verdict) → comparison b c room8 room9 ≡ accepted v
+means : (b c : Build) (room8 room9 : ℕ) (v : Verdict) → buildsCompared b c room8 room9 ≡ accepted v
     → (v .compatible ≡ true) ↔ Covers b c
 means b c room8 room9 v e =
     let z = ap (λ (w : Verdict). w .compatible) (verdict-is b c room8 room9 v e) in
@@ -122,9 +125,9 @@ means b c room8 room9 v e =
 
 stands : (b c : Build) → StandsIn b c ↔ Covers b c
 stands b c =
-    let s = means b c 2048 2048 (verdictOf (lists (view b) (view c))) (answered b c) in (
-      (λ h. means b c 2048 2048 (h .verdict) (h .answers) .0 (h .says)),
-      λ k. record { verdict = verdictOf (lists (view b) (view c)); answers = answered b c; says = s .1 k },
+    let s = means b c (limit 8) (limit 9) (verdictOn (lists (view b) (view c))) (answered b c) in (
+      (λ h. means b c (limit 8) (limit 9) (h .verdict) (h .answers) .0 (h .says)),
+      λ k. record { verdict = verdictOn (lists (view b) (view c)); answers = answered b c; says = s .1 k },
     )
 
 -- ---- chains
@@ -169,7 +172,7 @@ roomed-exchanged : (room8 room9 : ℕ) (l : Lists)
     → roomed room8 room9 (exchanged l) ≡ follow (roomed room8 room9 l) (λ l. accepted (exchanged l))
 unfolding roomed finished follow
 roomed-exchanged room8 room9 l =
-    rw (length-map (l .exports) turned, length-map (l .needs) turned)
+    rw (length-map (l .exports) reversed, length-map (l .needs) reversed)
     (by (length (l .exports)) (length (l .needs)) (leb (length (l .exports)) room8) (leb (length (l .needs)) room9))
   where
     by : (m n : ℕ) (t u : Bool)
@@ -224,13 +227,13 @@ listing =
 
 -- ---- reasons
 files : (b c : List ℕ) → Bytes b → Bytes c
-    → builds b c ≡ follow (moduleAt b limits) (λ m. follow (moduleAt c limits) (λ n. accepted (told (build b m) (build c n))))
+    → builds b c ≡ follow (moduleAt b limits) (λ m. follow (moduleAt c limits) (λ n. accepted (buildsTold (build b m) (build c n))))
 unfolding builds against whole left moduleOf countsOf follow
 files b c bytes more = by (moduleAt b limits) refl (moduleAt c limits) refl
   where
     by : (x : Said Parsed) → moduleAt b limits ≡ x → (y : Said Parsed) → moduleAt c limits ≡ y
         → follow x (λ m. follow y (λ n. explained (build b m) (build c n)))
-        ≡ follow x (λ m. follow y (λ n. accepted (told (build b m) (build c n))))
+        ≡ follow x (λ m. follow y (λ n. accepted (buildsTold (build b m) (build c n))))
     by (accepted m) e (accepted n) q =
         explained-lists (build b m) (build c n) ∙ sym (follow-goes _ (whole-lists (whole b m e bytes) (whole c n q more)) refl)
     by (accepted m) e (refused i j) q = refl

@@ -6,6 +6,7 @@ use Prim.Native.Nat.{ℕ}
 use lib.ListN.{length}
 use Rattle.refusal.specs.Said.{Said, accepted, follow}
 use Rattle.table.specs.Table.{laid}
+use Rattle.table.specs.Shape.{limit}
 use Rattle.wasm.specs.declared.Module.{Module}
 use Rattle.wasm.specs.Module.{Sizes, moduleAt, Lent, ModuleIs}
 use Rattle.conform.specs.Claims.{Bytes}
@@ -14,12 +15,12 @@ use Rattle.policy.specs.Reader.{readPolicy}
 use Rattle.verdicts.specs.Evaluate.{Outcome}
 use Rattle.requirements.specs.Requirements.{rowDomain, moduleRows}
 use Rattle.checking.specs.Checking.{checkedOf}
-use Rattle.differences.specs.View.{View, Need, Export}
-use Rattle.differences.specs.Compared.{Given, given, viewed, Lists, lists, compared, Verdict, verdictOf}
+use Rattle.differences.specs.View.{View, Need, ExportKey}
+use Rattle.differences.specs.Compared.{Given, given, viewed, Lists, lists, compared, Verdict, verdictOn}
 use Rattle.reasons.specs.Reasons.{reasonsOf}
 use Rattle.listed.specs.Comparisons.{Comparison, tabled}
 use Rattle.standin.specs.Passing.{Passes}
-use Rattle.standin.specs.Replacing.{keys, turned}
+use Rattle.standin.specs.Replacing.{keys, reversed}
 
 -- ---- reading
 -- a file that `read_module` accepted with tables of some sizes: its answer, and the tables as its promise says that it leaves them
@@ -39,7 +40,7 @@ abbrev pub view : Build → View
 view b = viewed (handed b)
 
 -- the exports, by name and kind; the pairs of domain and source that its function imports need; the domains of these pairs
-abbrev pub exports : Build → List Export
+abbrev pub exports : Build → List ExportKey
 exports b = keys (view b .exports)
 
 abbrev pub pairs : Build → List Need
@@ -50,13 +51,13 @@ domains b = map (λ n. n .domain) (pairs b)
 
 -- ---- comparing
 -- what `compare_modules` promises to answer of a baseline b and a candidate c, with room for so many rows in tables 8 and 9
-abbrev pub comparison : Build → Build → ℕ → ℕ → Said Verdict
-comparison b c room8 room9 = follow (compared (handed b) (handed c) room8 room9) (λ l. accepted (verdictOf l))
+abbrev pub buildsCompared : Build → Build → ℕ → ℕ → Said Verdict
+buildsCompared b c room8 room9 = follow (compared (handed b) (handed c) room8 room9) (λ l. accepted (verdictOn l))
 
 -- with tables at the limits it is accepted, and says compatible
 pub record StandsIn (b c : Build) : Type 0 where
   pub verdict : Verdict
-  pub answers : comparison b c 2048 2048 ≡ accepted verdict
+  pub answers : buildsCompared b c (limit 8) (limit 9) ≡ accepted verdict
   pub says : verdict .compatible ≡ true
 
 -- a series of builds, its first and the others in order, each of which can stand in for the one before it; its last
@@ -70,7 +71,7 @@ last b (c ∷ cs) = last c cs
 
 -- the lists with the two modules exchanged
 abbrev pub exchanged : Lists → Lists
-exchanged l = record { exports = map turned (l .exports); needs = map turned (l .needs) }
+exchanged l = record { exports = map reversed (l .exports); needs = map reversed (l .needs) }
 
 -- ---- explaining
 -- lists of two modules, and the reasons that their rows give
@@ -78,8 +79,8 @@ abbrev pub withReasons : Given → Given → Lists → Comparison
 withReasons b c l = record { lists = l; reasons = reasonsOf b c (tabled l) }
 
 -- the two modules' own lists
-abbrev pub told : Given → Given → Comparison
-told b c = withReasons b c (lists (viewed b) (viewed c))
+abbrev pub buildsTold : Given → Given → Comparison
+buildsTold b c = withReasons b c (lists (viewed b) (viewed c))
 
 -- ---- policies
 -- a policy that `read_policy` accepted some text as
@@ -90,8 +91,8 @@ pub record Read (p : Policy) : Type 0 where
 -- what `requirements_from_module` and then `evaluate_domains` promise, with columns of 1,024 cells: both accept, and no domain violates
 pub record Meets (p : Policy) (b : Build) : Type 0 where
   pub rows : List ℕ
-  pub required : moduleRows (b .file) (b .tables .imports) (b .answer .imports) 1024 ≡ accepted rows
-  pub passes : Passes p (laid 1024 (map (rowDomain (b .file) (b .tables .imports)) rows)) (length rows)
+  pub required : moduleRows (b .file) (b .tables .imports) (b .answer .imports) (limit 7) ≡ accepted rows
+  pub passes : Passes p (laid (limit 7) (map (rowDomain (b .file) (b .tables .imports)) rows)) (length rows)
 
 -- the whole check of a file against a policy's text, in one call, is accepted, and no domain violates
 pub record Clear (file text : List ℕ) : Type 0 where

@@ -6,40 +6,41 @@ use mathlib.Core.List.{List}
 use Prim.Native.Nat.{ℕ, _<_}
 use lib.ListN.{length}
 use Rattle.refusal.specs.Said.{accepted, refused, follow}
+use Rattle.table.specs.Shape.{limit}
 use Rattle.sorting.specs.Sort.{_∈_, Ascending}
 use Rattle.policy.specs.declared.Policy.{Policy}
 use Rattle.verdicts.specs.declared.Evaluation.{Evaluation}
 use Rattle.verdicts.specs.Evaluate.{EvaluatedAs, compliant}
 use Rattle.differences.specs.declared.Change.the-variants.{Removed, Added}
-use Rattle.differences.specs.View.{Export, Need}
+use Rattle.differences.specs.View.{ExportKey, Need}
 use Rattle.differences.specs.Differences.{Entry, exportOrder, needOrder, exportDiff, needDiff}
-use Rattle.differences.specs.Compared.{Given, Lists, lists, compared, Verdict, verdictOf}
+use Rattle.differences.specs.Compared.{Given, Lists, lists, compared, Verdict, verdictOn}
 use Rattle.wasm.specs.Module.{moduleAt}
 use Rattle.conform.specs.Claims.{Bytes}
 use Rattle.conform.specs.Sound.{limits}
 use Rattle.reasons.specs.Reasons.{reasonsTested}
 use Rattle.listed.specs.Comparisons.{tabled, explained, build, builds}
 use Rattle.standin.specs.Replacing.{Reports, IsChange, IsLowest}
-use Rattle.standin.specs.Builds.{Build, handed, view, exports, pairs, domains, comparison, StandsIn, Chain, last}
-use Rattle.standin.specs.Builds.{exchanged, withReasons, told, Read, Meets, Clear}
+use Rattle.standin.specs.Builds.{Build, handed, view, exports, pairs, domains, buildsCompared, StandsIn, Chain, last}
+use Rattle.standin.specs.Builds.{exchanged, withReasons, buildsTold, Read, Meets, Clear}
 
 -- c has every export of b, by name and kind, and its function imports need no pair of domain and source that those of b do not
 pub record Covers (b c : Build) : Type 0 where
-  pub has : (e : Export) → e ∈ exports b → e ∈ exports c
+  pub has : (e : ExportKey) → e ∈ exports b → e ∈ exports c
   pub needs : (n : Need) → n ∈ pairs c → n ∈ pairs b
 
 -- The registry's first question: what a replacement is, and what it keeps.
 pub record Replacement : Type 0 where
   -- An accepted comparison says compatible exactly where the candidate has every export of the baseline and needs no pair that it does not.
-  pub means : (b c : Build) (room8 room9 : ℕ) (v : Verdict) → comparison b c room8 room9 ≡ accepted v
+  pub means : (b c : Build) (room8 room9 : ℕ) (v : Verdict) → buildsCompared b c room8 room9 ≡ accepted v
       → (v .compatible ≡ true) ↔ Covers b c
   -- With tables at the limits the comparison of two accepted modules is accepted.
-  pub answered : (b c : Build) → comparison b c 2048 2048 ≡ accepted (verdictOf (lists (view b) (view c)))
+  pub answered : (b c : Build) → buildsCompared b c (limit 8) (limit 9) ≡ accepted (verdictOn (lists (view b) (view c)))
   -- With less room it gives the same verdict, or 13 at 8 or at 9 where a list has more rows than its table takes; nothing else.
   pub otherwise : (b c : Build) (room8 room9 : ℕ)
-      → (comparison b c room8 room9 ≡ comparison b c 2048 2048)
-      ⊎ ((comparison b c room8 room9 ≡ refused 13 8) × (room8 < length (exportDiff (view b) (view c))))
-      ⊎ ((comparison b c room8 room9 ≡ refused 13 9) × (room9 < length (needDiff (view b) (view c))))
+      → (buildsCompared b c room8 room9 ≡ buildsCompared b c (limit 8) (limit 9))
+      ⊎ ((buildsCompared b c room8 room9 ≡ refused 13 8) × (room8 < length (exportDiff (view b) (view c))))
+      ⊎ ((buildsCompared b c room8 room9 ≡ refused 13 9) × (room9 < length (needDiff (view b) (view c))))
   -- Along any chain of replacements, of any length, the last build stands in for the first.
   pub series : (b : Build) (cs : List Build) → Chain b cs → StandsIn b (last b cs)
   -- And meets every policy that the first meets.
@@ -55,16 +56,16 @@ pub record Replacement : Type 0 where
 -- What is in the two lists of an accepted comparison, and in which order.
 pub record Listing : Type 0 where
   -- An export is reported removed exactly where it is in the baseline and in no row of the candidate.
-  pub exportRemoved : (b c : Build) (e : Export)
+  pub exportRemoved : (b c : Build) (e : ExportKey)
       → Reports Removed e (exportDiff (view b) (view c)) ↔ ((e ∈ exports b) × (e ∈ exports c → ⊥))
   -- And added where it is in the candidate and in no row of the baseline.
-  pub exportAdded : (b c : Build) (e : Export)
+  pub exportAdded : (b c : Build) (e : ExportKey)
       → Reports Added e (exportDiff (view b) (view c)) ↔ ((e ∈ exports c) × (e ∈ exports b → ⊥))
   -- The same of pairs.
   pub needRemoved : (b c : Build) (n : Need) → Reports Removed n (needDiff (view b) (view c)) ↔ ((n ∈ pairs b) × (n ∈ pairs c → ⊥))
   pub needAdded : (b c : Build) (n : Need) → Reports Added n (needDiff (view b) (view c)) ↔ ((n ∈ pairs c) × (n ∈ pairs b → ⊥))
   -- Each row of exports that the other lacks is listed, repeats too, by name, kind and row.
-  pub exportsEach : (b c : Build) (e : Entry Export)
+  pub exportsEach : (b c : Build) (e : Entry ExportKey)
       → e ∈ exportDiff (view b) (view c) ↔ IsChange e (view b .exports) (view c .exports)
   pub exportsAscend : (b c : Build) → Ascending exportOrder (exportDiff (view b) (view c))
   -- Each pair that the other lacks is listed once, by its lowest row, by domain and source.
@@ -75,16 +76,16 @@ pub record Listing : Type 0 where
 -- The reasons are refused for nothing of their own.
 pub record Explanation : Type 0 where
   -- Of any two modules that are handed in: tables with the lists of an accepted comparison pass, so 14 and 15 are not given again.
-  pub passes : (b c : Given) (l : Lists) → compared b c 2048 2048 ≡ accepted l → reasonsTested b c (tabled l) ≡ accepted tt
+  pub passes : (b c : Given) (l : Lists) → compared b c (limit 8) (limit 9) ≡ accepted l → reasonsTested b c (tabled l) ≡ accepted tt
   -- So lists with their reasons are refused for what the comparison refuses, and for nothing else.
-  pub refuses : (b c : Given) → explained b c ≡ follow (compared b c 2048 2048) (λ l. accepted (withReasons b c l))
+  pub refuses : (b c : Given) → explained b c ≡ follow (compared b c (limit 8) (limit 9)) (λ l. accepted (withReasons b c l))
   -- Of two files, after 14 of either: the baseline's refusals, the candidate's, and no other.
   pub files : (b c : List ℕ) → Bytes b → Bytes c
-      → builds b c ≡ follow (moduleAt b limits) (λ m. follow (moduleAt c limits) (λ n. accepted (told (build b m) (build c n))))
+      → builds b c ≡ follow (moduleAt b limits) (λ m. follow (moduleAt c limits) (λ n. accepted (buildsTold (build b m) (build c n))))
 
 -- A refusal is never a pass.
 pub record FailSafe : Type 0 where
   -- A refused evaluation is not compliant.
   pub evaluation : (n place : ℕ) (r : Evaluation) → EvaluatedAs (refused n place) r → compliant r ≡ true → ⊥
   -- A refused comparison has no verdict, so no build stands in by it.
-  pub comparisons : (b c : Build) (n place : ℕ) → comparison b c 2048 2048 ≡ refused n place → StandsIn b c → ⊥
+  pub comparisons : (b c : Build) (n place : ℕ) → buildsCompared b c (limit 8) (limit 9) ≡ refused n place → StandsIn b c → ⊥

@@ -3,3 +3,4 @@ pub mod Passing
 pub mod Replacing
 pub mod Builds
 pub mod Claims
+pub mod Strict

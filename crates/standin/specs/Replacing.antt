@@ -36,5 +36,5 @@ module _ {K : Type 0} where
   IsLowest e b c = (f : Entry K) → IsChange f b c → f .row .key ≡ e .row .key → e .row .at ≤ f .row .at
 
   -- removed for added and added for removed, of one row
-  abbrev pub turned : Entry K → Entry K
-  turned e = record { change = other (e .change); row = e .row }
+  abbrev pub reversed : Entry K → Entry K
+  reversed e = record { change = other (e .change); row = e .row }

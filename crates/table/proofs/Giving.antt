@@ -6,11 +6,12 @@ use mathlib.Core.List.{List, [], _∷_, _++_}
 use lib.ListN.{length, drop}
 use lib.Dec.{ltb}
 use Rattle.refusal.specs.Pick.{pick}
+use Rattle.refusal.specs.Each.{Each, each-nil, each-cons}
 use Rattle.refusal.specs.Said.{Said, accepted, refused, follow, Got, got, onward}
 use Rattle.refusal.proofs.Following.{never, followed, read-on}
 use Rattle.text.specs.Walk.{stop, go, walk}
 use Rattle.table.specs.Entries.{entriesFrom}
-use Rattle.table.specs.Walking.{turned, walkFrom}
+use Rattle.table.specs.Walking.{turnOf, walkFrom}
 
 -- what x accepts has P
 unfoldable pub Gives : {T : Type 0} → (T → Type 0) → Said T → Type 0
@@ -45,15 +46,15 @@ module _ {T : Type 0} (P : T → Type 0) where
 -- a walk whose steps keep P
 module _ {T : Type 0} (P : T → Type 0) (step : ℕ → T → Said (Got T)) (keeps : (i : ℕ) (t : T) → P t → Gives (Of P) (step i t)) where
   gives-walk : (t : T) (at k : ℕ) (l : List ℕ) → P t
-      → Gives (Of P) (walk (λ st i rest. turned i (step i st)) (λ st i. accepted (got st i)) t at k l)
-  unfolding walk Gives turned Of
+      → Gives (Of P) (walk (λ st i rest. turnOf i (step i st)) (λ st i. accepted (got st i)) t at k l)
+  unfolding walk Gives turnOf Of
   gives-walk t at k [] h u e = gives-done (Of P) (got t at) h u e
   gives-walk t at (suc k) (x ∷ l) h u e = gives-walk t (suc at) k l h u e
   gives-walk t at zero (x ∷ l) h u e = by (λ v k p f. gives-walk v (suc at) k l p u f) (step at t) refl e where
-    by : ((v : T) (k : ℕ) → P v → walk (λ st i rest. turned i (step i st)) (λ st i. accepted (got st i)) v (suc at) k l ≡ accepted u
+    by : ((v : T) (k : ℕ) → P v → walk (λ st i rest. turnOf i (step i st)) (λ st i. accepted (got st i)) v (suc at) k l ≡ accepted u
         → Of P u) → (y : Said (Got T)) → step at t ≡ y
-        → elim (turned at y)
-        [ stop r ↦ r | go st k ↦ walk (λ st i rest. turned i (step i st)) (λ st i. accepted (got st i)) st (suc at) k l ] ≡ accepted u
+        → elim (turnOf at y)
+        [ stop r ↦ r | go st k ↦ walk (λ st i rest. turnOf i (step i st)) (λ st i. accepted (got st i)) st (suc at) k l ] ≡ accepted u
         → Of P u
     by ih (accepted (got v c)) q f = ih v (c - suc at) (keeps at t h (got v c) q) f
     by ih (refused n p) q f = absurd (never f)
@@ -62,14 +63,9 @@ module _ {T : Type 0} (P : T → Type 0) (step : ℕ → T → Said (Got T)) (ke
   unfolding walkFrom
   gives-from b at t h = gives-walk t at 0 (drop at b) h
 
--- every row has P
-pub data Each {E : Type 0} (P : E → Type 0) : List E → Type 0 where
-  no-row : Each P []
-  row : {e : E} {es : List E} → P e → Each P es → Each P (e ∷ es)
-
 each-snoc : {E : Type 0} (P : E → Type 0) (es : List E) (e : E) → Each P es → P e → Each P (es ++ (e ∷ []))
-each-snoc P [] e no-row h = row h no-row
-each-snoc P (x ∷ es) e (row p a) h = row p (each-snoc P es e a h)
+each-snoc P [] e each-nil h = each-cons h each-nil
+each-snoc P (x ∷ es) e (each-cons p a) h = each-cons p (each-snoc P es e a h)
 
 -- a run of entries each of which has P
 module _ {E : Type 0} (P : E → Type 0) (read : ℕ → Said (Got E)) (good : (at : ℕ) → Gives (Of P) (read at)) (tn room : ℕ) where

@@ -15,7 +15,7 @@ use Rattle.refusal.proofs.Following.{never}
 use Rattle.text.specs.Walk.{stop, go, walk}
 use Rattle.table.specs.Table.{capacityOf}
 use Rattle.table.specs.Entries.{entriesFrom}
-use Rattle.table.specs.Walking.{turned, walkFrom}
+use Rattle.table.specs.Walking.{turnOf, walkFrom}
 
 -- y is x, unless x is a refusal with a number that is spared
 pub data Sure (spared : ℕ → Type 0) {T : Type 0} (x y : Said T) : Type 0 where
@@ -78,15 +78,15 @@ module _ {S : ℕ → Type 0} {X T : Type 0} where
 -- a walk
 module _ {S : ℕ → Type 0} {T : Type 0} (step step1 : ℕ → T → Said (Got T)) (s : (i : ℕ) (t : T) → Sure S (step i t) (step1 i t)) where
   abbrev walked : (ℕ → T → Said (Got T)) → T → ℕ → ℕ → List ℕ → Said (Got T)
-  walked f = walk (λ st i rest. turned i (f i st)) (λ st i. accepted (got st i))
+  walked f = walk (λ st i rest. turnOf i (f i st)) (λ st i. accepted (got st i))
 
   -- what is left after a step
   abbrev on : (ℕ → T → Said (Got T)) → ℕ → List ℕ → Said (Got T) → Said (Got T)
-  on f at l y = elim (turned at y) [ stop r ↦ r | go st k ↦ walked f st (suc at) k l ]
+  on f at l y = elim (turnOf at y) [ stop r ↦ r | go st k ↦ walked f st (suc at) k l ]
 
   sure-walk : (t : T) (at k : ℕ) (l : List ℕ)
       → Sure S (walked step t at k l) (walked step1 t at k l)
-  unfolding walk turned
+  unfolding walk turnOf
   sure-walk t at k [] = same refl
   sure-walk t at (suc k) (x ∷ l) = sure-walk t (suc at) k l
   sure-walk t at zero (x ∷ l) = by (λ v k. sure-walk v (suc at) k l) (s at t) where

@@ -11,7 +11,7 @@ use Rattle.refusal.specs.Pick.{pick}
 use Rattle.refusal.proofs.Following.{never}
 use Rattle.refusal.specs.Said.{Said, accepted, refused, Got, got, onward}
 use Rattle.table.specs.Table.{Lies, laid, cells, putRow}
-use Rattle.table.specs.Told.{Told}
+use Rattle.table.specs.Told.{ReaderTells}
 use Rattle.table.specs.Entries.{entriesFrom, finished, fitting}
 use Rattle.table.proofs.Laws.{put-row-laid}
 use Rattle.table.proofs.Telling.{tell-stop, tell-got}
@@ -51,16 +51,16 @@ module _ {R : Type 0} (f : R → List ℕ) (w : ℕ) (wide : (r : R) → length 
   module _ {all : Said (Got (List R))} {total : ℕ} {table : List ℕ} {at left k : ℕ}
       (h : Held f read tn room all total table at left k) where
     -- the ways out of the loop: no entry is left, an entry cannot be read, the table is full
-    pub held-whole : left ≤ 0 → Told length (Lies f total table) all (accepted (got k at))
+    pub held-whole : left ≤ 0 → ReaderTells length (Lies f total table) all (accepted (got k at))
     unfolding Lies
     held-whole l =
         tell-got (h .rows) at (sym (h .goes-on) ∙ entries-whole read tn room left at (h .rows) l) (h .count-is) (h .table-is)
 
-    pub held-bad : {P : List R → Type 0} {n p : ℕ} → 0 < left → read at ≡ refused n p → Told length P all (refused n p)
+    pub held-bad : {P : List R → Type 0} {n p : ℕ} → 0 < left → read at ≡ refused n p → ReaderTells length P all (refused n p)
     held-bad {n = n} {p = p} l e = tell-stop (sym (h .goes-on) ∙ entries-bad read tn room left at (h .rows) n p l e)
 
     pub held-full : {P : List R → Type 0} {row : R} {next : ℕ} → 0 < left → read at ≡ accepted (got row next) → room ≤ k
-        → Told length P all (refused 13 tn)
+        → ReaderTells length P all (refused 13 tn)
     held-full {row = row} {next = next} l e m =
         tell-stop
         (sym (h .goes-on)

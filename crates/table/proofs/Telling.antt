@@ -1,19 +1,19 @@
--- Laws of `Told`: how a promise is made, followed and read. Assumes nothing.
+-- Laws of `ReaderTells`: how a promise is made, followed and read. Assumes nothing.
 use Prim.Native.Nat.{ℕ, _≤_, _<_}
 use mathlib.Core.Path.{_≡_, refl, sym, _∙_}
 use Rattle.refusal.specs.Said.{Said, accepted, refused, refusedBy, Got, got, onward}
 use Rattle.refusal.specs.declared.Refusal.{Refusal}
 use Rattle.refusal.proofs.Following.{never}
-use Rattle.table.specs.Told.{mapped, Told, Passed, Ends}
+use Rattle.table.specs.Told.{mapped, ReaderTells, Passed, Ends}
 
 module _ {T A : Type 0} {f : T → A} {P : T → Type 0} where
   -- a promise is made
-  pub tell-stop : {x : Said (Got T)} {n p : ℕ} → x ≡ refused n p → Told f P x (refused n p)
+  pub tell-stop : {x : Said (Got T)} {n p : ℕ} → x ≡ refused n p → ReaderTells f P x (refused n p)
   unfolding mapped
   tell-stop e = record { answer-is = rw e; holds = λ t d q. absurd (never (sym e ∙ q)) }
 
   pub tell-got : {x : Said (Got T)} (t : T) (d : ℕ) {m : A} → x ≡ accepted (got t d) → m ≡ f t → P t
-      → Told f P x (accepted (got m d))
+      → ReaderTells f P x (accepted (got m d))
   unfolding mapped
   tell-got {x} t d e v h = record { answer-is = rw (e, v); holds = λ u k q. by u k (sym e ∙ q) } where
     by : (u : T) (k : ℕ) → accepted (got t d) ≡ accepted (got u k) → P u
@@ -21,12 +21,12 @@ module _ {T A : Type 0} {f : T → A} {P : T → Type 0} where
 
   -- after a reading
   pub tell-first : {X : Type 0} {x : Said (Got X)} (k : X → ℕ → Said (Got T)) {v w : Refusal}
-      → x ≡ refusedBy w → v ≡ w → Told f P (onward x k) (refusedBy v)
+      → x ≡ refusedBy w → v ≡ w → ReaderTells f P (onward x k) (refusedBy v)
   unfolding onward
   tell-first k e q = tell-stop (rw (e, q))
 
   pub tell-next : {X : Type 0} {x : Said (Got X)} (k : X → ℕ → Said (Got T)) {v : X} {p : ℕ} {a : Said (Got A)}
-      → x ≡ accepted (got v p) → Told f P (k v p) a → Told f P (onward x k) a
+      → x ≡ accepted (got v p) → ReaderTells f P (k v p) a → ReaderTells f P (onward x k) a
   unfolding onward
   tell-next k e h = rw e h
 
@@ -39,14 +39,14 @@ pub record Read {T A : Type 0} (f : T → A) (P : T → Type 0) (x : Said (Got T
 
 module _ {T A : Type 0} {f : T → A} {P : T → Type 0} {x : Said (Got T)} {a : Said (Got A)} where
   -- a promise is read
-  pub told-stop : {n p : ℕ} → Told f P x a → a ≡ refused n p → x ≡ refused n p
+  pub told-stop : {n p : ℕ} → ReaderTells f P x a → a ≡ refused n p → x ≡ refused n p
   unfolding mapped
   told-stop {n} {p} h q = by x (sym q ∙ h .answer-is) where
     by : (y : Said (Got T)) → refused n p ≡ mapped f y → y ≡ refused n p
     by (accepted (got t d)) e = absurd (never e)
     by (refused m k) e = let u : n ≡ m = cc in let v : p ≡ k = cc in rw (u, v)
 
-  pub told-got : {m : A} {d : ℕ} → Told f P x a → a ≡ accepted (got m d) → Read f P x m d
+  pub told-got : {m : A} {d : ℕ} → ReaderTells f P x a → a ≡ accepted (got m d) → Read f P x m d
   unfolding mapped
   told-got {m} {d} h q = by x refl (sym q ∙ h .answer-is) where
     by : (y : Said (Got T)) → x ≡ y → accepted (got m d) ≡ mapped f y → Read f P x m d
@@ -55,18 +55,18 @@ module _ {T A : Type 0} {f : T → A} {P : T → Type 0} {x : Said (Got T)} {a :
 
   -- a promise follows another
   pub tell-after-stop : {U B : Type 0} {g : U → B} {Q : U → Type 0} (k : T → ℕ → Said (Got U)) {n p : ℕ}
-      → Told f P x a → a ≡ refused n p → Told g Q (onward x k) (refused n p)
+      → ReaderTells f P x a → a ≡ refused n p → ReaderTells g Q (onward x k) (refused n p)
   unfolding onward
   tell-after-stop k h q = let e = told-stop h q in tell-stop (rw e)
 
   pub tell-after : {U B : Type 0} {g : U → B} {Q : U → Type 0} (k : T → ℕ → Said (Got U)) {m : A} {d : ℕ} {b : Said (Got B)}
-      → Told f P x a → a ≡ accepted (got m d)
-      → ((t : T) → x ≡ accepted (got t d) → m ≡ f t → P t → Told g Q (k t d) b) → Told g Q (onward x k) b
+      → ReaderTells f P x a → a ≡ accepted (got m d)
+      → ((t : T) → x ≡ accepted (got t d) → m ≡ f t → P t → ReaderTells g Q (k t d) b) → ReaderTells g Q (onward x k) b
   tell-after k h q on = let o = told-got h q in tell-next k (o .is) (on (o .what) (o .is) (o .value) (o .held))
 
 -- no two answers are told of one outcome
 pub told-unique : {T A : Type 0} {f : T → A} {P Q : T → Type 0} {x : Said (Got T)} {a b : Said (Got A)}
-    → Told f P x a → Told f Q x b → a ≡ b
+    → ReaderTells f P x a → ReaderTells f Q x b → a ≡ b
 told-unique h k = h .answer-is ∙ sym (k .answer-is)
 
 -- an answer that says only what the outcome is

@@ -18,6 +18,6 @@ abbrev pub rowsIn : Said (List ℕ) → List ℕ
 rowsIn (accepted l) = l
 rowsIn (refused n p) = []
 
-pub record Lists (x : Said (List ℕ)) (before after : List ℕ) (a : Said ℕ) : Type 0 where
+pub record ListsRows (x : Said (List ℕ)) (before after : List ℕ) (a : Said ℕ) : Type 0 where
   pub answer-is : a ≡ follow x (λ l. accepted (length l))
   pub table-is : after ≡ laid (length before) (rowsIn x)

@@ -1,11 +1,14 @@
--- docs/RULES.md, "Tables": 15, for a table that is handed in with a count; and how many rows pass a test. Stated once, over the test of
--- a row.
--- Assumes nothing.
+-- docs/RULES.md, "Tables": 15, for a table that is handed in with a count; and how many rows pass a test. Stated once, over the test of a
+-- row. Assumes nothing.
 use mathlib.Core.Bool.{Bool, true, false}
 use Prim.Native.Nat.{ℕ, zero, suc, _+_}
 use lib.Dec.{ltb}
 use Rattle.refusal.specs.Pick.{pick}
 use Rattle.refusal.specs.Said.{Said, accepted, refused}
+
+-- a row is bad where it does not pass
+abbrev pub bad : (ℕ → Bool) → ℕ → Bool
+bad good i = pick (good i) false true
 
 -- 15 at the first of k rows, from row i on, that is bad
 unfoldable pub firstFrom : (ℕ → Bool) → ℕ → ℕ → Said (Unit {0})

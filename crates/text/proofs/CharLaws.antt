@@ -12,7 +12,7 @@ use borrow.Author.Tests.{leb-true, le-leb}
 use Rattle.refusal.specs.Pick.{pick, both, within}
 use Rattle.text.specs.Ranges.{Range, _to_, inRange, inSome}
 use Rattle.text.specs.Utf8.{seqLen}
-use Rattle.text.specs.Steps.{stepAt, stepOf}
+use Rattle.text.specs.Steps.{stepAt, sequenceOf}
 use Rattle.text.specs.Chars.{more, codeBy, codeOf, moreBy, Char, char, charsFrom, chars}
 use Rattle.text.specs.White.{whites, isWhite}
 use Rattle.text.specs.Trim.{startLen, endLen, trimStart, trimEnd}
@@ -72,18 +72,18 @@ pub record Long (s : List ℕ) (at n : ℕ) : Type 0 where
   pub long : seqLen (drop at s) ≡ n - at
 
 pub long : (s : List ℕ) (at n : ℕ) → at < length s → stepAt s at ≡ Next n → Long s at n
-unfolding stepAt stepOf
+unfolding stepAt sequenceOf
 long s at n h e = by (seqLen (drop at s)) refl (omega (arith, seq-long (drop at s), length-drop at s)) e
   where
-    by : (k : ℕ) → seqLen (drop at s) ≡ k → k ≤ length s - at → stepOf at k ≡ Next n → Long s at n
+    by : (k : ℕ) → seqLen (drop at s) ≡ k → k ≤ length s - at → sequenceOf at k ≡ Next n → Long s at n
     by zero q b e = absurd (let z : _≡_ {A = ℕ} 0 1 = cc in omega arith)
     by (suc k) q b e = let p : at + suc k ≡ n = cc in record { later = omega arith; inside = omega arith; long = omega arith }
 
 pub short : (s : List ℕ) (at : ℕ) → stepAt s at ≡ Bad → seqLen (drop at s) ≡ 0
-unfolding stepAt stepOf
+unfolding stepAt sequenceOf
 short s at e = by (seqLen (drop at s)) refl e
   where
-    by : (k : ℕ) → seqLen (drop at s) ≡ k → stepOf at k ≡ Bad → seqLen (drop at s) ≡ 0
+    by : (k : ℕ) → seqLen (drop at s) ≡ k → sequenceOf at k ≡ Bad → seqLen (drop at s) ≡ 0
     by zero q e = q
     by (suc k) q e = absurd (let z : _≡_ {A = ℕ} 0 1 = cc in omega arith)
 

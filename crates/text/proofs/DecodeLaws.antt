@@ -13,7 +13,8 @@ use Rattle.text.specs.Ranges.{Range, _to_}
 use Rattle.text.specs.Encode.{Scalars, empty, point, encodeAll, Scalar, encode}
 use Rattle.text.specs.Scan.{scan}
 use Rattle.text.specs.Chars.{Char, char, chars, codeOf, codeBy}
-use Rattle.text.specs.Utf8.{follow, after, seqLen, upTo, Row, row, Follow, none, these, followIn, covers, table}
+use Rattle.text.specs.Claims.{Decoded}
+use Rattle.text.specs.Utf8.{followers, after, seqLen, upTo, Utf8Row, row, Follow, none, these, followIn, covers, utf8Table}
 use Rattle.text.proofs.EncodeLaws.{charOf, chars-all}
 use Rattle.text.proofs.Laws.{both-one, both-two}
 
@@ -44,12 +45,12 @@ four-back x y z w p q r =
     record { high = omega arith; rest = rw n (omega arith); mid = rw m (omega arith); low = omega arith }
 
 -- ---- the first byte's row, and the bytes that the row covers
-data Chosen (a : ℕ) : List Row → Follow → Type 0 where
+data Chosen (a : ℕ) : List Utf8Row → Follow → Type 0 where
   nowhere : Chosen a [] none
-  here : {lo hi : ℕ} {rs : List Range} {rows : List Row} → lo ≤ a → a ≤ hi → Chosen a (row (lo to hi) rs ∷ rows) (these rs)
-  there : {r : Range} {rs : List Range} {rows : List Row} {f : Follow} → Chosen a rows f → Chosen a (row r rs ∷ rows) f
+  here : {lo hi : ℕ} {rs : List Range} {rows : List Utf8Row} → lo ≤ a → a ≤ hi → Chosen a (row (lo to hi) rs ∷ rows) (these rs)
+  there : {r : Range} {rs : List Range} {rows : List Utf8Row} {f : Follow} → Chosen a rows f → Chosen a (row r rs ∷ rows) f
 
-chosen : (a : ℕ) (rows : List Row) → Chosen a rows (followIn rows a)
+chosen : (a : ℕ) (rows : List Utf8Row) → Chosen a rows (followIn rows a)
 unfolding followIn
 chosen a [] = nowhere
 chosen a (row (lo to hi) rs ∷ rows) = by (within lo hi a) refl (chosen a rows)
@@ -152,8 +153,8 @@ seq-4 a b d e s h i j k l m f g long short =
     }
 
 -- by the rows of the table
-by-rows : {a : ℕ} {s : List ℕ} {rs : List Range} → Chosen a table (these rs) → Covered rs s → Sequence a s (length rs)
-unfolding table
+by-rows : {a : ℕ} {s : List ℕ} {rs : List Range} → Chosen a utf8Table (these rs) → Covered rs s → Sequence a s (length rs)
+unfolding utf8Table
 by-rows {a} {s} (here p q) done = seq-1 a s (omega arith)
 by-rows (there (here p q)) (byte l m done) = seq-2 _ _ _ p (omega arith) l (omega arith)
 by-rows (there (there (here p q))) (byte l m (byte u v done)) =
@@ -177,10 +178,10 @@ pub record Fronted (s : List ℕ) (k : ℕ) : Type 0 where
   pub bytes : encode (codeOf s) ≡ take k s
 
 pub fronted : (a : ℕ) (s : List ℕ) (k : ℕ) → seqLen (a ∷ s) ≡ suc k → Fronted (a ∷ s) (suc k)
-unfolding seqLen codeOf after follow
-fronted a s k e = by (followIn table a) (chosen a table) e
+unfolding seqLen codeOf after followers
+fronted a s k e = by (followIn utf8Table a) (chosen a utf8Table) e
   where
-    long : (rs : List Range) (t : Bool) → covers rs s ≡ t → Chosen a table (these rs) → pick t (suc (length rs)) 0 ≡ suc k
+    long : (rs : List Range) (t : Bool) → covers rs s ≡ t → Chosen a utf8Table (these rs) → pick t (suc (length rs)) 0 ≡ suc k
         → (Scalar (codeBy (suc k) (a ∷ s))) × (encode (codeBy (suc k) (a ∷ s)) ≡ a ∷ take k s)
     long rs true c f q =
         let n : length rs ≡ k = omega arith in
@@ -188,16 +189,11 @@ fronted a s k e = by (followIn table a) (chosen a table) e
         rw (← n) (w .scalar, w .bytes)
     long rs false c f q = absurd (omega arith)
 
-    by : (f : Follow) → Chosen a table f → after f s ≡ suc k → Fronted (a ∷ s) (suc k)
+    by : (f : Follow) → Chosen a utf8Table f → after f s ≡ suc k → Fronted (a ∷ s) (suc k)
     by none f q = absurd (omega arith)
     by (these rs) f q = let w = long rs (covers rs s) refl f q in record { scalar = rw e (w .0); bytes = rw e (w .1) }
 
 -- ---- a whole text
-pub record Decoded (s : List ℕ) : Type 0 where
-  pub points : List ℕ
-  pub scalars : Scalars points
-  pub bytes : encodeAll points ≡ s
-
 decode-from : (k : ℕ) (s : List ℕ) → scan seqLen k s ≡ length s → Decoded (drop k s)
 unfolding scan encodeAll
 decode-from zero [] e = record { points = []; scalars = empty; bytes = refl }

@@ -17,6 +17,7 @@ use Rattle.text.specs.White.{isWhite}
 use Rattle.text.specs.Ranges.{inSome}
 use Rattle.text.specs.Trim.{startLen, endLen, trimStart, trimEnd}
 use Rattle.text.specs.Encode.{Scalar, encode}
+use Rattle.text.specs.Claims.{AtFront, AtEnd}
 use Rattle.text.specs.Utf8.{seqLen}
 use Rattle.text.proofs.DecodeLaws.{Fronted, fronted}
 use Rattle.text.proofs.SplitLaws.{Starts, chars-start, bytes-all, chars-cut}
@@ -77,20 +78,6 @@ back-other s c h e =
     rw (chars-back s c h) (omega (arith, a, one, bytes-all s, nonempty c, length-append s (encode c)))
 
 -- ---- and nothing else goes
-pub record AtFront (s : List ℕ) : Type 0 where
-  pub code : ℕ
-  pub rest : List ℕ
-  pub scalar : Scalar code
-  pub white : isWhite code ≡ true
-  pub whole : s ≡ encode code ++ rest
-
-pub record AtEnd (s : List ℕ) : Type 0 where
-  pub code : ℕ
-  pub rest : List ℕ
-  pub scalar : Scalar code
-  pub white : isWhite code ≡ true
-  pub whole : s ≡ rest ++ encode code
-
 -- a first character that is White_Space is an encoding, as long as the character says
 white-first : (x : ℕ) (s : List ℕ) → isWhite (codeOf (x ∷ s)) ≡ true → Fronted (x ∷ s) (suc (more (x ∷ s)))
 unfolding codeOf codeBy more moreBy isWhite inSome

@@ -10,7 +10,7 @@ use lib.ListN.{length, drop, length-append}
 use lib.Seq.{drop-append-seam}
 use borrow.Author.Tests.{lt-ltb, le-ltb, le-leb, ltb-true, ltb-false}
 use Rattle.refusal.specs.Pick.{pick, within}
-use Rattle.text.specs.Utf8.{follow, followIn, seqLen, upTo}
+use Rattle.text.specs.Utf8.{followers, followIn, seqLen, upTo}
 use Rattle.text.specs.Chars.{more, codeBy, codeOf, Char, char, charsFrom, chars}
 use Rattle.text.specs.Scan.{scan}
 use Rattle.text.specs.Encode.{Scalar, encode, encodeAll, Scalars, empty, point}
@@ -25,14 +25,14 @@ tail-in : (x : ℕ) → within 0x80 0xBF (0x80 + x % 64) ≡ true
 tail-in x = in-range 0x80 0xBF (0x80 + x % 64) (omega arith) (omega arith)
 
 -- ---- a sequence from its bytes
-two : (a b lo hi : ℕ) (s : List ℕ) → follow a ≡ ranges 1 lo hi → within lo hi b ≡ true → seqLen (a ∷ b ∷ s) ≡ 2
+two : (a b lo hi : ℕ) (s : List ℕ) → followers a ≡ ranges 1 lo hi → within lo hi b ≡ true → seqLen (a ∷ b ∷ s) ≡ 2
 two a b lo hi s e p = rw (seq-2 a b lo hi s e, p)
 
-three : (a b d lo hi : ℕ) (s : List ℕ) → follow a ≡ ranges 2 lo hi → within lo hi b ≡ true → within 0x80 0xBF d ≡ true
+three : (a b d lo hi : ℕ) (s : List ℕ) → followers a ≡ ranges 2 lo hi → within lo hi b ≡ true → within 0x80 0xBF d ≡ true
     → seqLen (a ∷ b ∷ d ∷ s) ≡ 3
 three a b d lo hi s e p q = rw (seq-3 a b d lo hi s e, p, q)
 
-four : (a b d f lo hi : ℕ) (s : List ℕ) → follow a ≡ ranges 3 lo hi → within lo hi b ≡ true → within 0x80 0xBF d ≡ true
+four : (a b d f lo hi : ℕ) (s : List ℕ) → followers a ≡ ranges 3 lo hi → within lo hi b ≡ true → within 0x80 0xBF d ≡ true
     → within 0x80 0xBF f ≡ true → seqLen (a ∷ b ∷ d ∷ f ∷ s) ≡ 4
 four a b d f lo hi s e p q r = rw (seq-4 a b d f lo hi s e, p, q, r)
 
@@ -70,7 +70,7 @@ module _ (c : ℕ) (s : List ℕ) where
       record { long = rw e l; code = rw e (rw l (omega arith)) }
 
   enc-2 : 0x80 ≤ c → c < 0x800 → Encoded c s
-  unfolding encode codeOf codeBy follow followIn ranges
+  unfolding encode codeOf codeBy followers followIn ranges
   enc-2 h k =
       let e : encode c ≡ (0xC0 + c / 64) ∷ (0x80 + c % 64) ∷ [] = rw (le-ltb c 0x80 h, lt-ltb c 0x800 k) in
       let f = leads (ranges 1 0x80 0xBF) 0xC2 30 tt (0xC0 + c / 64) (omega arith) (omega arith) in
@@ -78,7 +78,7 @@ module _ (c : ℕ) (s : List ℕ) where
       record { long = rw e l; code = rw e (rw l (omega arith)) }
 
   -- three bytes, by the row
-  in-3 : (lo hi : ℕ) → 0x800 ≤ c → c < 0x10000 → follow (0xE0 + c / 4096) ≡ ranges 2 lo hi → lo ≤ 0x80 + c / 64 % 64
+  in-3 : (lo hi : ℕ) → 0x800 ≤ c → c < 0x10000 → followers (0xE0 + c / 4096) ≡ ranges 2 lo hi → lo ≤ 0x80 + c / 64 % 64
       → 0x80 + c / 64 % 64 ≤ hi → Encoded c s
   unfolding encode codeOf codeBy
   in-3 lo hi h k f p q =
@@ -87,7 +87,7 @@ module _ (c : ℕ) (s : List ℕ) where
       let l = three (0xE0 + c / 4096) (0x80 + c / 64 % 64) (0x80 + c % 64) lo hi s f (in-range lo hi _ p q) (tail-in c) in
       record { long = rw e l; code = rw e (rw l (omega arith)) }
 
-  in-4 : (lo hi : ℕ) → 0x10000 ≤ c → c < 0x110000 → follow (0xF0 + c / 262144) ≡ ranges 3 lo hi → lo ≤ 0x80 + c / 4096 % 64
+  in-4 : (lo hi : ℕ) → 0x10000 ≤ c → c < 0x110000 → followers (0xF0 + c / 262144) ≡ ranges 3 lo hi → lo ≤ 0x80 + c / 4096 % 64
       → 0x80 + c / 4096 % 64 ≤ hi → Encoded c s
   unfolding encode codeOf codeBy
   in-4 lo hi h k f p q =
@@ -98,7 +98,7 @@ module _ (c : ℕ) (s : List ℕ) where
       record { long = rw e l; code = rw e (rw l (code-of-4 c k)) }
 
   enc-3 : 0x800 ≤ c → c < 0x10000 → Scalar c → Encoded c s
-  unfolding follow followIn ranges
+  unfolding followers followIn ranges
   enc-3 h k sc = by (ltb c 0x1000) refl (ltb c 0xD000) refl (ltb c 0xE000) refl
     where
       by : (t : Bool) → ltb c 0x1000 ≡ t → (u : Bool) → ltb c 0xD000 ≡ u → (v : Bool) → ltb c 0xE000 ≡ v → Encoded c s
@@ -123,7 +123,7 @@ module _ (c : ℕ) (s : List ℕ) where
           in-3 0x80 0xBF h k lead (omega arith) (omega arith)
 
   enc-4 : 0x10000 ≤ c → c < 0x110000 → Encoded c s
-  unfolding follow followIn ranges
+  unfolding followers followIn ranges
   enc-4 h k = by (ltb c 0x40000) refl (ltb c 0x100000) refl
     where
       by : (t : Bool) → ltb c 0x40000 ≡ t → (u : Bool) → ltb c 0x100000 ≡ u → Encoded c s

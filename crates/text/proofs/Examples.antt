@@ -3,7 +3,7 @@ use mathlib.Core.Path.{_≡_, refl}
 use mathlib.Core.List.{[], _∷_}
 use lib.ListN.{replicate}
 use Rattle.text.specs.Scan.{scan}
-use Rattle.text.specs.Utf8.{upTo, seqLen, after, covers, follow, followIn}
+use Rattle.text.specs.Utf8.{upTo, seqLen, after, covers, followers, followIn}
 use Rattle.text.specs.Find.{seek, begins, indexOf2}
 use Rattle.text.specs.Trim.{trimStart, trimEnd, startLen, endLen, trimmed}
 use Rattle.text.specs.Chars.{chars, charsFrom, codeOf, codeBy, moreBy, more}
@@ -23,7 +23,7 @@ Utf8s =
     × (upTo (replicate 4096 0x61) ≡ 4096)
 
 pub utf8s : Utf8s
-unfolding upTo scan seqLen after covers follow followIn
+unfolding upTo scan seqLen after covers followers followIn
 utf8s = (refl, refl, refl, refl, refl, refl)
 
 -- U+3000 a U+0085 tab; White_Space alone
@@ -36,7 +36,7 @@ Trims =
 
 pub trims : Trims
 unfolding trimmed trimStart trimEnd startLen endLen chars charsFrom isWhite inSome codeOf
-    codeBy more moreBy seqLen after covers follow followIn
+    codeBy more moreBy seqLen after covers followers followIn
 trims = (refl, refl, refl, refl)
 
 -- lines; order; the first "//"

@@ -11,7 +11,7 @@ use borrow.Author.Tests.{ne-eqb}
 use Rattle.refusal.specs.Pick.{pick, both}
 use Rattle.text.specs.White.{isWhite}
 use Rattle.text.specs.Trim.{startLen, endLen, trimStart, trimEnd, started, ended, trimOf}
-use Rattle.text.specs.Encode.{encode, encodeAll, keep, dropEnd, takeWhile, dropStart, Scalars, empty, point}
+use Rattle.text.specs.Encode.{encode, encodeAll, unlessLast, dropEnd, takeWhile, dropStart, Scalars, empty, point}
 use Rattle.text.proofs.EncodeLaws.{nonempty, charOf, chars-all}
 
 size : (c : ℕ) → suc (length (encode c) - 1) ≡ length (encode c)
@@ -28,12 +28,12 @@ start-map (c ∷ cs) = by (isWhite c) (start-map cs)
     by false ih = refl
 
 end-map : (cs : List ℕ) → endLen (map charOf cs) ≡ length (encodeAll (dropEnd isWhite cs))
-unfolding endLen dropEnd encodeAll keep
+unfolding endLen dropEnd encodeAll unlessLast
 end-map [] = refl
 end-map (c ∷ cs) = by (isWhite c) (endLen (map charOf cs)) (dropEnd isWhite cs) (end-map cs)
   where
     by : (t : Bool) (n : ℕ) (ds : List ℕ) → n ≡ length (encodeAll ds)
-        → pick (both t (eqb n 0)) 0 (suc (length (encode c) - 1) + n) ≡ length (encodeAll (keep t c ds))
+        → pick (both t (eqb n 0)) 0 (suc (length (encode c) - 1) + n) ≡ length (encodeAll (unlessLast t c ds))
     by true n [] ih = rw ih
     by true n (d ∷ ds) ih =
         let some : n ≡ 0 → ⊥ = λ z. omega (arith, z, ih, nonempty d, length-append (encode d) (encodeAll ds)) in
@@ -87,12 +87,12 @@ outEnd p [] = []
 outEnd p (c ∷ cs) = out (p c) c (dropEnd p cs) (outEnd p cs)
 
 end-split : (p : ℕ → Bool) (cs : List ℕ) → cs ≡ dropEnd p cs ++ outEnd p cs
-unfolding dropEnd outEnd keep out
+unfolding dropEnd outEnd unlessLast out
 end-split p [] = refl
 end-split p (c ∷ cs) = by (p c) (dropEnd p cs) (end-split p cs)
   where
     by : (t : Bool) (ds : List ℕ) → cs ≡ ds ++ outEnd p cs
-        → _≡_ {A = List ℕ} (c ∷ cs) (keep t c ds ++ out t c ds (outEnd p cs))
+        → _≡_ {A = List ℕ} (c ∷ cs) (unlessLast t c ds ++ out t c ds (outEnd p cs))
     by true [] e = ap (λ (l : List ℕ). c ∷ l) e
     by true (d ∷ ds) e = ap (λ (l : List ℕ). c ∷ l) e
     by false [] e = ap (λ (l : List ℕ). c ∷ l) e

@@ -14,7 +14,7 @@ use borrow.Author.Tests.{lt-ltb, lt-leb, leb-true}
 use Rattle.refusal.specs.Pick.{pick, both, within}
 use Rattle.text.specs.Scan.{scan}
 use Rattle.text.specs.Ranges.{Range, _to_, inRange}
-use Rattle.text.specs.Utf8.{Row, row, Follow, none, these, table, followIn, follow, covers, after, seqLen, upTo}
+use Rattle.text.specs.Utf8.{Utf8Row, row, Follow, none, these, utf8Table, followIn, followers, covers, after, seqLen, upTo}
 use Rattle.text.specs.Chars.{more, codeBy, codeOf, moreBy, Char, char, charsFrom, chars}
 use Rattle.text.proofs.Utf8Laws.{seq-long, seq-ascii}
 use Rattle.text.proofs.CharLaws.{bytes-of, chars-bytes}
@@ -25,7 +25,7 @@ unfoldable tails : List Range → Bool
 tails [] = true
 tails ((lo to hi) ∷ rs) = both (both (leb 0x80 lo) (leb hi 0xBF)) (tails rs)
 
-unfoldable tailRows : List Row → Bool
+unfoldable tailRows : List Utf8Row → Bool
 tailRows [] = true
 tailRows (row r rs ∷ rows) = both (tails rs) (tailRows rows)
 
@@ -33,7 +33,7 @@ unfoldable tailFollow : Follow → Bool
 tailFollow none = true
 tailFollow (these rs) = tails rs
 
-rows-tail : (rows : List Row) (a : ℕ) → tailRows rows ≡ true → tailFollow (followIn rows a) ≡ true
+rows-tail : (rows : List Utf8Row) (a : ℕ) → tailRows rows ≡ true → tailFollow (followIn rows a) ≡ true
 unfolding tailRows tailFollow followIn
 rows-tail [] a e = refl
 rows-tail (row r rs ∷ rows) a e = by (inRange r a) (rows-tail rows a (both-two (tails rs) _ e))
@@ -42,9 +42,9 @@ rows-tail (row r rs ∷ rows) a e = by (inRange r a) (rows-tail rows a (both-two
     by true ih = both-one (tails rs) (tailRows rows) e
     by false ih = ih
 
-follow-tail : (a : ℕ) → tailFollow (follow a) ≡ true
-unfolding follow table tailRows tails
-follow-tail a = rows-tail table a refl
+follow-tail : (a : ℕ) → tailFollow (followers a) ≡ true
+unfolding followers utf8Table tailRows tails
+follow-tail a = rows-tail utf8Table a refl
 
 -- a byte that is none of those begins a character, whatever stands before it
 abbrev pub Starts : ℕ → Type 0
@@ -77,7 +77,7 @@ after-start (these rs) s x t e h = rw (covers-start rs s x t e h)
 
 seq-start : (y : ℕ) (s : List ℕ) (x : ℕ) (t : List ℕ) → Starts x → seqLen (y ∷ (s ++ x ∷ t)) ≡ seqLen (y ∷ s)
 unfolding seqLen
-seq-start y s x t h = after-start (follow y) s x t (follow-tail y) h
+seq-start y s x t h = after-start (followers y) s x t (follow-tail y) h
 
 covers-less : (rs : List Range) (a b : List ℕ) → covers rs (a ++ b) ≡ false → covers rs a ≡ false
 unfolding covers
@@ -110,7 +110,7 @@ after-cut (these rs) a b h = by (covers rs (a ++ b)) refl h
 
 seq-cut : (y : ℕ) (a b : List ℕ) → more (y ∷ (a ++ b)) ≤ length a → seqLen (y ∷ (a ++ b)) ≡ seqLen (y ∷ a)
 unfolding seqLen more
-seq-cut y a b h = after-cut (follow y) a b h
+seq-cut y a b h = after-cut (followers y) a b h
 
 code-more : (k : ℕ) (a b : List ℕ) → k ≤ length a → codeBy k (a ++ b) ≡ codeBy k a
 unfolding codeBy

@@ -10,7 +10,7 @@ use Rattle.text.specs.Walk.{Turn, stop, go, walk}
 use Rattle.text.proofs.Laws.{left-next, left-none}
 
 module _ {S R : Type 0} (f : S → ℕ → List ℕ → Turn S R) (done : S → ℕ → R) where
-  walk-skip : (st : S) (at k : ℕ) (s : List ℕ) → k ≤ length s → walk f done st at k s ≡ walk f done st (at + k) 0 (drop k s)
+  pub walk-skip : (st : S) (at k : ℕ) (s : List ℕ) → k ≤ length s → walk f done st at k s ≡ walk f done st (at + k) 0 (drop k s)
   unfolding walk
   walk-skip st at zero s h = rw add-zero
   walk-skip st at (suc k) [] h = absurd (not-suc-le-zero h)

@@ -30,16 +30,16 @@ encodeAll (c ∷ cs) = encode c ++ encodeAll cs
 
 -- ---- code points at the ends of a text
 -- c before cs, unless it is to go and nothing stands after it
-unfoldable pub keep : Bool → ℕ → List ℕ → List ℕ
-keep true c [] = []
-keep true c (d ∷ ds) = c ∷ d ∷ ds
-keep false c [] = c ∷ []
-keep false c (d ∷ ds) = c ∷ d ∷ ds
+unfoldable pub unlessLast : Bool → ℕ → List ℕ → List ℕ
+unlessLast true c [] = []
+unlessLast true c (d ∷ ds) = c ∷ d ∷ ds
+unlessLast false c [] = c ∷ []
+unlessLast false c (d ∷ ds) = c ∷ d ∷ ds
 
 -- without the code points at the end that pass the test
 unfoldable pub dropEnd : (ℕ → Bool) → List ℕ → List ℕ
 dropEnd p [] = []
-dropEnd p (c ∷ cs) = keep (p c) c (dropEnd p cs)
+dropEnd p (c ∷ cs) = unlessLast (p c) c (dropEnd p cs)
 
 -- those at the front that pass the test
 unfoldable pub takeWhile : (ℕ → Bool) → List ℕ → List ℕ

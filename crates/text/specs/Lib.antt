@@ -1,4 +1,4 @@
--- What the clauses of src/ cite.
+-- What the clauses of src/ cite, and what the definitions are held to (Claims).
 pub mod Scan
 pub mod Walk
 pub mod Find
@@ -12,3 +12,6 @@ pub mod White
 pub mod Chars
 pub mod Trim
 pub mod Steps
+pub mod Whole
+pub mod Piece
+pub mod Claims

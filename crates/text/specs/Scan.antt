@@ -1,4 +1,4 @@
--- For the definitions: how far whole steps go into a list. Assumes nothing.
+-- For the definitions: how far whole steps go into a list; Claims says it without this text (`ScanUnfolds`). Assumes nothing.
 use mathlib.Core.List.{List, [], _∷_}
 use Prim.Native.Nat.{ℕ, zero, suc}
 

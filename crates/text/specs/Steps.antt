@@ -9,12 +9,12 @@ use Rattle.text.specs.declared.utf8.Seq.{Seq}
 use Rattle.text.specs.declared.utf8.Seq.the-variants.{Next, Bad}
 
 -- the step at `at`: past the sequence there, or Bad
-unfoldable pub stepOf : ℕ → ℕ → Seq
-stepOf at zero = Bad
-stepOf at (suc k) = Next (at + suc k)
+unfoldable pub sequenceOf : ℕ → ℕ → Seq
+sequenceOf at zero = Bad
+sequenceOf at (suc k) = Next (at + suc k)
 
 unfoldable pub stepAt : List ℕ → ℕ → Seq
-stepAt s at = stepOf at (seqLen (drop at s))
+stepAt s at = sequenceOf at (seqLen (drop at s))
 
 -- n is within s, and what is left at `at` is as long well formed as if n had been reached
 pub record Went (s : List ℕ) (at n : ℕ) : Type 0 where

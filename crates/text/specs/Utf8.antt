@@ -8,14 +8,14 @@ use Rattle.text.specs.Scan.{scan}
 use Rattle.text.specs.Ranges.{Range, _to_, inRange}
 
 -- a row of the table: the range of the first byte, and those of the bytes after it
-pub data Row : Type 0 where
-  row : Range → List Range → Row
+pub data Utf8Row : Type 0 where
+  row : Range → List Range → Utf8Row
 
 abbrev pub tail : Range
 tail = 0x80 to 0xBF
 
-unfoldable pub table : List Row
-table =
+unfoldable pub utf8Table : List Utf8Row
+utf8Table =
     row (0x00 to 0x7F) []
     ∷ row (0xC2 to 0xDF) (tail ∷ [])
     ∷ row (0xE0 to 0xE0) (0xA0 to 0xBF ∷ tail ∷ [])
@@ -32,13 +32,13 @@ pub data Follow : Type 0 where
   none : Follow
   these : List Range → Follow
 
-unfoldable pub followIn : List Row → ℕ → Follow
+unfoldable pub followIn : List Utf8Row → ℕ → Follow
 followIn [] a = none
 followIn (row r rs ∷ rows) a = pick (inRange r a) (these rs) (followIn rows a)
 
-unfoldable pub follow : ℕ → Follow
-unfolding table
-follow a = followIn table a
+unfoldable pub followers : ℕ → Follow
+unfolding utf8Table
+followers a = followIn utf8Table a
 
 -- the bytes at the front of s lie in the ranges, one after the other
 unfoldable pub covers : List Range → List ℕ → Bool
@@ -53,7 +53,7 @@ after (these rs) s = pick (covers rs s) (suc (length rs)) zero
 -- the length of the well-formed sequence at the front of s, 0 where there is none
 unfoldable pub seqLen : List ℕ → ℕ
 seqLen [] = zero
-seqLen (a ∷ s) = after (follow a) s
+seqLen (a ∷ s) = after (followers a) s
 
 -- the number of bytes before the first ill-formed sequence: all of them where s is well formed
 unfoldable pub upTo : List ℕ → ℕ

@@ -1,4 +1,5 @@
--- For the definitions: a reader that goes over a list in steps, with a state, to an answer. Assumes nothing.
+-- For the definitions: a reader that goes over a list in steps, with a state, to an answer; Claims says what it does (`WalkUnfolds`).
+-- Assumes nothing.
 use mathlib.Core.List.{List, [], _∷_}
 use Prim.Native.Nat.{ℕ, zero, suc}
 

@@ -18,6 +18,7 @@ use Rattle.refusal.specs.declared.Refusal.{Refusal}
 use Rattle.refusal.proofs.Following.{never}
 use Rattle.text.proofs.Laws.{left-next, left-none}
 use Rattle.table.specs.Table.{capacityOf}
+use Rattle.table.specs.Shape.{limit, capacityIn}
 use Rattle.verdicts.specs.Evaluate.{howMany, verdictFor, violates, bits, members, firsts, sevenOf, outcomeBy, outcome, firstPast}
 use Rattle.verdicts.specs.Evaluate.{domainsTest, evaluated, noVerdict, EvaluatedAs, compliant, acceptedAs}
 use Rattle.policy.specs.declared.Policy.{Policy}
@@ -55,10 +56,10 @@ past-small (x ∷ ns) i h = by (ltb 6 x) refl i h (past-small ns)
     by false q (suc i) h ih = ih i (omega arith)
 
 -- ---- what test_domains answers, and what is known where it accepts
-module _ (ns : List ℕ) (n room : ℕ) (is : room ≡ capacityOf (length ns) 1 1024) where
-  room-is : room ≡ min (length ns) 1024
+module _ (ns : List ℕ) (n room : ℕ) (is : room ≡ capacityIn 7 (length ns)) where
+  room-is : room ≡ min (length ns) (limit 7)
   unfolding capacityOf
-  room-is = is ∙ ap (λ (k : ℕ). min k 1024) (div-one (length ns))
+  room-is = is ∙ ap (λ (k : ℕ). min k (limit 7)) (div-one (length ns))
 
   pub test-room : room < n → refused 15 room ≡ domainsTest ns n
   unfolding domainsTest
@@ -66,7 +67,7 @@ module _ (ns : List ℕ) (n room : ℕ) (is : room ≡ capacityOf (length ns) 1 
 
   module _ (fits : n ≤ room) where
     pub room-fits : n ≤ length ns
-    room-fits = omega (arith, room-is, min-le-left (length ns) 1024)
+    room-fits = omega (arith, room-is, min-le-left (length ns) (limit 7))
 
     module _ (row : ℕ) (at : row ≡ firstPast (take n ns)) where
       pub test-row : row < n → refused 15 row ≡ domainsTest ns n
@@ -83,18 +84,18 @@ pub record Domains (ns : List ℕ) (n : ℕ) : Type 0 where
 
 pub domains-good : (ns : List ℕ) (n : ℕ) → domainsTest ns n ≡ accepted tt → Domains ns n
 unfolding domainsTest
-domains-good ns n e = by (ltb (min (length ns) 1024) n) refl (ltb (firstPast (take n ns)) n) refl e
+domains-good ns n e = by (ltb (min (length ns) (limit 7)) n) refl (ltb (firstPast (take n ns)) n) refl e
   where
-    by : (t : Bool) → ltb (min (length ns) 1024) n ≡ t → (u : Bool) → ltb (firstPast (take n ns)) n ≡ u
+    by : (t : Bool) → ltb (min (length ns) (limit 7)) n ≡ t → (u : Bool) → ltb (firstPast (take n ns)) n ≡ u
         → _≡_ {A = Said (Unit {0})}
-        (pick t (refused 15 (min (length ns) 1024)) (pick u (refused 15 (firstPast (take n ns))) (accepted tt))) (accepted tt)
+        (pick t (refused 15 (min (length ns) (limit 7))) (pick u (refused 15 (firstPast (take n ns))) (accepted tt))) (accepted tt)
         → Domains ns n
     by true p u q e = absurd (never e)
     by false p true q e = absurd (never e)
     by false p false q e =
         let k = ltb-false (firstPast (take n ns)) n q in
         record {
-          inside = omega (arith, min-le-left (length ns) 1024, ltb-false (min (length ns) 1024) n p);
+          inside = omega (arith, min-le-left (length ns) (limit 7), ltb-false (min (length ns) (limit 7)) n p);
           small = λ i h. rw (getD-take n ns i 0 h) at (past-small (take n ns) i (omega arith));
         }
 

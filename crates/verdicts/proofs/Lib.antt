@@ -2,3 +2,4 @@
 pub mod MemberLaws
 pub mod EvalLaws
 pub mod Known
+pub mod Walking

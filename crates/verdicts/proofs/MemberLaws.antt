@@ -11,17 +11,18 @@ use lib.Count.{ones, onesIn, ones-cat}
 use lib.ListN.{length, getD, length-append}
 use lib.Pow.{pow-lt}
 use Rattle.bits.proofs.Masks.{or-fits}
-use Rattle.verdicts.specs.Evaluate.{one, bits, members, firsts}
+use Rattle.refusal.specs.Pick.{oneIf}
+use Rattle.verdicts.specs.Evaluate.{bits, members, firsts}
 
 -- one more flag at the end
-bits-snoc : (k : ℕ) (bs : List Bool) (b : Bool) → bits k (bs ++ b ∷ []) ≡ bits k bs + one b * 2 ^ (k + length bs)
+bits-snoc : (k : ℕ) (bs : List Bool) (b : Bool) → bits k (bs ++ b ∷ []) ≡ bits k bs + oneIf b * 2 ^ (k + length bs)
 unfolding bits
 bits-snoc k [] b = rw (add-zero k) (omega arith)
 bits-snoc k (c ∷ bs) b =
     let z : suc k + length bs ≡ k + suc (length bs) = omega arith in
     rw (bits-snoc (suc k) bs b, z) (omega arith)
 
-members-snoc : (bs : List Bool) (b : Bool) → members (bs ++ b ∷ []) ≡ members bs + one b
+members-snoc : (bs : List Bool) (b : Bool) → members (bs ++ b ∷ []) ≡ members bs + oneIf b
 unfolding members
 members-snoc [] b = omega arith
 members-snoc (c ∷ bs) b = rw (members-snoc bs b) (omega arith)
@@ -51,31 +52,31 @@ pub set-none : (flags : List Bool) → Set flags 0 0
 unfolding bits members firsts
 set-none flags = record { is = refl; low = omega arith; many = unfold ones onesIn in refl }
 
-one-ones : (b : Bool) → ones (one b) ≡ one b
+one-ones : (b : Bool) → ones (oneIf b) ≡ oneIf b
 unfolding ones onesIn
 one-ones true = refl
 one-ones false = refl
 
-one-le : (b : Bool) → one b ≤ 1
+one-le : (b : Bool) → oneIf b ≤ 1
 one-le true = omega arith
 one-le false = omega arith
 
-room : (s d : ℕ) (b : Bool) → s < 2 ^ d → s + one b * 2 ^ d < 2 ^ (d + 1)
+room : (s d : ℕ) (b : Bool) → s < 2 ^ d → s + oneIf b * 2 ^ d < 2 ^ (d + 1)
 room s d true h = let z : 2 ^ (d + 1) ≡ 2 ^ d * 2 = ap (λ (k : ℕ). 2 ^ k) (add-one d) ∙ pow-suc 2 d in rw z (omega arith)
 room s d false h = let z : 2 ^ (d + 1) ≡ 2 ^ d * 2 = ap (λ (k : ℕ). 2 ^ k) (add-one d) ∙ pow-suc 2 d in rw z (omega arith)
 
-pub set-next : (flags : List Bool) (d s t : ℕ) (b : Bool) → b ≡ getD flags d false → Set flags d s → t ≡ s + one b * 2 ^ d
+pub set-next : (flags : List Bool) (d s t : ℕ) (b : Bool) → b ≡ getD flags d false → Set flags d s → t ≡ s + oneIf b * 2 ^ d
     → Set flags (d + 1) t
 set-next flags d s t b e f q =
     let k : firsts (d + 1) flags ≡ firsts d flags ++ b ∷ [] = ap (λ (n : ℕ). firsts n flags) (add-one d) ∙ firsts-next d flags
     ∙ ap (λ (x : Bool). firsts d flags ++ x ∷ []) (sym e) in
     let l : length (firsts d flags) ≡ d = firsts-long d flags in
     let z : 0 + length (firsts d flags) ≡ d = omega arith in
-    let m : bits 0 (firsts (d + 1) flags) ≡ bits 0 (firsts d flags) + one b * 2 ^ d = ap (bits 0) k ∙ bits-snoc 0 (firsts d flags) b
-    ∙ ap (λ (n : ℕ). bits 0 (firsts d flags) + one b * 2 ^ n) z in
-    let c : ones t ≡ ones (one b) + ones s = ap ones (q ∙ add-comm s (one b * 2 ^ d)) ∙ ones-cat d (one b) s (f .low) in
+    let m : bits 0 (firsts (d + 1) flags) ≡ bits 0 (firsts d flags) + oneIf b * 2 ^ d = ap (bits 0) k ∙ bits-snoc 0 (firsts d flags) b
+    ∙ ap (λ (n : ℕ). bits 0 (firsts d flags) + oneIf b * 2 ^ n) z in
+    let c : ones t ≡ ones (oneIf b) + ones s = ap ones (q ∙ add-comm s (oneIf b * 2 ^ d)) ∙ ones-cat d (oneIf b) s (f .low) in
     record {
-      is = q ∙ ap (λ (n : ℕ). n + one b * 2 ^ d) (f .is) ∙ sym m;
+      is = q ∙ ap (λ (n : ℕ). n + oneIf b * 2 ^ d) (f .is) ∙ sym m;
       low = rw q (room s d b (f .low));
       many = c ∙ (let x = one-ones b in let y = f .many in let w = ap members k ∙ members-snoc (firsts d flags) b in omega arith);
     }
@@ -85,15 +86,15 @@ bits-up : (k : ℕ) (bs : List Bool) → bits (suc k) bs ≡ bits k bs * 2
 unfolding bits
 bits-up k [] = refl
 bits-up k (b ∷ bs) =
-    let z : one b * (2 ^ k * 2) ≡ one b * 2 ^ k * 2 = sym (mul-assoc (one b) (2 ^ k) 2) in
+    let z : oneIf b * (2 ^ k * 2) ≡ oneIf b * 2 ^ k * 2 = sym (mul-assoc (oneIf b) (2 ^ k) 2) in
     rw (bits-up (suc k) bs, pow-suc 2 k) (omega arith)
 
 pub ones-bits : (bs : List Bool) → ones (bits 0 bs) ≡ members bs
 unfolding bits members
 ones-bits [] = unfold ones onesIn in refl
 ones-bits (b ∷ bs) =
-    let e : one b * 2 ^ 0 + bits 1 bs ≡ bits 0 bs * 2 ^ 1 + one b = omega (arith, bits-up 0 bs) in
-    ap ones e ∙ ones-cat 1 (bits 0 bs) (one b) (omega (arith, one-le b)) ∙ omega (arith, one-ones b, ones-bits bs)
+    let e : oneIf b * 2 ^ 0 + bits 1 bs ≡ bits 0 bs * 2 ^ 1 + oneIf b = omega (arith, bits-up 0 bs) in
+    ap ones e ∙ ones-cat 1 (bits 0 bs) (oneIf b) (omega (arith, one-le b)) ∙ omega (arith, one-ones b, ones-bits bs)
 
 pub firsts-most : (n : ℕ) (fs : List Bool) → members (firsts n fs) ≤ n
 unfolding members firsts

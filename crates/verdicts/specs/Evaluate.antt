@@ -5,10 +5,11 @@ use mathlib.Core.List.{List, [], _∷_, _++_, map}
 use Prim.Native.Nat.{ℕ, zero, suc, _+_, _*_, _^_, min}
 use lib.Dec.{eqb, ltb}
 use lib.ListN.{length, take, getD}
-use Rattle.refusal.specs.Pick.{pick, both}
+use Rattle.refusal.specs.Pick.{pick, both, oneIf}
 use Rattle.refusal.specs.Said.{Said, accepted, refused, follow, saidAnswer}
 use Rattle.refusal.specs.declared.Answer.{Answer}
-use Rattle.pieces.specs.Whole.{verdictOf}
+use Rattle.text.specs.Whole.{withoutValue}
+use Rattle.table.specs.Shape.{limit}
 use Rattle.policy.specs.Eight.{slotOf}
 use Rattle.policy.specs.declared.Policy.{Policy}
 use Rattle.policy.specs.declared.Slot.{Slot}
@@ -18,15 +19,15 @@ use Rattle.verdicts.specs.declared.Verdict.{Verdict}
 use Rattle.verdicts.specs.declared.Evaluation.{Evaluation}
 
 -- the rule that holds for a slot: its own, or the default with no list
-abbrev pub ruled : Bool → Slot → Rule
-ruled t x = record { allow = t; from = x .from; len = x .len }
+abbrev pub slotRule : Bool → Slot → Rule
+slotRule t x = record { allow = t; from = x .from; len = x .len }
 
 unfoldable pub effectiveOf : Policy → ℕ → Rule
 effectiveOf p d =
     elim (slotOf p d .stance) [
       | None ↦ record { allow = p .permit; from = 0; len = 0 }
-      | Allow ↦ ruled true (slotOf p d)
-      | Deny ↦ ruled false (slotOf p d)
+      | Allow ↦ slotRule true (slotOf p d)
+      | Deny ↦ slotRule false (slotOf p d)
     ]
 
 -- how many of the numbers are d
@@ -43,20 +44,15 @@ abbrev pub violates : Verdict → Bool
 violates v = both (v .required) (not (v .allowed))
 
 -- ---- sets of domains
--- 1 for a member
-abbrev pub one : Bool → ℕ
-one true = 1
-one false = 0
-
 -- bit d is 1 where d is a member, from bit k on
 unfoldable pub bits : ℕ → List Bool → ℕ
 bits k [] = 0
-bits k (b ∷ bs) = one b * 2 ^ k + bits (suc k) bs
+bits k (b ∷ bs) = oneIf b * 2 ^ k + bits (suc k) bs
 
 -- how many members
 unfoldable pub members : List Bool → ℕ
 members [] = 0
-members (b ∷ bs) = one b + members bs
+members (b ∷ bs) = oneIf b + members bs
 
 -- ---- the seven verdicts, the violating domains as a set, and how many they are
 pub record Outcome : Type 0 where
@@ -80,7 +76,7 @@ firstPast (x ∷ ns) = pick (ltb 6 x) zero (suc (firstPast ns))
 
 unfoldable pub domainsTest : List ℕ → ℕ → Said (Unit {0})
 domainsTest ns n =
-    pick (ltb (min (length ns) 1024) n) (refused 15 (min (length ns) 1024))
+    pick (ltb (min (length ns) (limit 7)) n) (refused 15 (min (length ns) (limit 7)))
     (pick (ltb (firstPast (take n ns)) n) (refused 15 (firstPast (take n ns)))
     (accepted tt))
 
@@ -99,7 +95,7 @@ outcomeOf (accepted o) = o
 outcomeOf (refused n p) = noOutcome
 
 pub record EvaluatedAs (d : Said Outcome) (r : Evaluation) : Type 0 where
-  pub answer : saidAnswer (r .answer) ≡ verdictOf d
+  pub answer : saidAnswer (r .answer) ≡ withoutValue d
   pub verdicts : r .verdicts ≡ outcomeOf d .verdicts
   pub set : r .set ≡ outcomeOf d .set
   pub count : r .count ≡ outcomeOf d .count

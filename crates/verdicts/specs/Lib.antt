@@ -1,2 +1,4 @@
 -- What the promises cite.
 pub mod Evaluate
+pub mod Records
+pub mod Tally

@@ -1,18 +1,23 @@
 // Required domains held against a policy: of the original's policy.rs.
+pub mod records;
+
 use domains::Domain;
 use domains::domain_number;
 use policy::Policy;
 use policy::Stance;
 use refusal::Answer;
 use refusal::Refusal;
+use table::shape::MAX_REQUIREMENTS;
+use table::shape::REQUIREMENT_WIDTH;
 ghost use mathlib.Core.Path.{_≡_};
 ghost use mathlib.Core.List.{map};
 ghost use Prim.Native.Nat.{ℕ, _+_, _*_, _^_, _<_, _≤_};
 ghost use lib.Count.{ones};
 ghost use lib.ListN.{length, take, getD};
 ghost use Rattle.refusal.specs.Said.{accepted, refusedBy, saidAnswer};
-ghost use Rattle.domains.specs.Domain.{numberOf};
-ghost use Rattle.verdicts.specs.Evaluate.{effectiveOf, verdictFor, violates, compliant, howMany, sevenOf, one, bits, members, firsts};
+ghost use Rattle.domains.specs.Domain.{domainNumber};
+ghost use Rattle.refusal.specs.Pick.{oneIf};
+ghost use Rattle.verdicts.specs.Evaluate.{effectiveOf, verdictFor, violates, compliant, howMany, sevenOf, bits, members, firsts};
 ghost use Rattle.verdicts.specs.Evaluate.{firstPast, domainsTest, outcomeBy, outcome, evaluated, EvaluatedAs};
 
 // The rule that holds for a domain: whether it is allowed, and the range of its tokens.
@@ -39,7 +44,7 @@ pub struct Evaluation {
 
 // The rule for a domain, or the default, which has no tokens.
 pub fn effective(p: Policy, d: Domain) -> Rule
-    ensures { λ r. ⌜ r ≡ effectiveOf p (numberOf d) ⌝ }
+    ensures { λ r. ⌜ r ≡ effectiveOf p (domainNumber d) ⌝ }
 {
     let n = domain_number(d);
     rule_at(p, n)
@@ -111,7 +116,7 @@ fn first_past(domains: &[usize], n: usize) -> usize
 fn test_domains(domains: &[usize], n: usize) -> Answer
     ensures { λ r. ⌜ saidAnswer r ≡ domainsTest (now (domains .entry)) n ⌝ }
 {
-    let room = table::capacity(domains.len(), 1, 1024);
+    let room = table::capacity(domains.len(), REQUIREMENT_WIDTH, MAX_REQUIREMENTS);
     if room < n {
         return Answer::Refused(Refusal::BadTable(room));
     }
@@ -167,7 +172,7 @@ fn verdicts_of(p: Policy, many: [usize; 7]) -> [Verdict; 7]
 // d into the set, where v says so; the set has no member from d on.
 fn with_bit(set: u32, d: u32, v: bool) -> u32
     requires { ⌜ (set < 2 ^ d) × (d < 7) ⌝ }
-    ensures { λ r. ⌜ r ≡ set + one v * 2 ^ d ⌝ }
+    ensures { λ r. ⌜ r ≡ set + oneIf v * 2 ^ d ⌝ }
 {
     if v {
         return set | 1 << d;

@@ -6,16 +6,17 @@ use borrow.Author.Tests.{lt-ltb, le-ltb}
 use lib.ListN.{length}
 use Rattle.refusal.specs.Said.{Said, accepted, refused, refusedBy, follow, Got, got, onward}
 use Rattle.refusal.specs.declared.Refusal.{Refusal}
-use Rattle.table.specs.Told.{Told}
+use Rattle.refusal.specs.Sizes.{fileLimit}
+use Rattle.table.specs.Told.{ReaderTells}
 use Rattle.table.specs.Walking.{walkFrom}
 use Rattle.table.proofs.Telling.{told-stop, told-got}
 use Rattle.wasm.specs.declared.section.Counts.{Counts}
 use Rattle.wasm.specs.declared.Module.{Module}
-use Rattle.wasm.specs.Module.{Tables, countsOf, Sizes, Lent, Holds, noTables, sectionAt, headerAt, moduleAt, answered, moduleOf}
+use Rattle.wasm.specs.Module.{Tables, countsOf, Sizes, Lent, Holds, noTables, sectionAt, headerAt, moduleAt, moduleCounted, moduleOf}
 use Rattle.wasm.specs.Module.{tablesOf, ModuleIs}
 
 module _ (b : List ℕ) (z : Sizes) where
-  pub module-long : (l : Lent) → 16777216 < length b → Holds l z noTables → ModuleIs (length b) z (moduleAt b z) l (refused 14 0)
+  pub module-long : (l : Lent) → fileLimit < length b → Holds l z noTables → ModuleIs (length b) z (moduleAt b z) l (refused 14 0)
   unfolding moduleAt tablesOf follow
   module-long l h q = rw (lt-ltb _ _ h) (record { answer-is = refl; tables-are = q })
 
@@ -23,7 +24,7 @@ module _ (b : List ℕ) (z : Sizes) where
   unfolding tablesOf follow
   stopped l m p e h = rw e (record { answer-is = refl; tables-are = h })
 
-  module _ (short : length b ≤ 16777216) where
+  module _ (short : length b ≤ fileLimit) where
     pub module-head : (l : Lent) (v w : Refusal) → headerAt b ≡ refusedBy w → v ≡ w → Holds l z noTables
         → ModuleIs (length b) z (moduleAt b z) l (refusedBy v)
     unfolding moduleAt onward
@@ -33,11 +34,11 @@ module _ (b : List ℕ) (z : Sizes) where
         stopped l _ _ x h
 
     module _ (v at : ℕ) (head : headerAt b ≡ accepted (got v at)) (z1 : Sizes) (same : z1 ≡ z) (l : Lent) {a : Said (Got Counts)}
-        (walked : Told countsOf (Holds l z1) (walkFrom (sectionAt b z1) b at noTables) a) where
-      here : Told countsOf (Holds l z) (walkFrom (sectionAt b z) b at noTables) a
-      here = subst (λ (y : Sizes). Told countsOf (Holds l y) (walkFrom (sectionAt b y) b at noTables) a) same walked
+        (walked : ReaderTells countsOf (Holds l z1) (walkFrom (sectionAt b z1) b at noTables) a) where
+      here : ReaderTells countsOf (Holds l z) (walkFrom (sectionAt b z) b at noTables) a
+      here = subst (λ (y : Sizes). ReaderTells countsOf (Holds l y) (walkFrom (sectionAt b y) b at noTables) a) same walked
 
-      pub module-good : (n : Counts) (d : ℕ) (r : Module) → a ≡ accepted (got n d) → r ≡ answered v (length b) n
+      pub module-good : (n : Counts) (d : ℕ) (r : Module) → a ≡ accepted (got n d) → r ≡ moduleCounted v (length b) n
           → ModuleIs (length b) z (moduleAt b z) l (accepted r)
       unfolding moduleAt onward follow moduleOf tablesOf
       module-good n d r q e =
@@ -45,7 +46,7 @@ module _ (b : List ℕ) (z : Sizes) where
           let w : walkFrom (sectionAt b z) b at noTables ≡ accepted (got (o .what) d) = o .is in
           rw (le-ltb _ _ short, head, w) (record {
             answer-is = ap accepted
-                (e ∙ ap (answered v (length b)) (o .value));
+                (e ∙ ap (moduleCounted v (length b)) (o .value));
             tables-are = o .held;
           })
 

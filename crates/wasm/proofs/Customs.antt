@@ -10,15 +10,16 @@ use Rattle.refusal.specs.declared.Part.{Part}
 use Rattle.refusal.proofs.Following.{read-on}
 use Rattle.text.specs.Find.{same}
 use Rattle.table.specs.Table.{laid, cells}
-use Rattle.table.specs.Told.{mapped, Told}
+use Rattle.table.specs.Told.{mapped, ReaderTells}
 use Rattle.table.specs.Walking.{walkFrom}
 use Rattle.table.proofs.Telling.{tell-got, tell-next, tell-after, tell-after-stop}
-use Rattle.leb.specs.Reads.{bytesOf, byteAt, countedAt, nameAt}
+use Rattle.leb.specs.Reads.{partBytes, byteAt, countedAt, nameAt}
 use Rattle.wasm.specs.declared.entry.Symbol.{Symbol}
 use Rattle.wasm.specs.declared.custom.Named.{Named}
 use Rattle.wasm.specs.Entry.{moved}
 use Rattle.wasm.specs.Rows.{symbolCells}
-use Rattle.wasm.specs.Custom.{Names, namedOf, Listed, ListedIn, labelAt, Spoken, customOf, customAt, nameWord, toldBy, subsectionAt}
+use Rattle.wasm.specs.Custom.{Names, namedOf, NamesHeld, CustomHeld, labelAt, CustomSaid, customOf, customAt, nameWord}
+use Rattle.wasm.specs.Custom.{toldBy, subsectionAt}
 
 -- the module's name leaves the functions' names as they are
 label-keeps : (s : List ℕ) (base : ℕ) (t u : Names) (d : ℕ) → labelAt s base t ≡ accepted (got u d) → u .symbols ≡ t .symbols
@@ -38,9 +39,9 @@ label-keeps s base t u d e =
         sym (ap (λ (x : Names). x .symbols) z)
 
 pub told-label : (s : List ℕ) (base : ℕ) (t : Names) (table : List ℕ) (n : ℕ) (a : Said (Got Named))
-    → a ≡ mapped namedOf (labelAt s base t) → Listed table n t
-    → Told namedOf (Listed table n) (labelAt s base t) a
-unfolding Listed
+    → a ≡ mapped namedOf (labelAt s base t) → NamesHeld table n t
+    → ReaderTells namedOf (NamesHeld table n) (labelAt s base t) a
+unfolding NamesHeld
 told-label s base t table n a e h =
     record {
       answer-is = e;
@@ -62,41 +63,42 @@ cut at size b = rw add-sub-cancel-left
 
 -- a subsection whose id and size were read; q is its bytes as the code cut them out
 module _ (s : List ℕ) (base z at : ℕ) (t : Names) (id a next : ℕ) (p : Part) (one : byteAt s at ≡ accepted (got id a))
-    (two : countedAt s a ≡ accepted (got p next)) (q : List ℕ) (is : q ≡ bytesOf s p) (Q : Names → Type 0) {r : Said (Got Named)}
-    (told : Told namedOf Q (toldBy id q (base + p .from) z t) r) where
-  here : Told namedOf Q (toldBy id (bytesOf s p) (base + p .from) z t) r
+    (two : countedAt s a ≡ accepted (got p next)) (q : List ℕ) (is : q ≡ partBytes s p) (Q : Names → Type 0) {r : Said (Got Named)}
+    (told : ReaderTells namedOf Q (toldBy id q (base + p .from) z t) r) where
+  here : ReaderTells namedOf Q (toldBy id (partBytes s p) (base + p .from) z t) r
   here = rw is at told
 
-  pub subsection-stop : {P : Names → Type 0} {m k : ℕ} → r ≡ refused m k → Told namedOf P (subsectionAt s base z at t) (refused m k)
+  pub subsection-stop : {P : Names → Type 0} {m k : ℕ} → r ≡ refused m k → ReaderTells namedOf P (subsectionAt s base z at t) (refused m k)
   unfolding subsectionAt
   subsection-stop e = tell-next _ one (tell-next _ two (tell-after-stop _ here e))
 
-  pub subsection-got : {n : Named} {d : ℕ} → r ≡ accepted (got n d) → Told namedOf Q (subsectionAt s base z at t) (accepted (got n next))
+  pub subsection-got : {n : Named} {d : ℕ} → r ≡ accepted (got n d)
+      → ReaderTells namedOf Q (subsectionAt s base z at t) (accepted (got n next))
   unfolding subsectionAt
   subsection-got e = tell-next _ one (tell-next _ two (tell-after _ here e (λ u x v h. tell-got u next refl v h)))
 
 -- a custom section whose name was read; q is the name's bytes as the code cut them out
 module _ (s : List ℕ) (base z : ℕ) (t : Names) (p : Part) (at : ℕ) (first : nameAt s 0 ≡ accepted (got p at)) (q : List ℕ)
-    (is : q ≡ bytesOf s p) (name : Part) (moves : name ≡ moved base p) where
+    (is : q ≡ partBytes s p) (name : Part) (moves : name ≡ moved base p) where
   module _ (other : same nameWord q ≡ false) where
-    pub custom-plain : (table : List ℕ) (n : Named) → n ≡ namedOf t → Listed table z t
-        → Told customOf (ListedIn table z) (customAt s base z t) (accepted (got (record { name = name; inner = n }) at))
-    unfolding customAt onward customOf Listed ListedIn
+    pub custom-plain : (table : List ℕ) (n : Named) → n ≡ namedOf t → NamesHeld table z t
+        → ReaderTells customOf (CustomHeld table z) (customAt s base z t) (accepted (got (record { name = name; inner = n }) at))
+    unfolding customAt onward customOf NamesHeld CustomHeld
     custom-plain table n e h =
-        let o : same nameWord (bytesOf s p) ≡ false = rw (sym is) other in
+        let o : same nameWord (partBytes s p) ≡ false = rw (sym is) other in
         rw (first, o) (tell-got _ at refl (rw (moves, e)) h)
 
   module _ (name-section : same nameWord q ≡ true) (table : List ℕ) {a : Said (Got Named)}
-      (told : Told namedOf (Listed table z) (walkFrom (subsectionAt s base z) s at t) a) where
-    pub custom-stop : {P : Spoken → Type 0} {m k : ℕ} → a ≡ refused m k → Told customOf P (customAt s base z t) (refused m k)
+      (told : ReaderTells namedOf (NamesHeld table z) (walkFrom (subsectionAt s base z) s at t) a) where
+    pub custom-stop : {P : CustomSaid → Type 0} {m k : ℕ} → a ≡ refused m k → ReaderTells customOf P (customAt s base z t) (refused m k)
     unfolding customAt
     custom-stop e =
-        let o : same nameWord (bytesOf s p) ≡ true = rw (sym is) name-section in
+        let o : same nameWord (partBytes s p) ≡ true = rw (sym is) name-section in
         tell-next _ first (rw o (tell-after-stop _ told e))
 
     pub custom-names : {n : Named} {d : ℕ} → a ≡ accepted (got n d)
-        → Told customOf (ListedIn table z) (customAt s base z t) (accepted (got (record { name = name; inner = n }) d))
-    unfolding customAt customOf Listed ListedIn
+        → ReaderTells customOf (CustomHeld table z) (customAt s base z t) (accepted (got (record { name = name; inner = n }) d))
+    unfolding customAt customOf NamesHeld CustomHeld
     custom-names {d = d} e =
-        let o : same nameWord (bytesOf s p) ≡ true = rw (sym is) name-section in
+        let o : same nameWord (partBytes s p) ≡ true = rw (sym is) name-section in
         tell-next _ first (rw o (tell-after _ told e (λ u x v h. tell-got _ d refl (rw (moves, v)) h)))

@@ -11,12 +11,13 @@ use Rattle.refusal.specs.Pick.{pick}
 use Rattle.refusal.specs.Said.{Said, accepted, refused, Got, got, onward}
 use Rattle.refusal.specs.declared.Part.{Part}
 use Rattle.refusal.proofs.Following.{never}
-use Rattle.table.specs.Table.{Lies, laid, cells, putRow, capacityOf}
-use Rattle.table.specs.Told.{Told, Passed, Ends}
+use Rattle.table.specs.Table.{Lies, laid, cells, putRow}
+use Rattle.table.specs.Shape.{width, limit, capacityIn}
+use Rattle.table.specs.Told.{ReaderTells, Passed, Ends}
 use Rattle.table.proofs.Cells.{room-row}
 use Rattle.table.proofs.Laws.{put-row-laid}
 use Rattle.table.proofs.Telling.{tell-got, tell-stop, tell-next, tell-after, tell-after-stop}
-use Rattle.leb.specs.Reads.{part, bytesOf, byteAt, countedAt}
+use Rattle.leb.specs.Reads.{part, partBytes, byteAt, countedAt}
 use Rattle.wasm.specs.declared.entry.Import.{Import}
 use Rattle.wasm.specs.declared.entry.Export.{Export}
 use Rattle.wasm.specs.declared.section.Section.{Section}
@@ -24,18 +25,18 @@ use Rattle.wasm.specs.declared.section.Counts.{Counts}
 use Rattle.wasm.specs.declared.section.Contents.{Contents}
 use Rattle.wasm.specs.declared.custom.Custom.{Custom}
 use Rattle.wasm.specs.Rows.{importCells, exportCells, symbolCells, importsOf, exportsOf}
-use Rattle.wasm.specs.Custom.{Names, namedOf, customOf, customAt, Listed, ListedIn}
+use Rattle.wasm.specs.Custom.{Names, namedOf, customOf, customAt, NamesHeld, CustomHeld}
 use Rattle.wasm.specs.Module.{sectionCells, Tables, withSection, countsOf, Sizes, Lent, lend, Holds, Inner, contentsOf, SectionsLie}
-use Rattle.wasm.specs.Module.{Inside, InsideOf, plain, contentsAt, addSection, sectionAt, importCount, exportCount, nameCount}
+use Rattle.wasm.specs.Module.{Inside, InsideOf, nameless, contentsAt, addSection, sectionAt, importCount, exportCount, nameCount}
 
 -- ---- contents
 module _ (id : ℕ) (s : List ℕ) (base : ℕ) (z : Sizes) (t : Tables) where
   module _ (is : id ≡ 0) (m : ℕ) (same : z .names ≡ m) (table : List ℕ) {a : Said (Got Custom)}
-      (told : Told customOf (ListedIn table m) (customAt s base m (t .names)) a) where
-    zero-here : Told customOf (ListedIn table (z .names)) (customAt s base (z .names) (t .names)) a
-    zero-here = subst (λ (y : ℕ). Told customOf (ListedIn table y) (customAt s base y (t .names)) a) (sym same) told
+      (told : ReaderTells customOf (CustomHeld table m) (customAt s base m (t .names)) a) where
+    zero-here : ReaderTells customOf (CustomHeld table (z .names)) (customAt s base (z .names) (t .names)) a
+    zero-here = subst (λ (y : ℕ). ReaderTells customOf (CustomHeld table y) (customAt s base y (t .names)) a) (sym same) told
 
-    pub zero-stop : {P : Inner → Type 0} {n p : ℕ} → a ≡ refused n p → Told contentsOf P (contentsAt id s base z t) (refused n p)
+    pub zero-stop : {P : Inner → Type 0} {n p : ℕ} → a ≡ refused n p → ReaderTells contentsOf P (contentsAt id s base z t) (refused n p)
     unfolding contentsAt
     zero-stop e = rw is (tell-after-stop _ zero-here e)
 
@@ -43,27 +44,27 @@ module _ (id : ℕ) (s : List ℕ) (base : ℕ) (z : Sizes) (t : Tables) where
         (z .imports)
         (cells importCells (t .imports))
         → e ≡ laid (z .exports) (cells exportCells (t .exports)) → a ≡ accepted (got u d)
-        → Told contentsOf (InsideOf i e table z) (contentsAt id s base z t)
+        → ReaderTells contentsOf (InsideOf i e table z) (contentsAt id s base z t)
         (accepted (got (record { name = u .name; counts = m }) d))
-    unfolding contentsAt contentsOf countsOf customOf InsideOf ListedIn
+    unfolding contentsAt contentsOf countsOf customOf InsideOf CustomHeld
     zero-got i e n {d = d} g c hi he q =
         rw is
         (tell-after _ zero-here q (λ w x v h.
         tell-got _ d refl (rw (g, c, v)) (record { imports-are = hi; exports-are = he; names-are = h })))
 
   module _ (is : id ≡ 2) (m : ℕ) (same : z .imports ≡ m) (table : List ℕ) {a : Said (Got ℕ)}
-      (told : Told length (Lies importCells m table) (importsOf s base m) a) where
-    two-here : Told length (Lies importCells (z .imports) table) (importsOf s base (z .imports)) a
-    two-here = subst (λ (y : ℕ). Told length (Lies importCells y table) (importsOf s base y) a) (sym same) told
+      (told : ReaderTells length (Lies importCells m table) (importsOf s base m) a) where
+    two-here : ReaderTells length (Lies importCells (z .imports) table) (importsOf s base (z .imports)) a
+    two-here = subst (λ (y : ℕ). ReaderTells length (Lies importCells y table) (importsOf s base y) a) (sym same) told
 
-    pub two-stop : {P : Inner → Type 0} {n p : ℕ} → a ≡ refused n p → Told contentsOf P (contentsAt id s base z t) (refused n p)
+    pub two-stop : {P : Inner → Type 0} {n p : ℕ} → a ≡ refused n p → ReaderTells contentsOf P (contentsAt id s base z t) (refused n p)
     unfolding contentsAt
     two-stop e = rw is (tell-after-stop _ two-here e)
 
     pub two-got : (e f : List ℕ) (n : Counts) {m : Counts} {k d : ℕ} → m ≡ importCount n k → n ≡ countsOf t → e ≡ laid (z .exports)
         (cells exportCells (t .exports))
         → f ≡ laid (z .names) (cells symbolCells (t .names .symbols)) → a ≡ accepted (got k d)
-        → Told contentsOf (InsideOf table e f z) (contentsAt id s base z t)
+        → ReaderTells contentsOf (InsideOf table e f z) (contentsAt id s base z t)
         (accepted (got (record { name = part 0 0; counts = m }) d))
     unfolding contentsAt contentsOf countsOf InsideOf Lies
     two-got e f n {d = d} g c he hf q =
@@ -72,18 +73,18 @@ module _ (id : ℕ) (s : List ℕ) (base : ℕ) (z : Sizes) (t : Tables) where
         tell-got _ d refl (rw (g, c, v)) (record { imports-are = h; exports-are = he; names-are = hf })))
 
   module _ (is : id ≡ 7) (m : ℕ) (same : z .exports ≡ m) (table : List ℕ) {a : Said (Got ℕ)}
-      (told : Told length (Lies exportCells m table) (exportsOf s base m) a) where
-    seven-here : Told length (Lies exportCells (z .exports) table) (exportsOf s base (z .exports)) a
-    seven-here = subst (λ (y : ℕ). Told length (Lies exportCells y table) (exportsOf s base y) a) (sym same) told
+      (told : ReaderTells length (Lies exportCells m table) (exportsOf s base m) a) where
+    seven-here : ReaderTells length (Lies exportCells (z .exports) table) (exportsOf s base (z .exports)) a
+    seven-here = subst (λ (y : ℕ). ReaderTells length (Lies exportCells y table) (exportsOf s base y) a) (sym same) told
 
-    pub seven-stop : {P : Inner → Type 0} {n p : ℕ} → a ≡ refused n p → Told contentsOf P (contentsAt id s base z t) (refused n p)
+    pub seven-stop : {P : Inner → Type 0} {n p : ℕ} → a ≡ refused n p → ReaderTells contentsOf P (contentsAt id s base z t) (refused n p)
     unfolding contentsAt
     seven-stop e = rw is (tell-after-stop _ seven-here e)
 
     pub seven-got : (i f : List ℕ) (n : Counts) {m : Counts} {k d : ℕ} → m ≡ exportCount n k → n ≡ countsOf t → i ≡ laid (z .imports)
         (cells importCells (t .imports))
         → f ≡ laid (z .names) (cells symbolCells (t .names .symbols)) → a ≡ accepted (got k d)
-        → Told contentsOf (InsideOf i table f z) (contentsAt id s base z t)
+        → ReaderTells contentsOf (InsideOf i table f z) (contentsAt id s base z t)
         (accepted (got (record { name = part 0 0; counts = m }) d))
     unfolding contentsAt contentsOf countsOf InsideOf Lies
     seven-got i f n {d = d} g c hi hf q =
@@ -93,7 +94,7 @@ module _ (id : ℕ) (s : List ℕ) (base : ℕ) (z : Sizes) (t : Tables) where
 
   pub other-got : (i e f : List ℕ) (n : Counts) → eqb id 0 ≡ false → eqb id 2 ≡ false → eqb id 7 ≡ false → n ≡ countsOf t
       → Inside i e f z t
-      → Told contentsOf (InsideOf i e f z) (contentsAt id s base z t) (accepted (got (record { name = part 0 0; counts = n }) 0))
+      → ReaderTells contentsOf (InsideOf i e f z) (contentsAt id s base z t) (accepted (got (record { name = part 0 0; counts = n }) 0))
   unfolding contentsAt contentsOf InsideOf
   other-got i e f n a b d c h = rw (a, b, d) (tell-got _ 0 refl (rw c) h)
 
@@ -117,10 +118,10 @@ module _ (id : ℕ) (s : List ℕ) (base : ℕ) (z : Sizes) (t : Tables) where
       kept-one (eqb id 0) (kept-by (customAt s base (z .names) (t .names)) _ (λ v. refl))
       (kept-one (eqb id 2) (kept-by (importsOf s base (z .imports)) _ (λ v. refl))
       (kept-one (eqb id 7) (kept-by (exportsOf s base (z .exports)) _ (λ v. refl))
-      (λ u d e. let k : plain t ≡ u = cc in sym (ap (λ (w : Inner). w .tables .sections) k))))
+      (λ u d e. let k : nameless t ≡ u = cc in sym (ap (λ (w : Inner). w .tables .sections) k))))
 
 -- ---- a section's row
-section-wide : (r : Section) → length (sectionCells r) ≡ 5
+section-wide : (r : Section) → length (sectionCells r) ≡ width 1
 unfolding sectionCells
 section-wide r = refl
 
@@ -129,28 +130,28 @@ module _ (n : ℕ) (row : Section) (next : ℕ) (t : Tables) (k : ℕ) (m : Coun
   unfolding countsOf
   count = e ∙ ap (λ (x : Counts). x .sections) c
 
-  pub take-full : {P : Tables → Type 0} → capacityOf n 5 256 ≤ k → Told countsOf P (addSection n row next t) (refused 13 1)
+  pub take-full : {P : Tables → Type 0} → capacityIn 1 n ≤ k → ReaderTells countsOf P (addSection n row next t) (refused 13 1)
   unfolding addSection
-  take-full h = let f : capacityOf n 5 256 ≤ length (t .sections) = omega (arith, count) in tell-stop (rw (le-ltb _ _ f))
+  take-full h = let f : capacityIn 1 n ≤ length (t .sections) = omega (arith, count) in tell-stop (rw (le-ltb _ _ f))
 
-  pub take-more : (table after : List ℕ) → k < capacityOf n 5 256 → table ≡ laid n (cells sectionCells (t .sections))
+  pub take-more : (table after : List ℕ) → k < capacityIn 1 n → table ≡ laid n (cells sectionCells (t .sections))
       → after ≡ putRow table k (sectionCells row)
-      → Told countsOf (SectionsLie n after) (addSection n row next t)
+      → ReaderTells countsOf (SectionsLie n after) (addSection n row next t)
       (accepted (got (record { sections = k + 1; imports = m .imports; exports = m .exports; named = m .named }) next))
   unfolding addSection countsOf SectionsLie
   take-more table after h q p =
-      let f : length (t .sections) < capacityOf n 5 256 = omega (arith, count) in
+      let f : length (t .sections) < capacityIn 1 n = omega (arith, count) in
       let s : k + 1 ≡ length (t .sections ++ (row ∷ [])) = omega (arith, count, length-append (t .sections) (row ∷ [])) in
       rw (lt-ltb _ _ f) (tell-got _ next refl (rw (s, c)) (
       p ∙ ap (λ (l : List ℕ). putRow l k (sectionCells row)) q
       ∙ ap (λ (i : ℕ). putRow (laid n (cells sectionCells (t .sections))) i (sectionCells row)) count
-      ∙ put-row-laid sectionCells 5 section-wide n (t .sections) row (room-row n 5 256 (length (t .sections)) f)))
+      ∙ put-row-laid sectionCells (width 1) section-wide n (t .sections) row (room-row n (width 1) (limit 1) (length (t .sections)) f)))
 
 -- the row leaves the other tables as they were
 add-keeps : (n : ℕ) (row : Section) (next : ℕ) (t u : Tables) (d : ℕ) → addSection n row next t ≡ accepted (got u d)
     → (u .imports ≡ t .imports) × (u .exports ≡ t .exports) × (u .names ≡ t .names)
 unfolding addSection
-add-keeps n row next t u d e = by (ltb (length (t .sections)) (capacityOf n 5 256)) e where
+add-keeps n row next t u d e = by (ltb (length (t .sections)) (capacityIn 1 n)) e where
   t1 : Tables
   t1 = withSection t row
 
@@ -162,8 +163,8 @@ add-keeps n row next t u d e = by (ltb (length (t .sections)) (capacityOf n 5 25
   by false q = absurd (never q)
 
 held-taken : (z : Sizes) (row : Section) (next : ℕ) (t : Tables) (s i e f : List ℕ) {r : Said (Got Counts)} → Inside i e f z t
-    → Told countsOf (SectionsLie (z .sections) s) (addSection (z .sections) row next t) r
-    → Told countsOf (Holds (lend s i e f) z) (addSection (z .sections) row next t) r
+    → ReaderTells countsOf (SectionsLie (z .sections) s) (addSection (z .sections) row next t) r
+    → ReaderTells countsOf (Holds (lend s i e f) z) (addSection (z .sections) row next t) r
 unfolding SectionsLie
 held-taken z row next t s i e f h told =
     record {
@@ -179,26 +180,26 @@ held-taken z row next t s i e f h told =
 
 -- ---- a section whose id and payload were read
 module _ (b : List ℕ) (z : Sizes) (t : Tables) (at id a next : ℕ) (p : Part) (one : byteAt b at ≡ accepted (got id a))
-    (two : countedAt b a ≡ accepted (got p next)) (payload : List ℕ) (cut : payload ≡ bytesOf b p)
+    (two : countedAt b a ≡ accepted (got p next)) (payload : List ℕ) (cut : payload ≡ partBytes b p)
     (i e f : List ℕ) {r : Said (Got Contents)}
-    (told : Told contentsOf (InsideOf i e f z) (contentsAt id payload (p .from) z t) r) where
-  here : Told contentsOf (InsideOf i e f z) (contentsAt id (bytesOf b p) (p .from) z t) r
+    (told : ReaderTells contentsOf (InsideOf i e f z) (contentsAt id payload (p .from) z t) r) where
+  here : ReaderTells contentsOf (InsideOf i e f z) (contentsAt id (partBytes b p) (p .from) z t) r
   here = rw cut at told
 
-  pub section-stop : {P : Tables → Type 0} {m k : ℕ} → r ≡ refused m k → Told countsOf P (sectionAt b z at t) (refused m k)
+  pub section-stop : {P : Tables → Type 0} {m k : ℕ} → r ≡ refused m k → ReaderTells countsOf P (sectionAt b z at t) (refused m k)
   unfolding sectionAt
   section-stop q = tell-next _ one (tell-next _ two (tell-after-stop _ here q))
 
   pub section-got : (s s1 : List ℕ) (u : Contents) (d : ℕ) {y : Said (Got Counts)} → r ≡ accepted (got u d)
       → s ≡ laid (z .sections) (cells sectionCells (t .sections))
       → ((t1 : Tables) → u .counts ≡ countsOf t1 → s ≡ laid (z .sections) (cells sectionCells (t1 .sections))
-      → Told countsOf (SectionsLie (z .sections) s1) (addSection (z .sections)
+      → ReaderTells countsOf (SectionsLie (z .sections) s1) (addSection (z .sections)
       (record { id = id; from = p .from; size = p .len; name = u .name }) next t1) y)
-      → Told countsOf (Holds (lend s1 i e f) z) (sectionAt b z at t) y
+      → ReaderTells countsOf (Holds (lend s1 i e f) z) (sectionAt b z at t) y
   unfolding sectionAt contentsOf InsideOf
   section-got s s1 u d {y} q h taken =
       tell-next _ one (tell-next _ two (tell-after _ here q (λ w x v k.
-      let keep = contents-keep id (bytesOf b p) (p .from) z t w d x in
+      let keep = contents-keep id (partBytes b p) (p .from) z t w d x in
       let n : w .name ≡ u .name = sym (ap (λ (c : Contents). c .name) v) in
       let g = taken (w .tables) (ap (λ (c : Contents). c .counts) v)
       (h ∙ ap (λ (l : List Section). laid (z .sections) (cells sectionCells l)) (sym keep)) in
@@ -212,8 +213,8 @@ pub names-of : (n : Counts) (t : Tables) → n ≡ countsOf t → n .named ≡ n
 unfolding countsOf
 names-of n t e = ap (λ (x : Counts). x .named) e
 
-pub listed : {f : List ℕ} (t : Names) {m k : ℕ} → m ≡ k → f ≡ laid m (cells symbolCells (t .symbols)) → Listed f k t
-unfolding Listed
+pub listed : {f : List ℕ} (t : Names) {m k : ℕ} → m ≡ k → f ≡ laid m (cells symbolCells (t .symbols)) → NamesHeld f k t
+unfolding NamesHeld
 listed t e h = rw e at h
 
 pub ends-passed : (n at next : ℕ) (a : Said (Got Counts)) → at < next → next ≤ n → Ends next a → Passed n at a

@@ -1,6 +1,5 @@
 -- docs/RULES.md, "The module": custom sections, and the name section (Core Specification 2.0, appendix 7.4.1): subsection 0 names the
--- module, the last
--- wins; 1 adds function names. Assumes nothing.
+-- module, the last wins; 1 adds function names. Assumes nothing.
 use Prim.Native.Nat.{ℕ, _+_}
 use mathlib.Core.Path.{_≡_}
 use mathlib.Core.Bool.{true, false}
@@ -13,7 +12,7 @@ use Rattle.refusal.specs.declared.Part.{Part}
 use Rattle.text.specs.Find.{same}
 use Rattle.table.specs.Table.{laid, cells}
 use Rattle.table.specs.Walking.{walkFrom}
-use Rattle.leb.specs.Reads.{bytesOf, byteAt, nameAt, countedAt}
+use Rattle.leb.specs.Reads.{partBytes, byteAt, nameAt, countedAt}
 use Rattle.wasm.specs.declared.entry.Symbol.{Symbol}
 use Rattle.wasm.specs.declared.custom.Label.{Label}
 use Rattle.wasm.specs.declared.custom.Named.{Named}
@@ -32,8 +31,8 @@ unfoldable pub namedOf : Names → Named
 namedOf t = record { label = t .label; count = length (t .symbols) }
 
 -- a table of n cells holds the function names
-unfoldable pub Listed : List ℕ → ℕ → Names → Type 0
-Listed table n t = table ≡ laid n (cells symbolCells (t .symbols))
+unfoldable pub NamesHeld : List ℕ → ℕ → Names → Type 0
+NamesHeld table n t = table ≡ laid n (cells symbolCells (t .symbols))
 
 -- subsection 0
 unfoldable pub labelAt : List ℕ → ℕ → Names → Said (Got Names)
@@ -54,27 +53,27 @@ unfoldable pub subsectionAt : List ℕ → ℕ → ℕ → ℕ → Names → Sai
 subsectionAt s base n at t =
     onward (byteAt s at) (λ id a.
     onward (countedAt s a) (λ p next.
-    onward (toldBy id (bytesOf s p) (base + p .from) n t) (λ u e. accepted (got u next))))
+    onward (toldBy id (partBytes s p) (base + p .from) n t) (λ u e. accepted (got u next))))
 
 -- the bytes of `name`
 unfoldable pub nameWord : List ℕ
 nameWord = 110 ∷ 97 ∷ 109 ∷ 101 ∷ []
 
 -- a custom section's own name, and what it tells
-pub record Spoken : Type 0 where
+pub record CustomSaid : Type 0 where
   pub name : Part
   pub inner : Names
 
-unfoldable pub customOf : Spoken → Custom
+unfoldable pub customOf : CustomSaid → Custom
 customOf u = record { name = u .name; inner = namedOf (u .inner) }
 
-unfoldable pub ListedIn : List ℕ → ℕ → Spoken → Type 0
-ListedIn table n u = table ≡ laid n (cells symbolCells (u .inner .symbols))
+unfoldable pub CustomHeld : List ℕ → ℕ → CustomSaid → Type 0
+CustomHeld table n u = table ≡ laid n (cells symbolCells (u .inner .symbols))
 
-unfoldable pub customAt : List ℕ → ℕ → ℕ → Names → Said (Got Spoken)
+unfoldable pub customAt : List ℕ → ℕ → ℕ → Names → Said (Got CustomSaid)
 customAt s base n t =
     onward (nameAt s 0) (λ p at.
-    onward (pick (same nameWord (bytesOf s p)) (walkFrom (subsectionAt s base n) s at t) (accepted (got t at))) (λ u e.
+    onward (pick (same nameWord (partBytes s p)) (walkFrom (subsectionAt s base n) s at t) (accepted (got t at))) (λ u e.
     accepted (got (record { name = moved base p; inner = u }) e)))
 
 -- ---- for the code

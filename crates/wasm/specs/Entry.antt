@@ -1,6 +1,5 @@
--- docs/RULES.md, "The module": entries of sections, read at an offset of the bytes s, which start at `base` in the file. An entry and
--- the offset
--- after it, or a refusal. The specification's own grammar of entries stands in Grammar.antt. Assumes nothing.
+-- docs/RULES.md, "The module": entries of sections, read at an offset of the bytes s, which start at `base` in the file. An entry and the
+-- offset after it, or a refusal. The specification's own grammar of entries stands in Grammar.antt. Assumes nothing.
 use Prim.Native.Nat.{ℕ, _+_, _%_}
 use mathlib.Core.Bool.{true, false}
 use mathlib.Core.List.{List}

@@ -6,14 +6,16 @@ use mathlib.Core.List.{List, [], _∷_, _++_}
 use lib.ListN.{length}
 use lib.Dec.{ltb, eqb}
 use Rattle.refusal.specs.Pick.{pick}
+use Rattle.refusal.specs.Sizes.{fileLimit}
 use Rattle.refusal.specs.Said.{Said, accepted, refused, refusedBy, follow, Got, got, onward}
 use Rattle.refusal.specs.declared.Part.{Part}
 use Rattle.refusal.specs.declared.Refusal.{Refusal}
 use Rattle.refusal.specs.declared.Refusal.the-variants.{UnexpectedEof}
 use Rattle.text.specs.Find.{same}
-use Rattle.table.specs.Table.{laid, cells, capacityOf}
+use Rattle.table.specs.Table.{laid, cells}
+use Rattle.table.specs.Shape.{capacityIn}
 use Rattle.table.specs.Walking.{walkFrom}
-use Rattle.leb.specs.Reads.{part, bytesOf, byteAt, fixedAt, takeAt, countedAt}
+use Rattle.leb.specs.Reads.{part, partBytes, byteAt, fixedAt, takeAt, countedAt}
 use Rattle.wasm.specs.declared.entry.Import.{Import}
 use Rattle.wasm.specs.declared.entry.Export.{Export}
 use Rattle.wasm.specs.declared.custom.Named.{Named}
@@ -71,28 +73,28 @@ pub record Inner : Type 0 where
   pub tables : Tables
 
 -- a section without a name of its own
-abbrev pub plain : Tables → Inner
-plain t = record { name = part 0 0; tables = t }
+abbrev pub nameless : Tables → Inner
+nameless t = record { name = part 0 0; tables = t }
 
 -- the contents s, from base in the file: 0 may add names, 2 and 7 start their table anew, others are not looked into
 unfoldable pub contentsAt : ℕ → List ℕ → ℕ → Sizes → Tables → Said (Got Inner)
 contentsAt id s base z t =
     pick (eqb id 0)
     (onward (customAt s base (z .names) (t .names)) (λ u e. accepted (got (record { name = u .name; tables = withNames t (u .inner) }) e)))
-    (pick (eqb id 2) (onward (importsOf s base (z .imports)) (λ rows e. accepted (got (plain (withImports t rows)) e)))
-    (pick (eqb id 7) (onward (exportsOf s base (z .exports)) (λ rows e. accepted (got (plain (withExports t rows)) e)))
-    (accepted (got (plain t) 0))))
+    (pick (eqb id 2) (onward (importsOf s base (z .imports)) (λ rows e. accepted (got (nameless (withImports t rows)) e)))
+    (pick (eqb id 7) (onward (exportsOf s base (z .exports)) (λ rows e. accepted (got (nameless (withExports t rows)) e)))
+    (accepted (got (nameless t) 0))))
 
 -- a section's row is added if table 1, of n cells, has room for it
 unfoldable pub addSection : ℕ → Section → ℕ → Tables → Said (Got Tables)
-addSection n row next t = pick (ltb (length (t .sections)) (capacityOf n 5 256)) (accepted (got (withSection t row) next)) (refused 13 1)
+addSection n row next t = pick (ltb (length (t .sections)) (capacityIn 1 n)) (accepted (got (withSection t row) next)) (refused 13 1)
 
 -- the section at an offset of the file: an id, a size, and a payload that is whole; the row is taken after the contents
 unfoldable pub sectionAt : List ℕ → Sizes → ℕ → Tables → Said (Got Tables)
 sectionAt b z at t =
     onward (byteAt b at) (λ id a.
     onward (countedAt b a) (λ p next.
-    onward (contentsAt id (bytesOf b p) (p .from) z t) (λ u e.
+    onward (contentsAt id (partBytes b p) (p .from) z t) (λ u e.
     addSection (z .sections) (record { id = id; from = p .from; size = p .len; name = u .name }) next (u .tables))))
 
 unfoldable pub magic : List ℕ
@@ -102,7 +104,7 @@ magic = 0x00 ∷ 0x61 ∷ 0x73 ∷ 0x6d ∷ []
 unfoldable pub headerAt : List ℕ → Said (Got ℕ)
 headerAt b =
     onward (takeAt b 0 4) (λ p c.
-    pick (same magic (bytesOf b p))
+    pick (same magic (partBytes b p))
     (onward (fixedAt b c) (λ v d. pick (eqb v 0) (refused 2 4) (accepted (got v d))))
     (refused 2 0))
 
@@ -114,7 +116,7 @@ pub record Parsed : Type 0 where
 -- the file: 14 first, then the header, then section after section
 unfoldable pub moduleAt : List ℕ → Sizes → Said Parsed
 moduleAt b z =
-    pick (ltb 16777216 (length b)) (refused 14 0)
+    pick (ltb fileLimit (length b)) (refused 14 0)
     (onward (headerAt b) (λ v c.
     onward (walkFrom (sectionAt b z) b c noTables) (λ t d.
     accepted (record { version = v; tables = t }))))
@@ -129,8 +131,8 @@ countsOf t =
       named = namedOf (t .names);
     }
 
-abbrev pub answered : ℕ → ℕ → Counts → Module
-answered v n c =
+abbrev pub moduleCounted : ℕ → ℕ → Counts → Module
+moduleCounted v n c =
     record {
       version = v;
       length = n;
@@ -145,7 +147,7 @@ answered v n c =
 
 -- version, file length, the module's name, and how many rows each table has
 unfoldable pub moduleOf : ℕ → Parsed → Module
-moduleOf n m = answered (m .version) n (countsOf (m .tables))
+moduleOf n m = moduleCounted (m .version) n (countsOf (m .tables))
 
 abbrev pub saidModule : ModuleRead → Said Module
 saidModule (ModuleRead.Module v) = accepted v

@@ -8,11 +8,12 @@ use leb::PartRead;
 use refusal::Part;
 use refusal::Refusal;
 ghost use mathlib.Core.Path.{_≡_};
-ghost use Prim.Native.Nat.{_+_, _<_};
+ghost use Prim.Native.Nat.{_+_, _≤_};
 ghost use lib.ListN.{length};
-ghost use Rattle.table.specs.Told.{Told, mapped, Passed};
+ghost use Rattle.refusal.specs.Sizes.{fileLimit};
+ghost use Rattle.table.specs.Told.{ReaderTells, mapped, Passed};
 ghost use Rattle.table.specs.Walking.{walkFrom};
-ghost use Rattle.wasm.specs.Custom.{Names, namedOf, saidNamed, saidCustom, Listed, ListedIn};
+ghost use Rattle.wasm.specs.Custom.{Names, namedOf, saidNamed, saidCustom, NamesHeld, CustomHeld};
 ghost use Rattle.wasm.specs.Custom.{labelAt, toldBy, subsectionAt, customOf, customAt};
 
 // A module's name, as a range of the file; zeros where `named` is false.
@@ -35,7 +36,7 @@ pub(crate) enum NamedRead {
 
 // Subsection 0.
 fn read_label(s: &[u8], base: usize, n: Named) -> NamedRead
-    requires { ⌜ base + length (now s) < 16777217 ⌝ }
+    requires { ⌜ base + length (now s) ≤ fileLimit ⌝ }
     ensures { λ r. ⌜ ((t : Names) → n ≡ namedOf t → saidNamed r ≡ mapped namedOf (labelAt (now (s .entry)) base t)) ⌝ }
 {
     let start = Cursor { at: 0 };
@@ -58,9 +59,9 @@ fn read_label(s: &[u8], base: usize, n: Named) -> NamedRead
 
 // What a subsection tells, by its id.
 fn read_told(id: u8, s: &[u8], base: usize, n: Named, names: &mut [usize]) -> NamedRead
-    requires { ⌜ base + length (now s) < 16777217 ⌝ }
-    ensures { λ r. ⌜ ((t : Names) → n ≡ namedOf t → Listed (now (names .entry)) (length (now (names .entry))) t
-        → Told namedOf (Listed (now (names .exit)) (length (now (names .entry))))
+    requires { ⌜ base + length (now s) ≤ fileLimit ⌝ }
+    ensures { λ r. ⌜ ((t : Names) → n ≡ namedOf t → NamesHeld (now (names .entry)) (length (now (names .entry))) t
+        → ReaderTells namedOf (NamesHeld (now (names .exit)) (length (now (names .entry))))
         (toldBy id (now (s .entry)) base (length (now (names .entry))) t) (saidNamed r)) ⌝ }
 {
     let label = n.label;
@@ -76,10 +77,10 @@ fn read_told(id: u8, s: &[u8], base: usize, n: Named, names: &mut [usize]) -> Na
 
 // One subsection: an id, a size, its bytes.
 fn read_subsection(s: &[u8], base: usize, c: Cursor, n: Named, names: &mut [usize]) -> NamedRead
-    requires { ⌜ base + length (now s) < 16777217 ⌝ }
+    requires { ⌜ base + length (now s) ≤ fileLimit ⌝ }
     ensures { λ r. ⌜ Passed (length (now (s .entry))) (c .at) (saidNamed r) ×
-        ((t : Names) → n ≡ namedOf t → Listed (now (names .entry)) (length (now (names .entry))) t
-        → Told namedOf (Listed (now (names .exit)) (length (now (names .entry))))
+        ((t : Names) → n ≡ namedOf t → NamesHeld (now (names .entry)) (length (now (names .entry))) t
+        → ReaderTells namedOf (NamesHeld (now (names .exit)) (length (now (names .entry))))
         (subsectionAt (now (s .entry)) base (length (now (names .entry))) (c .at) t) (saidNamed r)) ⌝ }
 {
     let one = c.u8(s);
@@ -106,9 +107,9 @@ fn read_subsections(
     have: Named,
     names: &mut [usize],
 ) -> NamedRead
-    requires { ⌜ base + length (now s) < 16777217 ⌝ }
-    ensures { λ r. ⌜ ((t : Names) → have ≡ namedOf t → Listed (now (names .entry)) (length (now (names .entry))) t
-        → Told namedOf (Listed (now (names .exit)) (length (now (names .entry))))
+    requires { ⌜ base + length (now s) ≤ fileLimit ⌝ }
+    ensures { λ r. ⌜ ((t : Names) → have ≡ namedOf t → NamesHeld (now (names .entry)) (length (now (names .entry))) t
+        → ReaderTells namedOf (NamesHeld (now (names .exit)) (length (now (names .entry))))
         (walkFrom (subsectionAt (now (s .entry)) base (length (now (names .entry)))) (now (s .entry)) (first .at) t) (saidNamed r)) ⌝ }
 {
     let mut c = first;
@@ -139,9 +140,9 @@ pub(crate) enum CustomRead {
 }
 
 pub(crate) fn read_custom(s: &[u8], base: usize, n: Named, names: &mut [usize]) -> CustomRead
-    requires { ⌜ base + length (now s) < 16777217 ⌝ }
-    ensures { λ r. ⌜ ((t : Names) → n ≡ namedOf t → Listed (now (names .entry)) (length (now (names .entry))) t
-        → Told customOf (ListedIn (now (names .exit)) (length (now (names .entry))))
+    requires { ⌜ base + length (now s) ≤ fileLimit ⌝ }
+    ensures { λ r. ⌜ ((t : Names) → n ≡ namedOf t → NamesHeld (now (names .entry)) (length (now (names .entry))) t
+        → ReaderTells customOf (CustomHeld (now (names .exit)) (length (now (names .entry))))
         (customAt (now (s .entry)) base (length (now (names .entry))) t) (saidCustom r)) ⌝ }
 {
     let start = Cursor { at: 0 };

@@ -7,8 +7,9 @@ use leb::U32Read;
 use refusal::Part;
 use refusal::Refusal;
 ghost use mathlib.Core.Path.{_≡_};
-ghost use Prim.Native.Nat.{_+_, _<_};
+ghost use Prim.Native.Nat.{_+_, _≤_};
 ghost use lib.ListN.{length};
+ghost use Rattle.refusal.specs.Sizes.{fileLimit};
 ghost use Rattle.wasm.specs.Entry.{limitsAt, funcAt, tableAt, memoryAt, globalAt, descAt, moved, importAt, exportAt, symbolAt};
 ghost use Rattle.wasm.specs.Entry.{saidLimits, saidDesc, saidImport, saidExport, saidSymbol, whyLimits, whyDesc};
 
@@ -194,7 +195,7 @@ fn read_desc(s: &[u8], kind: u8, c: Cursor) -> DescRead
 
 // A range of the bytes that are read as a range of the file.
 pub(crate) fn shift(base: usize, p: Part) -> Part
-    requires { ⌜ base + p .from < 16777217 ⌝ }
+    requires { ⌜ base + p .from ≤ fileLimit ⌝ }
     ensures { λ r. ⌜ r ≡ moved base p ⌝ }
 {
     Part {
@@ -204,7 +205,7 @@ pub(crate) fn shift(base: usize, p: Part) -> Part
 }
 
 pub(crate) fn read_import(s: &[u8], base: usize, c: Cursor) -> ImportRead
-    requires { ⌜ base + length (now s) < 16777217 ⌝ }
+    requires { ⌜ base + length (now s) ≤ fileLimit ⌝ }
     ensures { λ r. ⌜ saidImport r ≡ importAt (now (s .entry)) base (c .at) ⌝ }
 {
     let one = c.name(s);
@@ -235,7 +236,7 @@ pub(crate) fn read_import(s: &[u8], base: usize, c: Cursor) -> ImportRead
 }
 
 pub(crate) fn read_export(s: &[u8], base: usize, c: Cursor) -> ExportRead
-    requires { ⌜ base + length (now s) < 16777217 ⌝ }
+    requires { ⌜ base + length (now s) ≤ fileLimit ⌝ }
     ensures { λ r. ⌜ saidExport r ≡ exportAt (now (s .entry)) base (c .at) ⌝ }
 {
     let one = c.name(s);
@@ -261,7 +262,7 @@ pub(crate) fn read_export(s: &[u8], base: usize, c: Cursor) -> ExportRead
 }
 
 pub(crate) fn read_symbol(s: &[u8], base: usize, c: Cursor) -> SymbolRead
-    requires { ⌜ base + length (now s) < 16777217 ⌝ }
+    requires { ⌜ base + length (now s) ≤ fileLimit ⌝ }
     ensures { λ r. ⌜ saidSymbol r ≡ symbolAt (now (s .entry)) base (c .at) ⌝ }
 {
     let one = c.uleb128_u32(s);

@@ -11,11 +11,14 @@ use leb::Cursor;
 use leb::PartRead;
 use refusal::Part;
 use refusal::Refusal;
+use table::shape::MAX_SECTIONS;
+use table::shape::SECTION_WIDTH;
 ghost use mathlib.Core.Path.{_≡_};
-ghost use Prim.Native.Nat.{_+_, _<_};
+ghost use Prim.Native.Nat.{_+_, _≤_};
 ghost use lib.ListN.{length};
+ghost use Rattle.refusal.specs.Sizes.{fileLimit};
 ghost use Rattle.table.specs.Table.{laid, cells, putRow};
-ghost use Rattle.table.specs.Told.{Told, Passed, Ends};
+ghost use Rattle.table.specs.Told.{ReaderTells, Passed, Ends};
 ghost use Rattle.table.specs.Walking.{walkFrom};
 ghost use Rattle.wasm.specs.Module.{sectionCells, Tables, countsOf, Sizes, lend, sizes, Holds, Inside, InsideOf, SectionsLie};
 ghost use Rattle.wasm.specs.Module.{saidCounts, saidContents, contentsOf, contentsAt, addSection, sectionAt, noTables};
@@ -99,11 +102,11 @@ fn read_contents(
     exports: &mut [usize],
     names: &mut [usize],
 ) -> ContentsRead
-    requires { ⌜ base + length (now payload) < 16777217 ⌝ }
+    requires { ⌜ base + length (now payload) ≤ fileLimit ⌝ }
     ensures { λ r. ⌜ ((z : Sizes) (t : Tables) → z .imports ≡ length (now (imports .entry)) → z .exports ≡ length (now (exports .entry))
         → z .names ≡ length (now (names .entry)) → n ≡ countsOf t
         → Inside (now (imports .entry)) (now (exports .entry)) (now (names .entry)) z t
-        → Told contentsOf (InsideOf (now (imports .exit)) (now (exports .exit)) (now (names .exit)) z)
+        → ReaderTells contentsOf (InsideOf (now (imports .exit)) (now (exports .exit)) (now (names .exit)) z)
         (contentsAt id (now (payload .entry)) base z t) (saidContents r)) ⌝ }
 {
     let name = Part { from: 0, len: 0 };
@@ -146,10 +149,10 @@ fn put_section(table: &mut [usize], count: usize, row: Section)
 fn take_section(table: &mut [usize], n: Counts, row: Section, next: Cursor) -> CountsRead
     ensures { λ r. ⌜ Ends (next .at) (saidCounts r) × ((t : Tables) → n ≡ countsOf t
         → now (table .entry) ≡ laid (length (now (table .entry))) (cells sectionCells (t .sections))
-        → Told countsOf (SectionsLie (length (now (table .entry))) (now (table .exit)))
+        → ReaderTells countsOf (SectionsLie (length (now (table .entry))) (now (table .exit)))
         (addSection (length (now (table .entry))) row (next .at) t) (saidCounts r)) ⌝ }
 {
-    let room = table::capacity(table.len(), 5, 256);
+    let room = table::capacity(table.len(), SECTION_WIDTH, MAX_SECTIONS);
     let k = n.sections;
     let named = n.named;
     if k >= room {
@@ -176,11 +179,11 @@ fn read_section(
     exports: &mut [usize],
     names: &mut [usize],
 ) -> CountsRead
-    requires { ⌜ length (now file) < 16777217 ⌝ }
+    requires { ⌜ length (now file) ≤ fileLimit ⌝ }
     ensures { λ r. ⌜ Passed (length (now (file .entry))) (c .at) (saidCounts r) × ((t : Tables) → n ≡ countsOf t
         → Holds (lend (now (sections .entry)) (now (imports .entry)) (now (exports .entry)) (now (names .entry)))
         (sizes (now (sections .entry)) (now (imports .entry)) (now (exports .entry)) (now (names .entry))) t
-        → Told countsOf (Holds (lend (now (sections .exit)) (now (imports .exit)) (now (exports .exit)) (now (names .exit)))
+        → ReaderTells countsOf (Holds (lend (now (sections .exit)) (now (imports .exit)) (now (exports .exit)) (now (names .exit)))
         (sizes (now (sections .entry)) (now (imports .entry)) (now (exports .entry)) (now (names .entry))))
         (sectionAt (now (file .entry)) (sizes (now (sections .entry)) (now (imports .entry)) (now (exports .entry)) (now (names .entry)))
         (c .at) t) (saidCounts r)) ⌝ }
@@ -225,10 +228,11 @@ pub(crate) fn read_sections(
     exports: &mut [usize],
     names: &mut [usize],
 ) -> CountsRead
-    requires { ⌜ length (now file) < 16777217 ⌝ }
+    requires { ⌜ length (now file) ≤ fileLimit ⌝ }
     requires { ⌜ Holds (lend (now sections) (now imports) (now exports) (now names))
         (sizes (now sections) (now imports) (now exports) (now names)) noTables ⌝ }
-    ensures { λ r. ⌜ Told countsOf (Holds (lend (now (sections .exit)) (now (imports .exit)) (now (exports .exit)) (now (names .exit)))
+    ensures { λ r. ⌜ ReaderTells countsOf (Holds (lend (now (sections .exit)) (now (imports .exit)) (now (exports .exit))
+        (now (names .exit)))
         (sizes (now (sections .entry)) (now (imports .entry)) (now (exports .entry)) (now (names .entry))))
         (walkFrom (sectionAt (now (file .entry))
         (sizes (now (sections .entry)) (now (imports .entry)) (now (exports .entry)) (now (names .entry))))

@@ -6,13 +6,13 @@ use lib.ListN.{length, drop}
 use Rattle.refusal.specs.declared.Part.{Part}
 use Rattle.text.specs.Lines.{lineStep}
 use Rattle.table.proofs.Larger.{Sure, Full, accepts-too, sure-same, sure-pick, sure-room, sure-follow, sure-onward, sure-from}
-use Rattle.pieces.specs.Whole.{wholeText}
+use Rattle.text.specs.Whole.{wholeText}
 use Rattle.wit.specs.declared.line.Directive.{Directive}
 use Rattle.wit.specs.declared.line.Directive.the-variants.{Blank, Package, World, Close, Refer, Brace, Other}
-use Rattle.wit.specs.Manifest.{State, Sizes, start, closeAt, openAt, referAt, obeyAt, lineAt, linesAt, manifestAt}
-use Rattle.wit.specs.Sound.{Larger, LargerSame}
+use Rattle.wit.specs.Manifest.{State, ManifestSizes, start, closeAt, openAt, referAt, obeyAt, lineAt, linesAt, manifestAt}
+use Rattle.wit.specs.Sound.{ManifestLarger, ManifestLargerSame}
 
-module _ (z w : Sizes) (h : Larger z w) where
+module _ (z w : ManifestSizes) (h : ManifestLarger z w) where
   sure-close : (next : ℕ) (t : State) → Sure Full (closeAt z next t) (closeAt w next t)
   unfolding closeAt
   sure-close next t =
@@ -41,7 +41,7 @@ module _ (z w : Sizes) (h : Larger z w) where
   unfolding linesAt
   sure-lines s = sure-onward _ _ _ _ (sure-from (lineAt s z) (lineAt s w) (sure-line s) s 0 start) (λ t at. sure-close at t)
 
-pub larger-same : LargerSame
+pub larger-same : ManifestLargerSame
 unfolding manifestAt
 larger-same s z w t h =
     accepts-too

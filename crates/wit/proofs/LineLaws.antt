@@ -11,10 +11,10 @@ use Rattle.refusal.specs.Pick.{pick}
 use Rattle.refusal.specs.declared.Part.{Part}
 use Rattle.text.specs.Find.{seek, begins, same, indexOf2}
 use Rattle.text.proofs.Laws.{left-next, left-none}
-use Rattle.pieces.specs.Piece.{Piece, first, beyond, trim, shorn, bytesOf, piece, TrimTo}
-use Rattle.pieces.proofs.Pieces.{piece-long, first-piece, beyond-piece, shorn-le, begins-le}
-use Rattle.wit.specs.Line.{packageW, worldW, importW, exportW, lone, partOf, marked, absent, unbraced, isSpace, ends, splits}
-use Rattle.wit.specs.Line.{boundary, referenceOf, worded, core, spoken, directive}
+use Rattle.text.specs.Piece.{Piece, first, beyond, trim, shorn, bytesBetween, piece, TrimTo}
+use Rattle.text.proofs.PieceLaws.{piece-long, first-piece, beyond-piece, shorn-le, begins-le}
+use Rattle.wit.specs.Line.{packageW, worldW, importW, exportW, lone, partOf, markAt, absent, unbraced, isSpace, ends, splits}
+use Rattle.wit.specs.Line.{boundary, referenceOf, manifestWorded, manifestCore, manifestSpoken, manifestDirective}
 use Rattle.wit.specs.declared.line.Mark.{Mark}
 use Rattle.wit.specs.declared.line.Directive.{Directive}
 use Rattle.wit.specs.declared.line.Directive.the-variants.{Blank, Package, World, Close, Refer, Brace, Other}
@@ -63,11 +63,11 @@ module _ (s : List ℕ) (a e : ℕ) where
       q ∙ ap partOf (sym (t .same))
 
   -- ---- without the braces
-  pub unbraced-is : (n : ℕ) → e ≤ length s → n ≡ shorn 123 (bytesOf s a e)
+  pub unbraced-is : (n : ℕ) → e ≤ length s → n ≡ shorn 123 (bytesBetween s a e)
       → (n ≤ e - a) × (unbraced (piece s a e) ≡ trim (piece s a (a + n)))
   unfolding unbraced
   unbraced-is n l q =
-      let b : n ≤ e - a = omega (arith, q, shorn-le 123 (bytesOf s a e), piece-long s a e l) in
+      let b : n ≤ e - a = omega (arith, q, shorn-le 123 (bytesBetween s a e), piece-long s a e l) in
       (b, ap (λ (m : ℕ). trim (first m (piece s a e))) (sym q) ∙ ap trim (first-piece s a e n b))
 
   pub bare-is : (f w g b c : ℕ) → TrimTo s a e f w → unbraced (piece s f w) ≡ trim (piece s f g) → TrimTo s f g b c
@@ -75,19 +75,19 @@ module _ (s : List ℕ) (a e : ℕ) where
   bare-is f w g b c t u v = ap unbraced (t .same) ∙ u ∙ v .same
 
   -- ---- a reference
-  module _ (i : ℕ) (l : e ≤ length s) (q : i ≡ boundary (bytesOf s a e)) (out : Bool) where
+  module _ (i : ℕ) (l : e ≤ length s) (q : i ≡ boundary (bytesBetween s a e)) (out : Bool) where
     pub split-far : a + i < e → (p r : Part) (m : Mark) → p ≡ partOf (trim (piece s a (a + i))) → r ≡ partOf (trim (piece s (a + i + 1) e))
-        → m ≡ marked r → Refer out p m ≡ referenceOf out (piece s a e)
+        → m ≡ markAt r → Refer out p m ≡ referenceOf out (piece s a e)
     unfolding referenceOf
     split-far h p r m u v o =
         let n = piece-long s a e l in
-        let c : ltb (boundary (bytesOf s a e)) (length (bytesOf s a e)) ≡ true =
-        lt-ltb (boundary (bytesOf s a e)) (length (bytesOf s a e)) (omega arith) in
+        let c : ltb (boundary (bytesBetween s a e)) (length (bytesBetween s a e)) ≡ true =
+        lt-ltb (boundary (bytesBetween s a e)) (length (bytesBetween s a e)) (omega arith) in
         let z : a + (i + 1) ≡ a + i + 1 = omega arith in
-        let x : p ≡ partOf (trim (first (boundary (bytesOf s a e)) (piece s a e))) =
+        let x : p ≡ partOf (trim (first (boundary (bytesBetween s a e)) (piece s a e))) =
         u ∙ ap (λ (k : Piece). partOf (trim k)) (sym (first-piece s a e i (omega arith)))
         ∙ ap (λ (m : ℕ). partOf (trim (first m (piece s a e)))) q in
-        let y : r ≡ partOf (trim (beyond (boundary (bytesOf s a e) + 1) (piece s a e))) =
+        let y : r ≡ partOf (trim (beyond (boundary (bytesBetween s a e) + 1) (piece s a e))) =
         v ∙ ap (λ (m : ℕ). partOf (trim (piece s m e))) (sym z)
         ∙ ap (λ (k : Piece). partOf (trim k)) (sym (beyond-piece s a e (i + 1)))
         ∙ ap (λ (m : ℕ). partOf (trim (beyond (m + 1) (piece s a e)))) q in
@@ -97,79 +97,80 @@ module _ (s : List ℕ) (a e : ℕ) where
     unfolding referenceOf
     split-none h m o =
         let n = piece-long s a e l in
-        let c : ltb (boundary (bytesOf s a e)) (length (bytesOf s a e)) ≡ false =
-        le-ltb (boundary (bytesOf s a e)) (length (bytesOf s a e)) (omega arith) in
+        let c : ltb (boundary (bytesBetween s a e)) (length (bytesBetween s a e)) ≡ false =
+        le-ltb (boundary (bytesBetween s a e)) (length (bytesBetween s a e)) (omega arith) in
         rw (c, n, o)
 
   -- ---- the words
-  pub word-fits : (w : List ℕ) → e ≤ length s → begins w (bytesOf s a e) ≡ true → length w ≤ e - a
-  word-fits w l q = omega (arith, begins-le w (bytesOf s a e) q, piece-long s a e l)
+  pub word-fits : (w : List ℕ) → e ≤ length s → begins w (bytesBetween s a e) ≡ true → length w ≤ e - a
+  word-fits w l q = omega (arith, begins-le w (bytesBetween s a e) q, piece-long s a e l)
 
-  pub worded-package : (r : Part) → begins packageW (bytesOf s a e) ≡ true → r ≡ partOf (trim (piece s (a + 8) e))
-      → Package r ≡ worded (piece s a e)
-  unfolding worded
+  pub worded-package : (r : Part) → begins packageW (bytesBetween s a e) ≡ true → r ≡ partOf (trim (piece s (a + 8) e))
+      → Package r ≡ manifestWorded (piece s a e)
+  unfolding manifestWorded
   worded-package r p q = rw (p, q) (ap (λ (x : Piece). Package (partOf (trim x))) (sym (beyond-piece s a e 8)))
 
-  module _ (p : begins packageW (bytesOf s a e) ≡ false) where
-    pub worded-world : (r : Part) (m : ℕ) → begins worldW (bytesOf s a e) ≡ true
+  module _ (p : begins packageW (bytesBetween s a e) ≡ false) where
+    pub worded-world : (r : Part) (m : ℕ) → begins worldW (bytesBetween s a e) ≡ true
         → unbraced (piece s (a + 6) e) ≡ trim (piece s (a + 6) m) → r ≡ partOf (trim (piece s (a + 6) m))
-        → World r ≡ worded (piece s a e)
-    unfolding worded
+        → World r ≡ manifestWorded (piece s a e)
+    unfolding manifestWorded
     worded-world r m w u q =
         rw (p, w, q) (ap (λ (x : Piece). World (partOf x)) (sym u)
         ∙ ap (λ (x : Piece). World (partOf (unbraced x))) (sym (beyond-piece s a e 6)))
 
-    module _ (w : begins worldW (bytesOf s a e) ≡ false) where
-      pub worded-close : same (lone 125) (bytesOf s a e) ≡ true → Close ≡ worded (piece s a e)
-      unfolding worded
+    module _ (w : begins worldW (bytesBetween s a e) ≡ false) where
+      pub worded-close : same (lone 125) (bytesBetween s a e) ≡ true → Close ≡ manifestWorded (piece s a e)
+      unfolding manifestWorded
       worded-close c = rw (p, w, c)
 
-      module _ (c : same (lone 125) (bytesOf s a e) ≡ false) where
-        pub worded-import : begins importW (bytesOf s a e) ≡ true
-            → referenceOf false (unbraced (trim (piece s (a + 7) e))) ≡ worded (piece s a e)
-        unfolding worded
+      module _ (c : same (lone 125) (bytesBetween s a e) ≡ false) where
+        pub worded-import : begins importW (bytesBetween s a e) ≡ true
+            → referenceOf false (unbraced (trim (piece s (a + 7) e))) ≡ manifestWorded (piece s a e)
+        unfolding manifestWorded
         worded-import i = rw (p, w, c, i) (ap (λ (x : Piece). referenceOf false (unbraced (trim x))) (sym (beyond-piece s a e 7)))
 
-        module _ (i : begins importW (bytesOf s a e) ≡ false) where
-          pub worded-export : begins exportW (bytesOf s a e) ≡ true
-              → referenceOf true (unbraced (trim (piece s (a + 7) e))) ≡ worded (piece s a e)
-          unfolding worded
+        module _ (i : begins importW (bytesBetween s a e) ≡ false) where
+          pub worded-export : begins exportW (bytesBetween s a e) ≡ true
+              → referenceOf true (unbraced (trim (piece s (a + 7) e))) ≡ manifestWorded (piece s a e)
+          unfolding manifestWorded
           worded-export o =
               rw (p, w, c, i, o) (ap (λ (x : Piece). referenceOf true (unbraced (trim x))) (sym (beyond-piece s a e 7)))
 
-          pub worded-brace : begins exportW (bytesOf s a e) ≡ false → same (lone 123) (bytesOf s a e) ≡ true
-              → Brace ≡ worded (piece s a e)
-          unfolding worded
+          pub worded-brace : begins exportW (bytesBetween s a e) ≡ false → same (lone 123) (bytesBetween s a e) ≡ true
+              → Brace ≡ manifestWorded (piece s a e)
+          unfolding manifestWorded
           worded-brace o b = rw (p, w, c, i, o, b)
 
-          pub worded-other : begins exportW (bytesOf s a e) ≡ false → same (lone 123) (bytesOf s a e) ≡ false
-              → Other ≡ worded (piece s a e)
-          unfolding worded
+          pub worded-other : begins exportW (bytesBetween s a e) ≡ false → same (lone 123) (bytesBetween s a e) ≡ false
+              → Other ≡ manifestWorded (piece s a e)
+          unfolding manifestWorded
           worded-other o b = rw (p, w, c, i, o, b)
 
   -- ---- the line
-  module _ (i f g : ℕ) (l : e ≤ length s) (q : i ≡ indexOf2 47 47 (bytesOf s a e)) (t : TrimTo s a (a + i) f g) where
-    pub comment-fits : i ≤ e - a
-    comment-fits = omega (arith, q, pair-le 47 47 (bytesOf s a e), piece-long s a e l)
+  module _ (i f g : ℕ) (l : e ≤ length s) (q : i ≡ indexOf2 47 47 (bytesBetween s a e)) (t : TrimTo s a (a + i) f g) where
+    comment-fits : i ≤ e - a
+    comment-fits = omega (arith, q, pair-le 47 47 (bytesBetween s a e), piece-long s a e l)
 
-    core-is : core (piece s a e) ≡ piece s f g
-    unfolding core
+    core-is : manifestCore (piece s a e) ≡ piece s f g
+    unfolding manifestCore
     core-is =
-        let u : first (indexOf2 47 47 (bytesOf s a e)) (piece s a e) ≡ piece s a (a + i) = ap (λ (m : ℕ). first m (piece s a e)) (sym q)
+        let u : first (indexOf2 47 47 (bytesBetween s a e)) (piece s a e)
+        ≡ piece s a (a + i) = ap (λ (m : ℕ). first m (piece s a e)) (sym q)
         ∙ first-piece s a e i comment-fits in
         ap trim u ∙ t .same
 
-    long : a ≤ e → length (bytesOf s f g) ≡ g - f
+    long : a ≤ e → length (bytesBetween s f g) ≡ g - f
     long j = piece-long s f g (omega (arith, t .high, comment-fits))
 
-    pub directive-some : a ≤ e → f < g → worded (piece s f g) ≡ directive (piece s a e)
-    unfolding directive spoken
+    pub directive-some : a ≤ e → f < g → manifestWorded (piece s f g) ≡ manifestDirective (piece s a e)
+    unfolding manifestDirective manifestSpoken
     directive-some j k =
-        let c : eqb (length (bytesOf s f g)) 0 ≡ false = ne-eqb (length (bytesOf s f g)) 0 (λ z. omega (arith, long j)) in
-        sym (ap spoken core-is ∙ rw c)
+        let c : eqb (length (bytesBetween s f g)) 0 ≡ false = ne-eqb (length (bytesBetween s f g)) 0 (λ z. omega (arith, long j)) in
+        sym (ap manifestSpoken core-is ∙ rw c)
 
-    pub directive-none : a ≤ e → g ≤ f → Blank ≡ directive (piece s a e)
-    unfolding directive spoken
+    pub directive-none : a ≤ e → g ≤ f → Blank ≡ manifestDirective (piece s a e)
+    unfolding manifestDirective manifestSpoken
     directive-none j k =
-        let c : eqb (length (bytesOf s f g)) 0 ≡ true = eq-eqb (length (bytesOf s f g)) 0 (omega (arith, long j)) in
-        sym (ap spoken core-is ∙ rw c)
+        let c : eqb (length (bytesBetween s f g)) 0 ≡ true = eq-eqb (length (bytesBetween s f g)) 0 (omega (arith, long j)) in
+        sym (ap manifestSpoken core-is ∙ rw c)

@@ -17,11 +17,11 @@ use Rattle.text.proofs.Laws.{both-one, both-two}
 use Rattle.text.proofs.CharLaws.{end-long, start-long}
 use Rattle.text.proofs.LineLaws.{line-bounds}
 use Rattle.text.proofs.TrimLaws.{trim-twice}
-use Rattle.pieces.specs.Piece.{Piece, first, beyond, trim, shorn, bytesOf, piece}
-use Rattle.pieces.proofs.Pieces.{piece-long, first-piece, beyond-piece, trim-bytes, shorn-le, begins-le}
-use Rattle.wit.specs.Line.{packageW, worldW, importW, exportW, lone, partOf, marked, absent, unbraced, boundary, referenceOf}
-use Rattle.wit.specs.Line.{worded, core, spoken, directive}
-use Rattle.wit.specs.Manifest.{lineOf}
+use Rattle.text.specs.Piece.{Piece, first, beyond, trim, shorn, bytesBetween, piece}
+use Rattle.text.proofs.PieceLaws.{piece-long, first-piece, beyond-piece, trim-bytes, shorn-le, begins-le}
+use Rattle.wit.specs.Line.{packageW, worldW, importW, exportW, lone, partOf, markAt, absent, unbraced, boundary, referenceOf}
+use Rattle.wit.specs.Line.{manifestWorded, manifestCore, manifestSpoken, manifestDirective}
+use Rattle.wit.specs.Manifest.{linePiece}
 use Rattle.wit.specs.Sound.{bytesIn, Clean, MarkClean}
 use Rattle.wit.specs.declared.line.Mark.{Mark}
 use Rattle.wit.specs.declared.line.Directive.{Directive}
@@ -160,7 +160,7 @@ choose : (s : List ℕ) (t : Bool) (a b : Directive) → (t ≡ true → AllClea
 choose s true a b f g = f refl
 choose s false a b f g = g
 
-pub mark-set : {s : List ℕ} {p : Part} → Clean s p → MarkClean s (marked p)
+pub mark-set : {s : List ℕ} {p : Part} → Clean s p → MarkClean s (markAt p)
 mark-set c = record { present = λ e. c; missing = λ e. absurd (false≢true (sym e)) }
 
 pub mark-none : {s : List ℕ} → MarkClean s absent
@@ -188,8 +188,8 @@ reference-clean s export p h =
     ))
     (unbraced-clean s p h, mark-none)
 
-worded-clean : (s : List ℕ) (c : Piece) → Sub s c → AllClean s (worded c)
-unfolding worded
+worded-clean : (s : List ℕ) (c : Piece) → Sub s c → AllClean s (manifestWorded c)
+unfolding manifestWorded
 worded-clean s c h =
     let word : (w : List ℕ) → begins w (c .bytes) ≡ true → Sub s (beyond (length w) c) =
     λ w e. sub-beyond h (length w) (begins-le w (c .bytes) e) in
@@ -215,31 +215,31 @@ no-line-in r =
     (absent-take (10 ∷ []) (lineLen r) (take (seek (begins (10 ∷ [])) r) r) (absent-before (10 ∷ []) r))
 
 uncommented : (s : List ℕ) (at : ℕ) → at < length s
-    → Sub s (first (indexOf2 47 47 (lineOf s at .bytes)) (lineOf s at))
+    → Sub s (first (indexOf2 47 47 (linePiece s at .bytes)) (linePiece s at))
 unfolding indexOf2 indexOf
 uncommented s at h =
     let r = drop at s in
     let b = line-bounds s at h in
     let z : at + lineLen r - at ≡ lineLen r = omega arith in
     let l = piece-long s at (at + lineLen r) (b .len) in
-    let m = seek (begins (47 ∷ 47 ∷ [])) (lineOf s at .bytes) in
-    let k = pair-le 47 47 (lineOf s at .bytes) in
-    let n : indexOf 10 (lineOf s at .bytes) ≡ length (lineOf s at .bytes) = rw z (no-line-in r) in
+    let m = seek (begins (47 ∷ 47 ∷ [])) (linePiece s at .bytes) in
+    let k = pair-le 47 47 (linePiece s at .bytes) in
+    let n : indexOf 10 (linePiece s at .bytes) ≡ length (linePiece s at .bytes) = rw z (no-line-in r) in
     record {
       from = at;
       past = at + m;
       low = omega arith;
       high = omega (arith, b .len, l, k);
       is = first-piece s at (at + lineLen r) m (omega (arith, l, k));
-      no-line = absent-take (10 ∷ []) m (lineOf s at .bytes) n;
-      no-comment = absent-before (47 ∷ 47 ∷ []) (lineOf s at .bytes);
+      no-line = absent-take (10 ∷ []) m (linePiece s at .bytes) n;
+      no-comment = absent-before (47 ∷ 47 ∷ []) (linePiece s at .bytes);
     }
 
 -- past the text nothing is said
-nothing-said : (s : List ℕ) (at : ℕ) → length s ≤ at → length (core (lineOf s at) .bytes) ≡ 0
-unfolding core trim
+nothing-said : (s : List ℕ) (at : ℕ) → length s ≤ at → length (manifestCore (linePiece s at) .bytes) ≡ 0
+unfolding manifestCore trim
 nothing-said s at h =
-    let b = bytesOf s at (at + lineLen (drop at s)) in
+    let b = bytesBetween s at (at + lineLen (drop at s)) in
     let c = take (indexOf2 47 47 b) b in
     let d = drop (trimStart c) c in
     omega (
@@ -251,16 +251,16 @@ nothing-said s at h =
       length-drop at s,
     )
 
-core-sub : (s : List ℕ) (at : ℕ) → at < length s → Sub s (core (lineOf s at))
-unfolding core
+core-sub : (s : List ℕ) (at : ℕ) → at < length s → Sub s (manifestCore (linePiece s at))
+unfolding manifestCore
 core-sub s at h = sub-trim (uncommented s at h)
 
-pub directive-clean : (s : List ℕ) (at : ℕ) → AllClean s (directive (lineOf s at))
-unfolding directive spoken
+pub directive-clean : (s : List ℕ) (at : ℕ) → AllClean s (manifestDirective (linePiece s at))
+unfolding manifestDirective manifestSpoken
 directive-clean s at = by (ltb at (length s)) refl where
   by : (t : Bool) → ltb at (length s) ≡ t
-      → AllClean s (pick (eqb (length (core (lineOf s at) .bytes)) 0) Blank (worded (core (lineOf s at))))
-  by true e = choose s (eqb (length (core (lineOf s at) .bytes)) 0) _ _ (λ q. tt)
+      → AllClean s (pick (eqb (length (manifestCore (linePiece s at) .bytes)) 0) Blank (manifestWorded (manifestCore (linePiece s at))))
+  by true e = choose s (eqb (length (manifestCore (linePiece s at) .bytes)) 0) _ _ (λ q. tt)
       (worded-clean s _ (core-sub s at (ltb-true at (length s) e)))
   by false e =
-      rw (eq-eqb (length (core (lineOf s at) .bytes)) 0 (nothing-said s at (ltb-false at (length s) e))) tt
+      rw (eq-eqb (length (manifestCore (linePiece s at) .bytes)) 0 (nothing-said s at (ltb-false at (length s) e))) tt

@@ -11,13 +11,15 @@ use Rattle.refusal.specs.Pick.{pick}
 use Rattle.refusal.specs.Said.{Said, accepted, refused, Got, got}
 use Rattle.refusal.specs.declared.Part.{Part}
 use Rattle.text.specs.Lines.{lineStep}
-use Rattle.table.specs.Table.{capacityOf}
-use Rattle.table.proofs.Giving.{Gives, Of, Each, no-row, row, gives-done, gives-stop, gives-follow, gives-onward, gives-from}
-use Rattle.pieces.specs.Whole.{wholeText}
-use Rattle.wit.specs.Line.{absent, marked, directive}
-use Rattle.wit.specs.Manifest.{State, Sizes, start, onNext, withPackage, withWorld, worldRow, closed, rowOf, referred, one}
-use Rattle.wit.specs.Manifest.{closeAt, openAt, referAt, obeyAt, lineOf, lineAt, linesAt, manifestAt}
-use Rattle.wit.specs.Sound.{Clean, MarkClean, WorldOk, ReferenceOk, Ascends, ManifestOk, RowsSound}
+use Rattle.table.specs.Shape.{capacityIn}
+use Rattle.refusal.specs.Each.{Each, each-nil, each-cons}
+use Rattle.table.proofs.Giving.{Gives, Of, gives-done, gives-stop, gives-follow, gives-onward, gives-from}
+use Rattle.text.specs.Whole.{wholeText}
+use Rattle.wit.specs.Line.{absent, markAt, manifestDirective}
+use Rattle.refusal.specs.Pick.{oneIf}
+use Rattle.wit.specs.Manifest.{State, ManifestSizes, start, onNext, withPackage, withWorld, worldRow, worldClosed, rowOf, referred}
+use Rattle.wit.specs.Manifest.{closeAt, openAt, referAt, obeyAt, linePiece, lineAt, linesAt, manifestAt}
+use Rattle.wit.specs.Sound.{Clean, MarkClean, WorldOk, ReferenceOk, Ascends, ManifestOk, ManifestRowsSound}
 use Rattle.wit.specs.declared.line.Mark.{Mark}
 use Rattle.wit.specs.declared.line.Directive.{Directive}
 use Rattle.wit.specs.declared.line.Directive.the-variants.{Blank, Package, World, Close, Refer, Brace, Other}
@@ -26,18 +28,18 @@ use Rattle.wit.proofs.Parts.{AllClean, mark-none, mark-set, directive-c
 
 -- ---- lists that grow at their end
 each-more : {E : Type 0} (P : E → Type 0) (es : List E) (e : E) → Each P es → P e → Each P (es ++ (e ∷ []))
-each-more P [] e no-row h = row h no-row
-each-more P (x ∷ es) e (row p a) h = row p (each-more P es e a h)
+each-more P [] e each-nil h = each-cons h each-nil
+each-more P (x ∷ es) e (each-cons p a) h = each-cons p (each-more P es e a h)
 
 each-as : {E : Type 0} {P Q : E → Type 0} → ((e : E) → P e → Q e) → (es : List E) → Each P es → Each Q es
-each-as f [] no-row = no-row
-each-as f (x ∷ es) (row p a) = row (f x p) (each-as f es a)
+each-as f [] each-nil = each-nil
+each-as f (x ∷ es) (each-cons p a) = each-cons (f x p) (each-as f es a)
 
 ascends-more : (rs : List Reference) (r : Reference) → Ascends rs → Each (λ q. q .world ≤ r .world) rs → Ascends (rs ++ (r ∷ []))
-ascends-more [] r a h = (no-row, tt)
-ascends-more (x ∷ rs) r a (row p h) = (each-more (λ q. x .world ≤ q .world) rs r (a .0) p, ascends-more rs r (a .1) h)
+ascends-more [] r a h = (each-nil, tt)
+ascends-more (x ∷ rs) r a (each-cons p h) = (each-more (λ q. x .world ≤ q .world) rs r (a .0) p, ascends-more rs r (a .1) h)
 
-one-small : (b : Bool) → one b ≤ 1
+one-small : (b : Bool) → oneIf b ≤ 1
 one-small true = omega arith
 one-small false = omega arith
 
@@ -51,14 +53,14 @@ pub record OpenOk (s : List ℕ) (m : Mark) : Type 0 where
   pub present : m .given ≡ true → WorldOk s (worldRow m)
   pub missing : m .given ≡ false → m ≡ absent
 
-module _ (s : List ℕ) (z : Sizes) where
+module _ (s : List ℕ) (z : ManifestSizes) where
   pub record Kept (t : State) : Type 0 where
     pub package-clean : MarkClean s (t .pack)
     pub open-ok : OpenOk s (t .world)
     pub worlds-ok : Each (WorldOk s) (t .worlds)
-    pub worlds-few : length (t .worlds) ≤ capacityOf (z .worlds) 2 64
-    pub references-ok : Each (ReferenceOk s (length (t .worlds) + one (t .world .given))) (t .references)
-    pub references-few : length (t .references) ≤ capacityOf (z .references) 7 1024
+    pub worlds-few : length (t .worlds) ≤ capacityIn 5 (z .worlds)
+    pub references-ok : Each (ReferenceOk s (length (t .worlds) + oneIf (t .world .given))) (t .references)
+    pub references-few : length (t .references) ≤ capacityIn 6 (z .references)
     pub worlds-ascend : Ascends (t .references)
 
   -- and no world is open
@@ -75,9 +77,9 @@ module _ (s : List ℕ) (z : Sizes) where
       record {
         package-clean = mark-none;
         open-ok = none-open;
-        worlds-ok = no-row;
+        worlds-ok = each-nil;
         worlds-few = omega arith;
-        references-ok = no-row;
+        references-ok = each-nil;
         references-few = omega arith;
         worlds-ascend = tt;
       }
@@ -100,10 +102,10 @@ module _ (s : List ℕ) (z : Sizes) where
       record { world-in = omega (arith, o .world-in); path-clean = o .path-clean; signature-clean = o .signature-clean }
 
   -- ---- a world closes
-  kept-closed : (t : State) → Kept t → t .world .given ≡ true → length (t .worlds) < capacityOf (z .worlds) 2 64 → Shut (closed t)
+  kept-closed : (t : State) → Kept t → t .world .given ≡ true → length (t .worlds) < capacityIn 5 (z .worlds) → Shut (worldClosed t)
   kept-closed t h g f =
       let n = length-append (t .worlds) (worldRow (t .world) ∷ []) in
-      let o : one (t .world .given) ≡ 1 = ap one g in
+      let o : oneIf (t .world .given) ≡ 1 = ap oneIf g in
       record {
         kept = record {
           package-clean = h .package-clean;
@@ -120,16 +122,16 @@ module _ (s : List ℕ) (z : Sizes) where
   close-keeps : (next : ℕ) (t : State) → Kept t → Gives (Of Shut) (closeAt z next t)
   unfolding closeAt Of
   close-keeps next t h = by (t .world .given) refl where
-    put : (b : Bool) → ltb (length (t .worlds)) (capacityOf (z .worlds) 2 64) ≡ b → t .world .given ≡ true
-        → Gives (Of Shut) (pick b (accepted (got (closed t) next)) (refused 13 5))
-    put true e g = gives-done (Of Shut) (got (closed t) next) (kept-closed t h g (ltb-true _ _ e))
+    put : (b : Bool) → ltb (length (t .worlds)) (capacityIn 5 (z .worlds)) ≡ b → t .world .given ≡ true
+        → Gives (Of Shut) (pick b (accepted (got (worldClosed t) next)) (refused 13 5))
+    put true e g = gives-done (Of Shut) (got (worldClosed t) next) (kept-closed t h g (ltb-true _ _ e))
     put false e g = gives-stop (Of Shut) 13 5
 
     by : (b : Bool) → t .world .given ≡ b
         → Gives (Of Shut) (pick b
-        (pick (ltb (length (t .worlds)) (capacityOf (z .worlds) 2 64)) (accepted (got (closed t) next)) (refused 13 5))
+        (pick (ltb (length (t .worlds)) (capacityIn 5 (z .worlds))) (accepted (got (worldClosed t) next)) (refused 13 5))
         (accepted (got t next)))
-    by true g = put (ltb (length (t .worlds)) (capacityOf (z .worlds) 2 64)) refl g
+    by true g = put (ltb (length (t .worlds)) (capacityIn 5 (z .worlds))) refl g
     by false g = gives-done (Of Shut) (got t next) (record { kept = h; none = h .open-ok .missing g })
 
   -- ---- a world opens
@@ -141,7 +143,7 @@ module _ (s : List ℕ) (z : Sizes) where
         worlds-ok = h .kept .worlds-ok;
         worlds-few = h .kept .worlds-few;
         references-ok =
-            each-as (ok-more _ _ (omega (arith, ap (λ (m : Mark). one (m .given)) (h .none)))) (u .references) (h .kept .references-ok);
+            each-as (ok-more _ _ (omega (arith, ap (λ (m : Mark). oneIf (m .given)) (h .none)))) (u .references) (h .kept .references-ok);
         references-few = h .kept .references-few;
         worlds-ascend = h .kept .worlds-ascend;
       }
@@ -162,18 +164,18 @@ module _ (s : List ℕ) (z : Sizes) where
 
   -- ---- a reference
   kept-referred : (t : State) (export : Bool) (path : Part) (signature : Mark) → Kept t → t .world .given ≡ true → Clean s path
-      → MarkClean s signature → length (t .references) < capacityOf (z .references) 7 1024
+      → MarkClean s signature → length (t .references) < capacityIn 6 (z .references)
       → Kept (referred t (rowOf t export path signature))
   kept-referred t export path signature h g c m f =
       let r = rowOf t export path signature in
-      let o : one (t .world .given) ≡ 1 = ap one g in
+      let o : oneIf (t .world .given) ≡ 1 = ap oneIf g in
       record {
         package-clean = h .package-clean;
         open-ok = h .open-ok;
         worlds-ok = h .worlds-ok;
         worlds-few = h .worlds-few;
         references-ok =
-            each-more (ReferenceOk s (length (t .worlds) + one (t .world .given))) (t .references) r (h .references-ok)
+            each-more (ReferenceOk s (length (t .worlds) + oneIf (t .world .given))) (t .references) r (h .references-ok)
             (record { world-in = omega (arith, o); path-clean = c; signature-clean = m });
         references-few = omega (arith, length-append (t .references) (r ∷ []));
         worlds-ascend =
@@ -210,7 +212,7 @@ module _ (s : List ℕ) (z : Sizes) where
       inside-keeps (t .world .given) _ _ (λ g. shut-kept _ (close-keeps next t h)) (λ g. gives-stop (Of Kept) 11 (t .line))
   obey-keeps (Refer export path signature) next t c h =
       inside-keeps (t .world .given) _ _
-      (λ g. inside-keeps (ltb (length (t .references)) (capacityOf (z .references) 7 1024)) _ _
+      (λ g. inside-keeps (ltb (length (t .references)) (capacityIn 6 (z .references))) _ _
       (λ f. gives-done (Of Kept) (got (referred t (rowOf t export path signature)) next)
       (kept-referred t export path signature h g (c .0) (c .1) (ltb-true _ _ f)))
       (λ f. gives-stop (Of Kept) 13 6))
@@ -221,7 +223,8 @@ module _ (s : List ℕ) (z : Sizes) where
 
   line-keeps : (at : ℕ) (t : State) → Kept t → Gives (Of Kept) (lineAt s z at t)
   unfolding lineAt
-  line-keeps at t h = obey-keeps (directive (lineOf s at)) (at + lineStep (drop at s)) (onNext t) (directive-clean s at) (kept-next t h)
+  line-keeps at t h = obey-keeps (manifestDirective (linePiece s at)) (at + lineStep (drop at s)) (onNext t) (directive-clean s at)
+      (kept-next t h)
 
   -- ---- the whole
   lines-keep : Gives (Of Shut) (linesAt s z)
@@ -231,7 +234,7 @@ module _ (s : List ℕ) (z : Sizes) where
 
   in-the-end : (t : State) → Shut t → ManifestOk s z t
   in-the-end t h =
-      let o : one (t .world .given) ≡ 0 = ap (λ (m : Mark). one (m .given)) (h .none) in
+      let o : oneIf (t .world .given) ≡ 0 = ap (λ (m : Mark). oneIf (m .given)) (h .none) in
       record {
         package-clean = h .kept .package-clean;
         worlds-ok = h .kept .worlds-ok;
@@ -241,11 +244,11 @@ module _ (s : List ℕ) (z : Sizes) where
         worlds-ascend = h .kept .worlds-ascend;
       }
 
-last-shut : (s : List ℕ) (z : Sizes) (u : State) (at : ℕ) → linesAt s z ≡ accepted (got u at) → Shut s z u
+last-shut : (s : List ℕ) (z : ManifestSizes) (u : State) (at : ℕ) → linesAt s z ≡ accepted (got u at) → Shut s z u
 unfolding Gives Of
 last-shut s z u at k = lines-keep s z (got u at) k
 
-pub rows-sound : RowsSound
+pub rows-sound : ManifestRowsSound
 unfolding manifestAt Of Gives
 rows-sound s z t e =
     gives-follow (ManifestOk s z) (wholeText s) _ (λ ok q.

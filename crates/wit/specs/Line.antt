@@ -7,7 +7,7 @@ use lib.ListN.{length}
 use Rattle.refusal.specs.Pick.{pick, both}
 use Rattle.refusal.specs.declared.Part.{Part}
 use Rattle.text.specs.Find.{seek, begins, same, indexOf2}
-use Rattle.pieces.specs.Piece.{Piece, first, beyond, trim, shorn}
+use Rattle.text.specs.Piece.{Piece, first, beyond, trim, shorn}
 use Rattle.wit.specs.declared.line.Mark.{Mark}
 use Rattle.wit.specs.declared.line.Directive.{Directive}
 use Rattle.wit.specs.declared.line.Directive.the-variants.{Blank, Package, World, Close, Refer, Brace, Other}
@@ -32,8 +32,8 @@ lone b = b ∷ []
 abbrev pub partOf : Piece → Part
 partOf p = record { from = p .at; len = length (p .bytes) }
 
-abbrev pub marked : Part → Mark
-marked p = record { given = true; from = p .from; len = p .len }
+abbrev pub markAt : Part → Mark
+markAt p = record { given = true; from = p .from; len = p .len }
 
 abbrev pub absent : Mark
 absent = record { given = false; from = 0; len = 0 }
@@ -64,12 +64,12 @@ boundary s = seek splits s
 unfoldable pub referenceOf : Bool → Piece → Directive
 referenceOf export r =
     pick (ltb (boundary (r .bytes)) (length (r .bytes)))
-    (Refer export (partOf (trim (first (boundary (r .bytes)) r))) (marked (partOf (trim (beyond (boundary (r .bytes) + 1) r)))))
+    (Refer export (partOf (trim (first (boundary (r .bytes)) r))) (markAt (partOf (trim (beyond (boundary (r .bytes) + 1) r)))))
     (Refer export (partOf r) absent)
 
 -- the first test that holds decides
-unfoldable pub worded : Piece → Directive
-worded c =
+unfoldable pub manifestWorded : Piece → Directive
+manifestWorded c =
     pick (begins packageW (c .bytes)) (Package (partOf (trim (beyond 8 c))))
     (pick (begins worldW (c .bytes)) (World (partOf (unbraced (beyond 6 c))))
     (pick (same (lone 125) (c .bytes)) Close
@@ -79,11 +79,11 @@ worded c =
     Other)))))
 
 -- a line without its comment, from the first `//` on, trimmed
-unfoldable pub core : Piece → Piece
-core p = trim (first (indexOf2 47 47 (p .bytes)) p)
+unfoldable pub manifestCore : Piece → Piece
+manifestCore p = trim (first (indexOf2 47 47 (p .bytes)) p)
 
-unfoldable pub spoken : Piece → Directive
-spoken c = pick (eqb (length (c .bytes)) 0) Blank (worded c)
+unfoldable pub manifestSpoken : Piece → Directive
+manifestSpoken c = pick (eqb (length (c .bytes)) 0) Blank (manifestWorded c)
 
-unfoldable pub directive : Piece → Directive
-directive p = spoken (core p)
+unfoldable pub manifestDirective : Piece → Directive
+manifestDirective p = manifestSpoken (manifestCore p)

@@ -5,16 +5,17 @@ use mathlib.Core.Bool.{Bool, true, false}
 use mathlib.Core.List.{List, [], _∷_, _++_}
 use lib.ListN.{length, drop}
 use lib.Dec.{ltb, eqb}
-use Rattle.refusal.specs.Pick.{pick}
+use Rattle.refusal.specs.Pick.{pick, oneIf}
 use Rattle.refusal.specs.Said.{Said, accepted, refused, refusedBy, follow, Got, got, onward}
 use Rattle.refusal.specs.declared.Part.{Part}
 use Rattle.text.specs.Lines.{lineLen, lineStep}
-use Rattle.table.specs.Table.{laid, cells, capacityOf}
-use Rattle.table.specs.Told.{Told}
+use Rattle.table.specs.Table.{laid, cells}
+use Rattle.table.specs.Shape.{capacityIn}
+use Rattle.table.specs.Told.{ReaderTells}
 use Rattle.table.specs.Walking.{walkFrom}
-use Rattle.pieces.specs.Whole.{wholeText}
-use Rattle.pieces.specs.Piece.{Piece, piece}
-use Rattle.wit.specs.Line.{absent, marked, directive}
+use Rattle.text.specs.Whole.{wholeText}
+use Rattle.text.specs.Piece.{Piece, piece}
+use Rattle.wit.specs.Line.{absent, markAt, manifestDirective}
 use Rattle.wit.specs.declared.line.Mark.{Mark}
 use Rattle.wit.specs.declared.line.Directive.{Directive}
 use Rattle.wit.specs.declared.line.Directive.the-variants.{Blank, Package, World, Close, Refer, Brace, Other}
@@ -40,17 +41,17 @@ abbrev pub onNext : State → State
 onNext t = record { line = t .line + 1; pack = t .pack; world = t .world; worlds = t .worlds; references = t .references }
 
 abbrev pub withPackage : Part → State → State
-withPackage p t = record { line = t .line; pack = marked p; world = t .world; worlds = t .worlds; references = t .references }
+withPackage p t = record { line = t .line; pack = markAt p; world = t .world; worlds = t .worlds; references = t .references }
 
 abbrev pub withWorld : Part → State → State
-withWorld p t = record { line = t .line; pack = t .pack; world = marked p; worlds = t .worlds; references = t .references }
+withWorld p t = record { line = t .line; pack = t .pack; world = markAt p; worlds = t .worlds; references = t .references }
 
 -- the open world is the next row
 abbrev pub worldRow : Mark → Part
 worldRow m = record { from = m .from; len = m .len }
 
-abbrev pub closed : State → State
-closed t =
+abbrev pub worldClosed : State → State
+worldClosed t =
     record {
       line = t .line;
       pack = t .pack;
@@ -74,56 +75,56 @@ referred t row =
     }
 
 -- how many cells each table has
-pub record Sizes : Type 0 where
+pub record ManifestSizes : Type 0 where
   pub worlds : ℕ
   pub references : ℕ
 
 -- ---- reading: each step says where the next line begins
 -- an open world takes its row: 13 where table 5 is full
-unfoldable pub closeAt : Sizes → ℕ → State → Said (Got State)
+unfoldable pub closeAt : ManifestSizes → ℕ → State → Said (Got State)
 closeAt z next t =
     pick (t .world .given)
-    (pick (ltb (length (t .worlds)) (capacityOf (z .worlds) 2 64)) (accepted (got (closed t) next)) (refused 13 5))
+    (pick (ltb (length (t .worlds)) (capacityIn 5 (z .worlds))) (accepted (got (worldClosed t) next)) (refused 13 5))
     (accepted (got t next))
 
 -- the world before it closes first; then a name that is empty is 10
-unfoldable pub openAt : Sizes → Part → ℕ → State → Said (Got State)
+unfoldable pub openAt : ManifestSizes → Part → ℕ → State → Said (Got State)
 openAt z name next t =
     onward (closeAt z next t) (λ u at.
     pick (eqb (name .len) 0) (refused 10 (u .line)) (accepted (got (withWorld name u) at)))
 
 -- 13 where table 6 is full
-unfoldable pub referAt : Sizes → Bool → Part → Mark → ℕ → State → Said (Got State)
+unfoldable pub referAt : ManifestSizes → Bool → Part → Mark → ℕ → State → Said (Got State)
 referAt z export path signature next t =
-    pick (ltb (length (t .references)) (capacityOf (z .references) 7 1024))
+    pick (ltb (length (t .references)) (capacityIn 6 (z .references)))
     (accepted (got (referred t (rowOf t export path signature)) next)) (refused 13 6)
 
 -- one thing in a world, another outside
-abbrev pub inside : State → Said (Got State) → Said (Got State) → Said (Got State)
-inside t a b = pick (t .world .given) a b
+abbrev pub inWorld : State → Said (Got State) → Said (Got State) → Said (Got State)
+inWorld t a b = pick (t .world .given) a b
 
-unfoldable pub obeyAt : Sizes → Directive → ℕ → State → Said (Got State)
+unfoldable pub obeyAt : ManifestSizes → Directive → ℕ → State → Said (Got State)
 obeyAt z Blank next t = accepted (got t next)
-obeyAt z (Package p) next t = inside t (refused 9 (t .line)) (accepted (got (withPackage p t) next))
+obeyAt z (Package p) next t = inWorld t (refused 9 (t .line)) (accepted (got (withPackage p t) next))
 obeyAt z (World p) next t = openAt z p next t
-obeyAt z Close next t = inside t (closeAt z next t) (refused 11 (t .line))
-obeyAt z (Refer export path signature) next t = inside t (referAt z export path signature next t) (refused 12 (t .line))
-obeyAt z Brace next t = inside t (accepted (got t next)) (refused 6 (t .line))
+obeyAt z Close next t = inWorld t (closeAt z next t) (refused 11 (t .line))
+obeyAt z (Refer export path signature) next t = inWorld t (referAt z export path signature next t) (refused 12 (t .line))
+obeyAt z Brace next t = inWorld t (accepted (got t next)) (refused 6 (t .line))
 obeyAt z Other next t = refused 6 (t .line)
 
 -- the line that begins at an offset of the text
-abbrev pub lineOf : List ℕ → ℕ → Piece
-lineOf s at = piece s at (at + lineLen (drop at s))
+abbrev pub linePiece : List ℕ → ℕ → Piece
+linePiece s at = piece s at (at + lineLen (drop at s))
 
-unfoldable pub lineAt : List ℕ → Sizes → ℕ → State → Said (Got State)
-lineAt s z at t = obeyAt z (directive (lineOf s at)) (at + lineStep (drop at s)) (onNext t)
+unfoldable pub lineAt : List ℕ → ManifestSizes → ℕ → State → Said (Got State)
+lineAt s z at t = obeyAt z (manifestDirective (linePiece s at)) (at + lineStep (drop at s)) (onNext t)
 
 -- line after line; the end of the text closes an open world
-unfoldable pub linesAt : List ℕ → Sizes → Said (Got State)
+unfoldable pub linesAt : List ℕ → ManifestSizes → Said (Got State)
 linesAt s z = onward (walkFrom (lineAt s z) s 0 start) (λ t at. closeAt z at t)
 
 -- the text as a whole, then its lines
-unfoldable pub manifestAt : List ℕ → Sizes → Said State
+unfoldable pub manifestAt : List ℕ → ManifestSizes → Said State
 manifestAt s z = follow (wholeText s) (λ ok. onward (linesAt s z) (λ t at. accepted t))
 
 -- ---- the answer, and the lent tables
@@ -137,8 +138,8 @@ knownOf t =
       references = length (t .references);
     }
 
-abbrev pub answered : Known → Manifest
-answered k =
+abbrev pub manifestKnown : Known → Manifest
+manifestKnown k =
     record {
       packaged = k .pack .given;
       start = k .pack .from;
@@ -149,16 +150,11 @@ answered k =
 
 -- the package, and how many rows each table has
 unfoldable pub manifestOf : State → Manifest
-manifestOf t = answered (knownOf t)
+manifestOf t = manifestKnown (knownOf t)
 
 abbrev pub saidManifest : ManifestRead → Said Manifest
 saidManifest (ManifestRead.Manifest v) = accepted v
 saidManifest (ManifestRead.Refused why) = refusedBy why
-
--- 1 for a mark that is set
-abbrev pub one : Bool → ℕ
-one true = 1
-one false = 0
 
 -- table 5: where the name is
 unfoldable pub worldCells : Part → List ℕ
@@ -168,52 +164,52 @@ worldCells r = r .from ∷ r .len ∷ []
 unfoldable pub referenceCells : Reference → List ℕ
 referenceCells r =
     r .world
-    ∷ one (r .export)
+    ∷ oneIf (r .export)
     ∷ r .path .from
     ∷ r .path .len
-    ∷ one (r .signature .given)
+    ∷ oneIf (r .signature .given)
     ∷ r .signature .from
     ∷ r .signature .len
     ∷ []
 
 -- the two tables as they are lent
-pub record Lent : Type 0 where
+pub record ManifestLent : Type 0 where
   pub worlds : List ℕ
   pub references : List ℕ
 
-abbrev pub lend : List ℕ → List ℕ → Lent
-lend w r = record { worlds = w; references = r }
+abbrev pub lendManifest : List ℕ → List ℕ → ManifestLent
+lendManifest w r = record { worlds = w; references = r }
 
-abbrev pub sized : ℕ → ℕ → Sizes
+abbrev pub sized : ℕ → ℕ → ManifestSizes
 sized n m = record { worlds = n; references = m }
 
-abbrev pub sizes : List ℕ → List ℕ → Sizes
-sizes w r = sized (length w) (length r)
+abbrev pub manifestSizes : List ℕ → List ℕ → ManifestSizes
+manifestSizes w r = sized (length w) (length r)
 
 -- the lent tables hold the rows, and zeros after them, in every cell
-pub record Holds (l : Lent) (z : Sizes) (t : State) : Type 0 where
+pub record ManifestHolds (l : ManifestLent) (z : ManifestSizes) (t : State) : Type 0 where
   pub worlds-are : l .worlds ≡ laid (z .worlds) (cells worldCells (t .worlds))
   pub references-are : l .references ≡ laid (z .references) (cells referenceCells (t .references))
 
 -- after a refusal both tables are zero throughout
-unfoldable pub heldOf : Said State → State
-heldOf (accepted t) = t
-heldOf (refused n p) = start
+unfoldable pub manifestHeld : Said State → State
+manifestHeld (accepted t) = t
+manifestHeld (refused n p) = start
 
 -- the promise of `read_manifest`: the answer, and what both tables hold at the end
-pub record ManifestIs (z : Sizes) (x : Said State) (l : Lent) (a : Said Manifest) : Type 0 where
+pub record ManifestIs (z : ManifestSizes) (x : Said State) (l : ManifestLent) (a : Said Manifest) : Type 0 where
   pub answer-is : a ≡ follow x (λ t. accepted (manifestOf t))
-  pub tables-are : Holds l z (heldOf x)
+  pub tables-are : ManifestHolds l z (manifestHeld x)
 
 -- ---- for the code
 abbrev pub nextLine : Known → Known
 nextLine k = record { line = k .line + 1; pack = k .pack; world = k .world; worlds = k .worlds; references = k .references }
 
 abbrev pub packaged : Part → Known → Known
-packaged p k = record { line = k .line; pack = marked p; world = k .world; worlds = k .worlds; references = k .references }
+packaged p k = record { line = k .line; pack = markAt p; world = k .world; worlds = k .worlds; references = k .references }
 
 abbrev pub opened : Part → Known → Known
-opened p k = record { line = k .line; pack = k .pack; world = marked p; worlds = k .worlds; references = k .references }
+opened p k = record { line = k .line; pack = k .pack; world = markAt p; worlds = k .worlds; references = k .references }
 
 abbrev pub saidKnown : KnownRead → Said (Got Known)
 saidKnown (KnownRead.Read v next) = accepted (got v next)
@@ -225,5 +221,5 @@ Numbered n (accepted (got k d)) = k .line ≡ n
 Numbered n (refused m p) = Unit {0}
 
 -- whatever state the code's numbers stand for, with the tables as they were: the answer is that of x, and the tables hold what x gives
-abbrev pub Steps : Sizes → Lent → Lent → Known → (State → Said (Got State)) → Said (Got Known) → Type 0
-Steps z before after k x a = (t : State) → k ≡ knownOf t → Holds before z t → Told knownOf (Holds after z) (x t) a
+abbrev pub Steps : ManifestSizes → ManifestLent → ManifestLent → Known → (State → Said (Got State)) → Said (Got Known) → Type 0
+Steps z before after k x a = (t : State) → k ≡ knownOf t → ManifestHolds before z t → ReaderTells knownOf (ManifestHolds after z) (x t) a

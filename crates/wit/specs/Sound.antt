@@ -9,10 +9,10 @@ use Rattle.refusal.specs.Said.{accepted}
 use Rattle.refusal.specs.declared.Part.{Part}
 use Rattle.text.specs.Find.{indexOf, indexOf2}
 use Rattle.text.specs.Trim.{trimOf}
-use Rattle.table.specs.Table.{capacityOf}
-use Rattle.table.proofs.Giving.{Each}
+use Rattle.table.specs.Shape.{capacityIn}
+use Rattle.refusal.specs.Each.{Each}
 use Rattle.wit.specs.Line.{absent}
-use Rattle.wit.specs.Manifest.{State, Sizes, worldRow, manifestAt}
+use Rattle.wit.specs.Manifest.{State, ManifestSizes, worldRow, manifestAt}
 use Rattle.wit.specs.declared.line.Mark.{Mark}
 use Rattle.wit.specs.declared.rows.Reference.{Reference}
 
@@ -49,22 +49,23 @@ Ascends [] = Unit {0}
 Ascends (r ∷ rs) = Each (λ q. r .world ≤ q .world) rs × Ascends rs
 
 -- ---- the claims
-pub record ManifestOk (s : List ℕ) (z : Sizes) (t : State) : Type 0 where
+pub record ManifestOk (s : List ℕ) (z : ManifestSizes) (t : State) : Type 0 where
   pub package-clean : MarkClean s (t .pack)
   pub worlds-ok : Each (WorldOk s) (t .worlds)
-  pub worlds-few : length (t .worlds) ≤ capacityOf (z .worlds) 2 64
+  pub worlds-few : length (t .worlds) ≤ capacityIn 5 (z .worlds)
   pub references-ok : Each (ReferenceOk s (length (t .worlds))) (t .references)
-  pub references-few : length (t .references) ≤ capacityOf (z .references) 7 1024
+  pub references-few : length (t .references) ≤ capacityIn 6 (z .references)
   pub worlds-ascend : Ascends (t .references)
 
-abbrev pub RowsSound : Type 0
-RowsSound = (s : List ℕ) (z : Sizes) (t : State) → manifestAt s z ≡ accepted t → ManifestOk s z t
+abbrev pub ManifestRowsSound : Type 0
+ManifestRowsSound = (s : List ℕ) (z : ManifestSizes) (t : State) → manifestAt s z ≡ accepted t → ManifestOk s z t
 
 -- w has at least the room of z
-pub record Larger (z w : Sizes) : Type 0 where
-  pub worlds : capacityOf (z .worlds) 2 64 ≤ capacityOf (w .worlds) 2 64
-  pub references : capacityOf (z .references) 7 1024 ≤ capacityOf (w .references) 7 1024
+pub record ManifestLarger (z w : ManifestSizes) : Type 0 where
+  pub worlds : capacityIn 5 (z .worlds) ≤ capacityIn 5 (w .worlds)
+  pub references : capacityIn 6 (z .references) ≤ capacityIn 6 (w .references)
 
 -- a text that is accepted with some tables is accepted with larger ones: the same package and rows
-abbrev pub LargerSame : Type 0
-LargerSame = (s : List ℕ) (z w : Sizes) (t : State) → Larger z w → manifestAt s z ≡ accepted t → manifestAt s w ≡ accepted t
+abbrev pub ManifestLargerSame : Type 0
+ManifestLargerSame = (s : List ℕ) (z w : ManifestSizes) (t : State) → ManifestLarger z w → manifestAt s z ≡ accepted t
+    → manifestAt s w ≡ accepted t

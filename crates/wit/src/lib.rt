@@ -12,8 +12,9 @@ use refusal::Refusal;
 ghost use mathlib.Core.Path.{_≡_};
 ghost use Prim.Native.Nat.{_+_, _≤_, _<_};
 ghost use lib.ListN.{length};
-ghost use Rattle.table.specs.Told.{Told, Passed};
-ghost use Rattle.wit.specs.Manifest.{sizes, lend, Holds, start, knownOf, lineAt, linesAt, manifestAt, answered, saidManifest};
+ghost use Rattle.table.specs.Told.{ReaderTells, Passed};
+ghost use Rattle.wit.specs.Manifest.{manifestSizes, lendManifest, ManifestHolds, start, knownOf, lineAt, linesAt, manifestAt};
+ghost use Rattle.wit.specs.Manifest.{manifestKnown, saidManifest};
 ghost use Rattle.wit.specs.Manifest.{ManifestIs, saidKnown, Steps, Numbered};
 
 // A manifest that was read: the package as a range of the text, and how many rows tables 5 and 6 have.
@@ -31,8 +32,8 @@ pub enum ManifestRead {
 }
 
 fn clear_both(worlds: &mut [usize], references: &mut [usize])
-    ensures { λ _. ⌜ Holds (lend (now (worlds .exit)) (now (references .exit)))
-        (sizes (now (worlds .entry)) (now (references .entry))) start ⌝ }
+    ensures { λ _. ⌜ ManifestHolds (lendManifest (now (worlds .exit)) (now (references .exit)))
+        (manifestSizes (now (worlds .entry)) (now (references .entry))) start ⌝ }
 {
     table::clear(worlds);
     table::clear(references);
@@ -49,9 +50,9 @@ fn read_line(
     requires { ⌜ at < length (now s) ⌝ }
     requires { ⌜ k .line ≤ at ⌝ }
     ensures { λ r. ⌜ Passed (length (now (s .entry))) at (saidKnown r) × Numbered (k .line + 1) (saidKnown r)
-        × Steps (sizes (now (worlds .entry)) (now (references .entry)))
-        (lend (now (worlds .entry)) (now (references .entry))) (lend (now (worlds .exit)) (now (references .exit)))
-        k (lineAt (now (s .entry)) (sizes (now (worlds .entry)) (now (references .entry))) at) (saidKnown r) ⌝ }
+        × Steps (manifestSizes (now (worlds .entry)) (now (references .entry)))
+        (lendManifest (now (worlds .entry)) (now (references .entry))) (lendManifest (now (worlds .exit)) (now (references .exit)))
+        k (lineAt (now (s .entry)) (manifestSizes (now (worlds .entry)) (now (references .entry))) at) (saidKnown r) ⌝ }
 {
     let l = text::lines::line_at(s, at);
     let end = l.end;
@@ -62,10 +63,10 @@ fn read_line(
 
 // The loop alone: line after line, to the end of the text, which closes an open world.
 fn read_lines(s: &[u8], worlds: &mut [usize], references: &mut [usize]) -> KnownRead
-    requires { ⌜ Holds (lend (now worlds) (now references)) (sizes (now worlds) (now references)) start ⌝ }
-    ensures { λ r. ⌜ Told knownOf (Holds (lend (now (worlds .exit)) (now (references .exit)))
-        (sizes (now (worlds .entry)) (now (references .entry))))
-        (linesAt (now (s .entry)) (sizes (now (worlds .entry)) (now (references .entry)))) (saidKnown r) ⌝ }
+    requires { ⌜ ManifestHolds (lendManifest (now worlds) (now references)) (manifestSizes (now worlds) (now references)) start ⌝ }
+    ensures { λ r. ⌜ ReaderTells knownOf (ManifestHolds (lendManifest (now (worlds .exit)) (now (references .exit)))
+        (manifestSizes (now (worlds .entry)) (now (references .entry))))
+        (linesAt (now (s .entry)) (manifestSizes (now (worlds .entry)) (now (references .entry)))) (saidKnown r) ⌝ }
 {
     let mut at = 0;
     let mut k = first_known();
@@ -84,7 +85,7 @@ fn read_lines(s: &[u8], worlds: &mut [usize], references: &mut [usize]) -> Known
 }
 
 fn manifest_of(k: Known) -> Manifest
-    ensures { λ r. ⌜ r ≡ answered k ⌝ }
+    ensures { λ r. ⌜ r ≡ manifestKnown k ⌝ }
 {
     let pack = k.pack;
     Manifest {
@@ -98,12 +99,12 @@ fn manifest_of(k: Known) -> Manifest
 
 // Any text, any tables: the answer, and every cell of both tables.
 pub fn read_manifest(s: &[u8], worlds: &mut [usize], references: &mut [usize]) -> ManifestRead
-    ensures { λ r. ⌜ ManifestIs (sizes (now (worlds .entry)) (now (references .entry)))
-        (manifestAt (now (s .entry)) (sizes (now (worlds .entry)) (now (references .entry))))
-        (lend (now (worlds .exit)) (now (references .exit))) (saidManifest r) ⌝ }
+    ensures { λ r. ⌜ ManifestIs (manifestSizes (now (worlds .entry)) (now (references .entry)))
+        (manifestAt (now (s .entry)) (manifestSizes (now (worlds .entry)) (now (references .entry))))
+        (lendManifest (now (worlds .exit)) (now (references .exit))) (saidManifest r) ⌝ }
 {
     clear_both(worlds, references);
-    match pieces::test_text(s) {
+    match text::pieces::test_text(s) {
         Answer::Refused(why) => ManifestRead::Refused(why),
         Answer::Accepted => match read_lines(s, worlds, references) {
             KnownRead::Read(k, _) => ManifestRead::Manifest(manifest_of(k)),

@@ -1,10 +1,12 @@
 // A line of a manifest: what it says, by ranges of the text.
 use refusal::Part;
+use text::pieces::trimmed_at;
 ghost use mathlib.Core.Path.{_≡_};
 ghost use Prim.Native.Nat.{_≤_, _<_};
 ghost use lib.ListN.{length, drop};
-ghost use Rattle.pieces.specs.Piece.{piece, trim, TrimTo};
-ghost use Rattle.wit.specs.Line.{isSpace, splits, boundary, unbraced, partOf, marked, absent, referenceOf, worded, directive};
+ghost use Rattle.text.specs.Piece.{piece, trim};
+ghost use Rattle.wit.specs.Line.{isSpace, splits, boundary, unbraced, partOf, markAt, absent, referenceOf, manifestWorded};
+ghost use Rattle.wit.specs.Line.{manifestDirective};
 
 // A range of the text; zeros where `given` is false.
 pub(crate) struct Mark {
@@ -25,14 +27,8 @@ pub(crate) enum Directive {
     Other,
 }
 
-// A range by its ends.
-struct Span {
-    from: usize,
-    past: usize,
-}
-
 pub(crate) fn mark_of(p: Part) -> Mark
-    ensures { λ r. ⌜ r ≡ marked p ⌝ }
+    ensures { λ r. ⌜ r ≡ markAt p ⌝ }
 {
     Mark {
         given: true,
@@ -98,19 +94,6 @@ fn boundary_of(s: &[u8]) -> usize
     i
 }
 
-// The part from a to e, trimmed.
-fn trimmed_at(s: &[u8], a: usize, e: usize) -> Span
-    requires { ⌜ (a ≤ e) × (e ≤ length (now s)) ⌝ }
-    ensures { λ r. ⌜ TrimTo (now (s .entry)) a e (r .from) (r .past) ⌝ }
-{
-    let t = text::white::trim(&s[a..e]);
-    let from = a + t.from;
-    Span {
-        from,
-        past: from + t.len,
-    }
-}
-
 // The part from a to e, trimmed, as a range.
 fn part_at(s: &[u8], a: usize, e: usize) -> Part
     requires { ⌜ (a ≤ e) × (e ≤ length (now s)) ⌝ }
@@ -127,7 +110,7 @@ fn unbraced_at(s: &[u8], a: usize, e: usize) -> usize
     requires { ⌜ (a ≤ e) × (e ≤ length (now s)) ⌝ }
     ensures { λ r. ⌜ (a ≤ r) × (r ≤ e) × (unbraced (piece (now (s .entry)) a e) ≡ trim (piece (now (s .entry)) a r)) ⌝ }
 {
-    a + pieces::shorn_of(&s[a..e], b'{')
+    a + text::pieces::shorn_of(&s[a..e], b'{')
 }
 
 // A reference of which the word is cut off.
@@ -157,7 +140,7 @@ fn reference_at(s: &[u8], a: usize, e: usize, export: bool) -> Directive
 // A line that is not empty, trimmed.
 fn worded_at(s: &[u8], a: usize, e: usize) -> Directive
     requires { ⌜ (a ≤ e) × (e ≤ length (now s)) ⌝ }
-    ensures { λ r. ⌜ r ≡ worded (piece (now (s .entry)) a e) ⌝ }
+    ensures { λ r. ⌜ r ≡ manifestWorded (piece (now (s .entry)) a e) ⌝ }
 {
     if text::order::starts(&s[a..e], b"package ") {
         return Directive::Package(part_at(s, a + 8, e));
@@ -184,7 +167,7 @@ fn worded_at(s: &[u8], a: usize, e: usize) -> Directive
 // What the line from a to e says.
 pub(crate) fn directive_at(s: &[u8], a: usize, e: usize) -> Directive
     requires { ⌜ (a ≤ e) × (e ≤ length (now s)) ⌝ }
-    ensures { λ r. ⌜ r ≡ directive (piece (now (s .entry)) a e) ⌝ }
+    ensures { λ r. ⌜ r ≡ manifestDirective (piece (now (s .entry)) a e) ⌝ }
 {
     let h = a + text::find::find_pair(&s[a..e], b'/', b'/');
     let t = trimmed_at(s, a, h);

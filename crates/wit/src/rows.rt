@@ -5,13 +5,18 @@ use crate::line::mark_of;
 use crate::line::no_mark;
 use refusal::Part;
 use refusal::Refusal;
+use table::shape::MAX_REFERENCES;
+use table::shape::MAX_WORLDS;
+use table::shape::REFERENCE_WIDTH;
+use table::shape::WORLD_WIDTH;
 ghost use mathlib.Core.Path.{_≡_};
 ghost use mathlib.Core.List.{List};
 ghost use Prim.Native.Nat.{ℕ, _+_, _<_};
 ghost use lib.ListN.{length};
 ghost use Rattle.table.specs.Table.{putRow};
 ghost use Rattle.table.specs.Told.{Ends};
-ghost use Rattle.wit.specs.Manifest.{sizes, sized, lend, start, knownOf, nextLine, saidKnown, Steps, Numbered, one};
+ghost use Rattle.refusal.specs.Pick.{oneIf};
+ghost use Rattle.wit.specs.Manifest.{manifestSizes, sized, lendManifest, start, knownOf, nextLine, saidKnown, Steps, Numbered};
 ghost use Rattle.wit.specs.Manifest.{worldCells, worldRow, referenceCells, closeAt, openAt, referAt, obeyAt, packaged, opened};
 
 // A row of table 6: the world by its row of table 5, whether it is an export, its path and its signature.
@@ -77,7 +82,7 @@ fn put_world(table: &mut [usize], count: usize, name: Mark)
 
 // 1 for a mark that is set.
 fn one_of(b: bool) -> usize
-    ensures { λ r. ⌜ r ≡ one b ⌝ }
+    ensures { λ r. ⌜ r ≡ oneIf b ⌝ }
 {
     if b { 1 } else { 0 }
 }
@@ -102,13 +107,13 @@ fn put_reference(table: &mut [usize], count: usize, row: Reference)
 // A world's row is taken when it closes.
 pub(crate) fn close_world(k: Known, next: usize, worlds: &mut [usize]) -> KnownRead
     ensures { λ r. ⌜ Ends next (saidKnown r) × Numbered (k .line) (saidKnown r)
-        × ((l : List ℕ) (n : ℕ) → Steps (sized (length (now (worlds .entry))) n) (lend (now (worlds .entry)) l)
-        (lend (now (worlds .exit)) l) k (closeAt (sized (length (now (worlds .entry))) n) next) (saidKnown r)) ⌝ }
+        × ((l : List ℕ) (n : ℕ) → Steps (sized (length (now (worlds .entry))) n) (lendManifest (now (worlds .entry)) l)
+        (lendManifest (now (worlds .exit)) l) k (closeAt (sized (length (now (worlds .entry))) n) next) (saidKnown r)) ⌝ }
 {
     if !k.world.given {
         return KnownRead::Read(k, next);
     }
-    let room = table::capacity(worlds.len(), 2, 64);
+    let room = table::capacity(worlds.len(), WORLD_WIDTH, MAX_WORLDS);
     let n = k.worlds;
     if n >= room {
         return KnownRead::Refused(Refusal::Full(5));
@@ -138,11 +143,11 @@ fn add_reference(
     references: &mut [usize],
 ) -> KnownRead
     ensures { λ r. ⌜ Ends next (saidKnown r) × Numbered (k .line) (saidKnown r)
-        × ((l : List ℕ) (n : ℕ) → Steps (sized n (length (now (references .entry)))) (lend l (now (references .entry)))
-        (lend l (now (references .exit))) k
+        × ((l : List ℕ) (n : ℕ) → Steps (sized n (length (now (references .entry)))) (lendManifest l (now (references .entry)))
+        (lendManifest l (now (references .exit))) k
         (referAt (sized n (length (now (references .entry)))) export path signature next) (saidKnown r)) ⌝ }
 {
-    let room = table::capacity(references.len(), 7, 1024);
+    let room = table::capacity(references.len(), REFERENCE_WIDTH, MAX_REFERENCES);
     let n = k.references;
     if n >= room {
         return KnownRead::Refused(Refusal::Full(6));
@@ -202,8 +207,8 @@ fn with_world(k: Known, p: Part) -> Known
 // The world before it closes, and one with a name opens.
 fn open_world(k: Known, name: Part, next: usize, worlds: &mut [usize]) -> KnownRead
     ensures { λ r. ⌜ Ends next (saidKnown r) × Numbered (k .line) (saidKnown r)
-        × ((l : List ℕ) (n : ℕ) → Steps (sized (length (now (worlds .entry))) n) (lend (now (worlds .entry)) l)
-        (lend (now (worlds .exit)) l) k (openAt (sized (length (now (worlds .entry))) n) name next) (saidKnown r)) ⌝ }
+        × ((l : List ℕ) (n : ℕ) → Steps (sized (length (now (worlds .entry))) n) (lendManifest (now (worlds .entry)) l)
+        (lendManifest (now (worlds .exit)) l) k (openAt (sized (length (now (worlds .entry))) n) name next) (saidKnown r)) ⌝ }
 {
     let one = close_world(k, next, worlds);
     let KnownRead::Read(n, at) = one else {
@@ -224,9 +229,9 @@ pub(crate) fn obey(
     references: &mut [usize],
 ) -> KnownRead
     ensures { λ r. ⌜ Ends next (saidKnown r) × Numbered (k .line) (saidKnown r)
-        × Steps (sizes (now (worlds .entry)) (now (references .entry)))
-        (lend (now (worlds .entry)) (now (references .entry))) (lend (now (worlds .exit)) (now (references .exit)))
-        k (obeyAt (sizes (now (worlds .entry)) (now (references .entry))) d next) (saidKnown r) ⌝ }
+        × Steps (manifestSizes (now (worlds .entry)) (now (references .entry)))
+        (lendManifest (now (worlds .entry)) (now (references .entry))) (lendManifest (now (worlds .exit)) (now (references .exit)))
+        k (obeyAt (manifestSizes (now (worlds .entry)) (now (references .entry))) d next) (saidKnown r) ⌝ }
 {
     let inside = k.world.given;
     let line = k.line;

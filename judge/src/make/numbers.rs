@@ -81,6 +81,12 @@ pub fn fixed(court: &mut Court) {
     for length in 1..=3 {
         every(&UTF8, length, |s| name(court, s));
     }
+    // four bytes: each edge of the second, and of the last two what may follow and what may not
+    for first in [0xf0, 0xf1, 0xf3, 0xf4, 0xf5] {
+        for second in UTF8 {
+            every(&[0x41, 0x80, 0xbf, 0xc0], 2, |s| name(court, &[first, second, s[0], s[1]]));
+        }
+    }
     for at in [0, 1, 2, 3, 4, u64::MAX - 1, u64::MAX] {
         for s in [&b""[..], b"\x00", b"\x80\x01", b"\x01a\x01"] {
             each(court, s, at);

@@ -19,7 +19,8 @@ returns-3 : tie.Need-returns-3
 returns-3 c =
     let w = c .before in
     let t = w .before .before in
-    so (text-good _ _ (t .before .if1 .left) (sym (t .test-text .ensures) ∙ ap saidAnswer (w .enum-told .given .1))) (c .check-file .ensures)
+    so (text-good _ _ (t .before .if1 .left) (sym (t .test-text .ensures) ∙ ap saidAnswer (w .enum-told .given .1)))
+    (c .check-file .ensures)
 
 pub check-module-spec : {M : Type 1} → statement M
 check-module-spec =

@@ -10,6 +10,8 @@ use Rattle.compat.proofs.Filling.{zeros-length}
 use Rattle.compat.proofs.Listed.{rows-fit, compares-full8, compares-full9, compares-lists}
 use Rattle.compat.proofs.compare_tables.Statement.{statement}
 use Rattle.compat.proofs.compare_tables.Tie as tie
+use Rattle.table.specs.Shape.{width, limit}
+use Rattle.compat.specs.Keying.{keyLimit}
 
 abbrev start : tie.After-exports → tie.Start
 start c = c .before .before .before .before .before .before .before .before .before
@@ -29,14 +31,14 @@ list-exports-requires c κs =
     let g = start c .pre .0 in
     let p = exports-good _ _ _ (g .0 .exports-good) .0 in
     let q = exports-good _ _ _ (g .1 .exports-good) .0 in
-    ((p, q, omega (arith, zeros-length 2048)), (g .0 .exports-good, g .1 .exports-good))
+    ((p, q, omega (arith, zeros-length keyLimit)), (g .0 .exports-good, g .1 .exports-good))
 
 list-needs-requires : tie.Need-list-needs-requires
 list-needs-requires c κs =
     let g = start (first (c .before .before) .before) .pre .0 in
     let p = imports-good _ _ _ (g .0 .imports-good) in
     let q = imports-good _ _ _ (g .1 .imports-good) in
-    (p, q, omega (arith, zeros-length 2048))
+    (p, q, omega (arith, zeros-length keyLimit))
 
 returns : tie.Need-returns
 returns c =
@@ -67,7 +69,7 @@ lay-exports-requires c κs =
     let f = first (e .before) in (
       start (f .before) .pre .1 .0,
       rw (length-take-le _ _ (f .list-exports .ensures .within))
-          (rows-fit _ 2 2048 _ (omega (arith, e .before .capacity .ensures, e .if1 .left))),
+          (rows-fit _ (width 8) (limit 8) _ (omega (arith, e .before .capacity .ensures, e .if1 .left))),
     )
 
 -- where both lists are in their tables' reach
@@ -83,7 +85,7 @@ lay-needs-requires c κs =
     let k = e .before in (
       start (first (fitted k .before) .before) .pre .1 .1,
       rw (length-take-le _ _ (second k .list-needs .ensures .within))
-          (rows-fit _ 3 2048 _ (omega (arith, k .capacity2 .ensures, e .if2 .left))),
+          (rows-fit _ (width 9) (limit 9) _ (omega (arith, k .capacity2 .ensures, e .if2 .left))),
     )
 
 -- where both tables are written

@@ -1,52 +1,43 @@
--- `reasons::check_export_diffs` meets its contract. Assumes nothing.
-use Prim.Native.Nat.{_-_, _≤_}
-use native.Mathlib.Omega.{arith}
-use mathlib.Core.Path.{_≡_, sym, _∙_, ap}
+-- `reasons::check_export_diffs` meets its contract: a walk over rows. Assumes nothing.
+use Prim.Native.Nat.{_-_}
 use borrow.Author.Needs.{needs}
 use borrow.Author.Tests.{not-true, not-false}
-use Rattle.refusal.specs.Said.{refused}
-use Rattle.table.specs.Testing.{firstFrom}
-use Rattle.table.proofs.Testing.{first-bad, first-good, first-end, tested-over}
-use Rattle.imports.proofs.Asking.{rows-decide}
-use Rattle.reasons.specs.Reasons.{exportDiffBad, exportDiffsTested}
-use Rattle.reasons.proofs.Testing.{export-bad, export-good}
+use lib.ListN.{length}
+use Rattle.table.specs.Shape.{capacityIn}
+use Rattle.table.proofs.Testing.{Walked, walk-over, walk-starts, walk-stops, walk-goes, walk-ends}
+use Rattle.reasons.specs.Reasons.{exportDiffFits, exportDiffsTested}
 use Rattle.reasons.proofs.check_export_diffs.Statement.{statement}
 use Rattle.reasons.proofs.check_export_diffs.Tie as tie
 
 abbrev Inv-loop : tie.InvT-loop
-Inv-loop xd n nbe nce room i₀ i = (i ≤ n) × (exportDiffsTested nbe nce xd n ≡ firstFrom (exportDiffBad nbe nce xd) i (n - i))
+Inv-loop xd n nbe nce room i₀ i = Walked (capacityIn 8 (length xd)) n (exportDiffFits nbe nce xd) i
 
 abbrev μ-loop : tie.MeasureT-loop
 μ-loop xd n nbe nce room i₀ i = n - i
 
 returns : tie.Need-returns Inv-loop μ-loop
 unfolding exportDiffsTested
-returns c =
-    let e = c .before .capacity .ensures in
-    ap (refused 15) e ∙ tested-over _ _ _ (omega (arith, e, c .if1 .taken))
+returns c = walk-over _ _ (exportDiffFits _ _ _) (c .before .capacity .ensures) (c .if1 .taken)
 
 loop-holds : tie.Need-loop-holds Inv-loop μ-loop
-unfolding exportDiffsTested
-loop-holds c = (omega arith, rows-decide _ _ _ (omega (arith, c .before .capacity .ensures, c .if1 .left)))
+loop-holds c = walk-starts (c .before .capacity .ensures) (c .if1 .left)
 
 returns-2 : tie.Need-returns-2 Inv-loop μ-loop
+unfolding exportDiffsTested
 returns-2 c =
     let k = c .before in
     let t = k .before in
-    first-bad _ _ _ (t .loop-test .taken) (export-bad _ _ _ _ (k .export-diff-fits .ensures) (not-true _ (c .if2 .taken))) ∙ sym
-    (t .before .loop .inv .1)
+    walk-stops (t .before .loop .inv) (t .loop-test .taken) (k .export-diff-fits .ensures) (not-true _ (c .if2 .taken))
 
 loop-again : tie.Need-loop-again Inv-loop μ-loop
 loop-again c =
     let k = c .before in
-    let t = k .before in (
-      omega arith,
-      t .before .loop .inv .1 ∙ first-good _ _ _ (t .loop-test .taken)
-          (export-good _ _ _ _ (k .export-diff-fits .ensures) (not-false _ (c .if2 .left))),
-    )
+    let t = k .before in
+    walk-goes (t .before .loop .inv) (t .loop-test .taken) (k .export-diff-fits .ensures) (not-false _ (c .if2 .left))
 
 returns-3 : tie.Need-returns-3 Inv-loop μ-loop
-returns-3 c = first-end _ _ _ (c .loop-test .left) ∙ sym (c .before .loop .inv .1)
+unfolding exportDiffsTested
+returns-3 c = walk-ends (c .before .loop .inv) (c .loop-test .left)
 
 pub check-export-diffs-spec : {M : Type 1} → statement M
 check-export-diffs-spec =

@@ -1,6 +1,6 @@
 -- `reasons::put_export` meets its contract. Assumes nothing.
 use borrow.Author.Needs.{needs}
-use Rattle.writing.proofs.Laws.{wrote-put, wrote-then}
+use Rattle.output.proofs.ByteLaws.{wrote-put, wrote-then}
 use Rattle.reasons.proofs.Lines.{export-line}
 use Rattle.reasons.proofs.put_export.Statement.{statement}
 use Rattle.reasons.proofs.put_export.Tie as tie

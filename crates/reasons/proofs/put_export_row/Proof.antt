@@ -1,7 +1,7 @@
 -- `reasons::put_export_row` meets its contract. Assumes nothing.
 use native.Mathlib.Omega.{arith}
 use borrow.Author.Needs.{needs}
-use Rattle.writing.proofs.Laws.{wrote-none}
+use Rattle.output.proofs.ByteLaws.{wrote-none}
 use Rattle.reasons.proofs.Lines.{export-none, export-some, row-kind}
 use Rattle.reasons.proofs.put_export_row.Statement.{statement}
 use Rattle.reasons.proofs.put_export_row.Tie as tie

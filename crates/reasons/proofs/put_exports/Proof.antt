@@ -2,7 +2,7 @@
 use Prim.Native.Nat.{_-_, _≤_}
 use native.Mathlib.Omega.{arith}
 use borrow.Author.Needs.{needs}
-use Rattle.writing.specs.Writing.{Wrote}
+use Rattle.output.specs.Bytes.{Wrote}
 use Rattle.reasons.specs.Reasons.{exportReasons}
 use Rattle.reasons.proofs.Lines.{lines-first, lines-next, lines-all}
 use Rattle.reasons.proofs.put_exports.Statement.{statement}

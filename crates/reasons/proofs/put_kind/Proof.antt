@@ -1,8 +1,8 @@
 -- `reasons::put_kind` meets its contract. Assumes nothing.
 use borrow.Author.Needs.{needs}
 use Rattle.kinds.specs.Kinds.{kindOf, kindWord}
-use Rattle.writing.proofs.Words.{SlugIs}
-use Rattle.writing.proofs.Laws.{wrote-put}
+use Rattle.output.proofs.Words.{SlugIs}
+use Rattle.output.proofs.ByteLaws.{wrote-put}
 use Rattle.reasons.proofs.KindWords.{kind-is}
 use Rattle.reasons.proofs.put_kind.Statement.{statement}
 use Rattle.reasons.proofs.put_kind.Tie as tie

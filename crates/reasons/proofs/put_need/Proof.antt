@@ -1,6 +1,6 @@
 -- `reasons::put_need` meets its contract. Assumes nothing.
 use borrow.Author.Needs.{needs}
-use Rattle.writing.proofs.Laws.{wrote-put, wrote-then}
+use Rattle.output.proofs.ByteLaws.{wrote-put, wrote-then}
 use Rattle.reasons.proofs.Lines.{need-line}
 use Rattle.reasons.proofs.put_need.Statement.{statement}
 use Rattle.reasons.proofs.put_need.Tie as tie

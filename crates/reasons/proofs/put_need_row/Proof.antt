@@ -1,7 +1,7 @@
 -- `reasons::put_need_row` meets its contract. Assumes nothing.
 use native.Mathlib.Omega.{arith}
 use borrow.Author.Needs.{needs}
-use Rattle.writing.proofs.Laws.{wrote-none}
+use Rattle.output.proofs.ByteLaws.{wrote-none}
 use Rattle.reasons.proofs.Lines.{need-none, need-some}
 use Rattle.reasons.proofs.put_need_row.Statement.{statement}
 use Rattle.reasons.proofs.put_need_row.Tie as tie

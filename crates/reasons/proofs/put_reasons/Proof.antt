@@ -1,6 +1,6 @@
 -- `reasons::put_reasons` meets its contract. Assumes nothing.
 use borrow.Author.Needs.{needs}
-use Rattle.writing.proofs.Laws.{wrote-then}
+use Rattle.output.proofs.ByteLaws.{wrote-then}
 use Rattle.reasons.proofs.put_reasons.Statement.{statement}
 use Rattle.reasons.proofs.put_reasons.Tie as tie
 

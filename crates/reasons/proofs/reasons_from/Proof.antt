@@ -1,6 +1,6 @@
 -- `reasons::reasons_from` meets its contract. Assumes nothing.
 use borrow.Author.Needs.{needs}
-use Rattle.writing.proofs.Laws.{formed-long}
+use Rattle.output.proofs.ByteLaws.{formed-long}
 use Rattle.reasons.specs.Reasons.{reasonsOf}
 use Rattle.reasons.proofs.Fine.{fine, reasons-refused, reasons-formed}
 use Rattle.reasons.proofs.reasons_from.Statement.{statement}

@@ -4,8 +4,8 @@ use native.Mathlib.Omega.{arith}
 use borrow.Author.Needs.{needs}
 use mathlib.Core.List.{_++_}
 use lib.ListN.{length}
-use Rattle.writing.specs.Writing.{most}
-use Rattle.writing.proofs.Laws.{form-full, form-done}
+use Rattle.output.specs.Bytes.{most}
+use Rattle.output.proofs.ByteLaws.{form-full, form-done}
 use Rattle.reasons.specs.Reasons.{exportReasons, needReasons}
 use Rattle.reasons.proofs.Lines.{reasons-few}
 use Rattle.reasons.proofs.write_reasons.Statement.{statement}

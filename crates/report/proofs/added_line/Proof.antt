@@ -2,7 +2,7 @@
 use mathlib.Core.Path.{_∙_}
 use native.Mathlib.Omega.{arith}
 use borrow.Author.Needs.{needs}
-use Rattle.domains.specs.Domain.{numberOf}
+use Rattle.domains.specs.Domain.{domainNumber}
 use Rattle.report.specs.Texts.{headText}
 use Rattle.report.proofs.Escapes.{told-same}
 use Rattle.report.proofs.Telling.{line-text}
@@ -16,7 +16,7 @@ returns c =
     let g = f .before .before .before in
     let t = g .before .before .before in
     let a = t .before .before .before .args in
-    let n = numberOf (a .d) in
+    let n = domainNumber (a .d) in
     told-same (f .frame .ensures)
     (added-is n (a .source .now) _
     (g .range .ensures .0 ∙ line-text (headText n) (omega (arith, head-long n)) (t .domain-head .ensures)))

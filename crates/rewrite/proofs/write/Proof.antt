@@ -2,7 +2,7 @@
 use mathlib.Core.Path.{sym}
 use lib.Seq.{length-take-le}
 use borrow.Author.Needs.{needs}
-use Rattle.writing.proofs.Known.{written-within}
+use Rattle.output.proofs.Known.{written-within}
 use Rattle.rewrite.proofs.write.Statement.{statement}
 use Rattle.rewrite.proofs.write.Tie as tie
 

@@ -4,7 +4,8 @@ use mathlib.Core.List.{map}
 use Prim.Native.Nat.{_+_, _*_, _-_, _^_, _≤_}
 use native.Mathlib.Omega.{arith}
 use borrow.Author.Needs.{needs}
-use Rattle.verdicts.specs.Evaluate.{violates, one}
+use Rattle.refusal.specs.Pick.{oneIf}
+use Rattle.verdicts.specs.Evaluate.{violates}
 use Rattle.verdicts.proofs.MemberLaws.{Set, set-none, set-next}
 use Rattle.verdicts.proofs.EvalLaws.{flag-at}
 use Rattle.verdicts.proofs.violations.Statement.{statement}
@@ -31,8 +32,8 @@ loop-again c =
     let vs = l .before .args .t1 in
     let i = l .loop .i in
     let b = v .is-violation .result in
-    let q : c .with-bit .result ≡ l .loop .set + one b * 2 ^ i =
-    c .with-bit .ensures ∙ ap (λ n. l .loop .set + one b * 2 ^ n) (l .loop .inv .1) in (
+    let q : c .with-bit .result ≡ l .loop .set + oneIf b * 2 ^ i =
+    c .with-bit .ensures ∙ ap (λ n. l .loop .set + oneIf b * 2 ^ n) (l .loop .inv .1) in (
       omega arith,
       omega arith,
       set-next (map violates vs) i (l .loop .set) (c .with-bit .result) b

@@ -29,7 +29,7 @@ usage: viscrombal-host [--json] check MODULE.. --policy FILE
   chain     whether each build can stand in for the one before it, and what the theorem then gives for the last
   --json    one object a line
 
-Exit status: 0 all pass; 1 not compliant, or cannot stand in; 2 refused, or cannot be read.
+Exit status: 0 all pass; 1 not compliant, or cannot stand in; 2 refused, cannot be read, or wrong words.
 ";
 
 /// The exit status; of several the worst is given.
@@ -75,7 +75,7 @@ fn fault(words: impl Display) -> Status {
 fn main() -> ExitCode {
     let mut out = io::stdout().lock();
     let status = match args::parse(env::args_os().skip(1)) {
-        Err(words) => fault(format_args!("{words}\n{USAGE}")),
+        Err(words) => fault(format_args!("{words}\n{}", USAGE.trim_end())),
         Ok(command) => match run(&mut out, &command).and_then(|status| out.flush().map(|()| status)) {
             Ok(status) => status,
             Err(error) => fault(format_args!("cannot write: {error}")),

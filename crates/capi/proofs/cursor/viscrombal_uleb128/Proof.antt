@@ -1,14 +1,14 @@
 -- `viscrombal_uleb128` meets its contract. Assumes nothing.
 use mathlib.Core.Path.{_∙_, ap}
 use borrow.Author.Needs.{needs}
-use Rattle.leb.specs.Answers.{heard}
+use Rattle.leb.specs.Answers.{findingOf}
 use Rattle.leb.proofs.Answering.{heard-from}
-use Rattle.capi.specs.Reading.{unsignedOf}
+use Rattle.told.specs.Reading.{unsignedTold}
 use Rattle.capi.proofs.cursor.viscrombal_uleb128.Statement.{statement}
 use Rattle.capi.proofs.cursor.viscrombal_uleb128.Tie as tie
 
 returns : tie.Need-returns
-returns c = c .unsigned-of .ensures ∙ ap unsignedOf (ap heard (c .before .uleb128 .ensures) ∙ heard-from _ _)
+returns c = c .unsigned-of .ensures ∙ ap unsignedTold (ap findingOf (c .before .uleb128 .ensures) ∙ heard-from _ _)
 
 pub viscrombal-uleb128-spec : {M : Type 1} → statement M
 viscrombal-uleb128-spec = tie.close (tie.spec

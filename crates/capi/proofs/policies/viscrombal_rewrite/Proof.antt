@@ -1,8 +1,8 @@
 -- `viscrombal_rewrite` meets its contract. Assumes nothing.
 use lib.ListN.{length}
 use Rattle.policy.specs.declared.Policy.{Policy}
-use Rattle.rewriting.specs.Writer.{written}
-use Rattle.rewriting.proofs.Asking.{read-stops, read-goes}
+use Rattle.policy_text.specs.Writer.{written}
+use Rattle.policy_text.proofs.Asking.{read-stops, read-goes}
 use Rattle.capi.proofs.Telling.{write-stops, write-goes}
 use borrow.Author.Needs.{needs}
 use Rattle.capi.proofs.policies.viscrombal_rewrite.Statement.{statement}

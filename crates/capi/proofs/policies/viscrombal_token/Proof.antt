@@ -1,8 +1,8 @@
 -- `viscrombal_token` meets its contract. Assumes nothing.
 use mathlib.Core.Path.{_∙_, ap}
 use Rattle.policy.specs.declared.Policy.{Policy}
-use Rattle.capi.specs.Policies.{tokenTold, tokenAsked}
-use Rattle.rewriting.proofs.Asking.{read-stops, read-goes}
+use Rattle.told.specs.Policies.{tokenTold, tokenAsked}
+use Rattle.policy_text.proofs.Asking.{read-stops, read-goes}
 use borrow.Author.Needs.{needs}
 use Rattle.capi.proofs.policies.viscrombal_token.Statement.{statement}
 use Rattle.capi.proofs.policies.viscrombal_token.Tie as tie

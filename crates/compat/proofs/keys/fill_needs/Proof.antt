@@ -4,7 +4,7 @@ use mathlib.Core.Path.{_≡_, refl, sym, _∙_, ap}
 use native.Mathlib.Omega.{arith}
 use borrow.Author.Needs.{needs}
 use lib.ListN.{length}
-use Rattle.compat.specs.Keying.{keyCells, needKeys, tableOf}
+use Rattle.compat.specs.Keying.{keyWidth, keyCells, needKeys, tableOf}
 use Rattle.compat.proofs.Filling.{no-rows, one-row, key-wide}
 use Rattle.compat.proofs.keys.fill_needs.Statement.{statement}
 use Rattle.compat.proofs.keys.fill_needs.Tie as tie
@@ -30,7 +30,7 @@ loop-again c =
     let l = t .before in (
       omega arith,
       search needs,
-      one-row keyCells _ _ 7 key-wide _ _ (t .loop-test .taken) (start l .pre .1) (l .loop .inv .2)
+      one-row keyCells _ _ keyWidth key-wide _ _ (t .loop-test .taken) (start l .pre .1) (l .loop .inv .2)
           (ap keyCells (p .before .need-at .ensures)) (p .put-key .ensures),
     )
 

@@ -6,6 +6,7 @@ use native.Mathlib.Omega.{arith}
 use borrow.Author.Needs.{needs}
 use lib.ListN.{length, getD}
 use Rattle.table.specs.Table.{laid, cells, rowsOf}
+use Rattle.table.specs.Shape.{width}
 use Rattle.compat.specs.declared.lists.Place.{Place}
 use Rattle.compat.specs.Listing.{placeCells}
 use Rattle.compat.proofs.Filling.{no-rows, one-row, filled-all}
@@ -34,7 +35,7 @@ loop-again c =
     let s = l .before .before .before in (
       omega arith,
       search needs,
-      one-row (placeCells (s .args .nb)) _ _ 2 (λ i. refl) _ _ (t .loop-test .taken) (s .pre .1) (l .loop .inv .2)
+      one-row (placeCells (s .args .nb)) _ _ (width 8) (λ i. refl) _ _ (t .loop-test .taken) (s .pre .1) (l .loop .inv .2)
           (ap (λ (q : Place). q .side ∷ q .row ∷ []) (p .place-of .ensures)) (r .put-row .ensures),
     )
 

@@ -6,6 +6,7 @@ use native.Mathlib.Omega.{arith}
 use borrow.Author.Needs.{needs}
 use lib.ListN.{length, getD}
 use Rattle.table.specs.Table.{laid, cells, rowsOf}
+use Rattle.table.specs.Shape.{width}
 use Rattle.compat.specs.declared.keys.Key.{Key}
 use Rattle.compat.specs.Listing.{needCellsAt}
 use Rattle.compat.proofs.Filling.{no-rows, one-row, filled-all}
@@ -53,7 +54,7 @@ loop-again c =
     let s = start l in (
       omega arith,
       search needs,
-      one-row (row s) _ _ 3 (λ i. refl) _ _ (t .loop-test .taken) (s .pre .1) (l .loop .inv .2)
+      one-row (row s) _ _ (width 9) (λ i. refl) _ _ (t .loop-test .taken) (s .pre .1) (l .loop .inv .2)
           (need-cells _ _ _ _ _ _ (p .place-of .ensures) (ap (λ (q : Key). q .major) (k .need-at .ensures) ∙ need-major _ _ _ _ _ _))
           (r .put-row .ensures),
     )

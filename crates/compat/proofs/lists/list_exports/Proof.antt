@@ -5,7 +5,7 @@ use Prim.Native.Nat.{ℕ, _+_}
 use native.Mathlib.Omega.{arith}
 use borrow.Author.Needs.{needs}
 use Rattle.differences.proofs.Tests.{exports-good}
-use Rattle.compat.specs.Keying.{exportKeys, tableOf}
+use Rattle.compat.specs.Keying.{keySize, exportKeys, tableOf}
 use Rattle.compat.proofs.Filling.{zeros-laid, zeros-length}
 use Rattle.compat.proofs.Sizing.{sized-numbers}
 use Rattle.compat.proofs.Instances.{export-printed, exports-listed}
@@ -16,7 +16,7 @@ abbrev start : tie.After-keys → tie.Start
 start c = c .before .before .before .before .before .before
 
 fill-exports-requires : tie.Need-fill-exports-requires
-fill-exports-requires c κs = let s = start c in (zeros-laid 14336, omega (arith, zeros-length 14336, s .pre))
+fill-exports-requires c κs = let s = start c in (zeros-laid keySize, omega (arith, zeros-length keySize, s .pre))
 
 -- the keys are those of both modules' rows
 abbrev rows : tie.Start → ℕ → List ℕ
@@ -24,8 +24,8 @@ rows s size =
     let a = s .args in
     tableOf size (exportKeys (a .b .now) (a .be .now) (a .nb) (a .c .now) (a .ce .now)) (a .nb + a .nc)
 
-keyed : (c : tie.After-fill-exports) → c .fill-exports .last .1 .1 .1 .1 .1 .1 .0 ≡ rows (start (c .before)) 14336
-keyed c = c .fill-exports .ensures ∙ ap (rows (start (c .before))) (zeros-length 14336)
+keyed : (c : tie.After-fill-exports) → c .fill-exports .last .1 .1 .1 .1 .1 .1 .0 ≡ rows (start (c .before)) keySize
+keyed c = c .fill-exports .ensures ∙ ap (rows (start (c .before))) (zeros-length keySize)
 
 sort-missing-requires : tie.Need-sort-missing-requires
 sort-missing-requires c κs =

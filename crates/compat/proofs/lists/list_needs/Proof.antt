@@ -4,7 +4,7 @@ use mathlib.Core.List.{List}
 use Prim.Native.Nat.{ℕ, _+_}
 use native.Mathlib.Omega.{arith}
 use borrow.Author.Needs.{needs}
-use Rattle.compat.specs.Keying.{needKeys, tableOf}
+use Rattle.compat.specs.Keying.{keySize, needKeys, tableOf}
 use Rattle.compat.proofs.Filling.{zeros-laid, zeros-length}
 use Rattle.compat.proofs.Sizing.{sized-numbers}
 use Rattle.compat.proofs.Instances.{need-printed, needs-listed}
@@ -15,7 +15,7 @@ abbrev start : tie.After-keys → tie.Start
 start c = c .before .before .before .before .before .before
 
 fill-needs-requires : tie.Need-fill-needs-requires
-fill-needs-requires c κs = let s = start c in (zeros-laid 14336, omega (arith, zeros-length 14336, s .pre))
+fill-needs-requires c κs = let s = start c in (zeros-laid keySize, omega (arith, zeros-length keySize, s .pre))
 
 -- the keys are those of both modules' rows
 abbrev rows : tie.Start → ℕ → List ℕ
@@ -23,8 +23,8 @@ rows s size =
     let a = s .args in
     tableOf size (needKeys (a .b .now) (a .bi .now) (a .nb) (a .c .now) (a .ci .now)) (a .nb + a .nc)
 
-keyed : (c : tie.After-fill-needs) → c .fill-needs .last .1 .1 .1 .1 .1 .1 .0 ≡ rows (start (c .before)) 14336
-keyed c = c .fill-needs .ensures ∙ ap (rows (start (c .before))) (zeros-length 14336)
+keyed : (c : tie.After-fill-needs) → c .fill-needs .last .1 .1 .1 .1 .1 .1 .0 ≡ rows (start (c .before)) keySize
+keyed c = c .fill-needs .ensures ∙ ap (rows (start (c .before))) (zeros-length keySize)
 
 sort-missing-requires : tie.Need-sort-missing-requires
 sort-missing-requires c κs =

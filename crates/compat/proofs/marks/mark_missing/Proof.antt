@@ -6,7 +6,7 @@ use Prim.Native.Nat.{_-_, _≤_}
 use native.Mathlib.Omega.{arith}
 use borrow.Author.Needs.{needs}
 use lib.ListN.{length}
-use Rattle.compat.specs.Keying.{keyCells, keyIn, tableOf, alone, othersOf}
+use Rattle.compat.specs.Keying.{keyWidth, keyCells, keyIn, tableOf, alone, othersOf}
 use Rattle.compat.proofs.Filling.{no-rows, one-row, key-wide}
 use Rattle.compat.proofs.Meeting.{some-hit, some-miss, some-end, others-end, sought, soughtIn, told, printed-as}
 use Rattle.compat.proofs.Meeting.{alone-met, alone-kept}
@@ -81,7 +81,7 @@ rows-again c =
     let r = row (l .before) in (
       omega arith,
       search needs,
-      one-row keyCells _ _ 7 key-wide _ _ (r .rows-test .taken) (start (r .before) .pre .0 .1) (r .before .rows .inv .2)
+      one-row keyCells _ _ keyWidth key-wide _ _ (r .rows-test .taken) (start (r .before) .pre .0 .1) (r .before .rows .inv .2)
           (ap keyCells (met l)) (p .put-key .ensures),
     )
 

@@ -6,6 +6,7 @@ use Rattle.compat.proofs.Filling.{zeros-laid, zeros-length}
 use Rattle.compat.proofs.Sizing.{sized-missing, never-full}
 use Rattle.compat.proofs.marks.sort_missing.Statement.{statement}
 use Rattle.compat.proofs.marks.sort_missing.Tie as tie
+use Rattle.compat.specs.Keying.{keySize}
 
 abbrev start : tie.After-keys → tie.Start
 start c = c .before .before .before .before .before
@@ -13,21 +14,21 @@ start c = c .before .before .before .before .before
 mark-missing-requires : tie.Need-mark-missing-requires
 mark-missing-requires c κs =
     let s = start c in
-    ((zeros-laid 14336, omega (arith, zeros-length 14336), s .pre .0 .0), s .pre .1)
+    ((zeros-laid keySize, omega (arith, zeros-length keySize), s .pre .0 .0), s .pre .1)
 
 returns : tie.Need-returns
 returns c =
     let m = c .before in
     let s = m .before .before .before .before in
     let k = s .before .before .before .before in
-    sized-missing _ _ _ _ _ _ (k .mark-missing .ensures) (zeros-length 14336) (s .sort .ensures)
+    sized-missing _ _ _ _ _ _ (k .mark-missing .ensures) (zeros-length keySize) (s .sort .ensures)
     (start (k .before) .pre .0 .2) _ (m .m .given .1)
 
 returns-2 : tie.Need-returns-2
 returns-2 c =
     let s = c .before .before .before .before in
     let k = s .before .before .before .before in
-    absurd (never-full _ _ _ _ _ _ (k .mark-missing .ensures) (zeros-length 14336) (s .sort .ensures) (start (k .before) .pre .0 .2)
+    absurd (never-full _ _ _ _ _ _ (k .mark-missing .ensures) (zeros-length keySize) (s .sort .ensures) (start (k .before) .pre .0 .2)
     (c .enum-told .given .1))
 
 pub sort-missing-spec : {M : Type 1} → statement M

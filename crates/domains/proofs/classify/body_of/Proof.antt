@@ -5,7 +5,7 @@ use lib.ListN.{take}
 use lib.Seq.{length-take-le}
 use borrow.Author.Needs.{needs}
 use Rattle.text.proofs.FindLaws.{index-le}
-use Rattle.domains.specs.Classify.{judged, heads, headOf, upToByte}
+use Rattle.domains.specs.Classify.{classedBy, heads, headOf, upToByte}
 use Rattle.domains.proofs.classify.body_of.Statement.{statement}
 use Rattle.domains.proofs.classify.body_of.Tie as tie
 
@@ -19,7 +19,7 @@ unfolding headOf
 returns c =
     let f = c .before .before in
     let s = f .before .before .args .s .now in
-    c .versioned .ensures ∙ ap (λ k. judged heads (upToByte 64 (take k s))) (f .find .ensures)
+    c .versioned .ensures ∙ ap (λ k. classedBy heads (upToByte 64 (take k s))) (f .find .ensures)
 
 pub body-of-spec : {M : Type 1} → statement M
 body-of-spec =

@@ -3,8 +3,8 @@ use mathlib.Core.Path.{sym, ap, _∙_}
 use native.Mathlib.Omega.{arith}
 use borrow.Author.Needs.{needs}
 use Rattle.text.proofs.Laws.{left-part}
-use Rattle.domains.specs.Classify.{judged, heads, headOf, wasi, pathDomain}
-use Rattle.pieces.proofs.Pieces.{begins-le}
+use Rattle.domains.specs.Classify.{classedBy, heads, headOf, wasi, pathDomain}
+use Rattle.text.proofs.PieceLaws.{begins-le}
 use Rattle.domains.proofs.classify.classify_path.Statement.{statement}
 use Rattle.domains.proofs.classify.classify_path.Tie as tie
 
@@ -28,7 +28,7 @@ returns c =
     let y = c .before .before in
     let s = y .before .before .before .before .args .path .now in
     let e = sym (y .before .starts .ensures) ∙ y .if1 .taken in
-    c .body-of .ensures ∙ ap (λ l. judged heads (headOf l)) (left-part s 5) ∙ sym (rw e)
+    c .body-of .ensures ∙ ap (λ l. classedBy heads (headOf l)) (left-part s 5) ∙ sym (rw e)
 
 returns-2 : tie.Need-returns-2
 unfolding pathDomain

@@ -4,82 +4,82 @@ use mathlib.Core.List.{List}
 use Prim.Native.Nat.{ℕ}
 use borrow.Author.Needs.{needs}
 use lib.ListN.{drop}
-use Rattle.domains.specs.Classify.{judged, passes, heads}
+use Rattle.domains.specs.Classify.{classedBy, passes, heads}
 use Rattle.domains.proofs.DomainLaws.{picked, passed}
 use Rattle.domains.proofs.classify.head_of.Statement.{statement}
 use Rattle.domains.proofs.classify.head_of.Tie as tie
 
 abbrev Left : ℕ → List ℕ → Type 0
-Left k s = judged heads s ≡ judged (drop k heads) s
+Left k s = classedBy heads s ≡ classedBy (drop k heads) s
 
 returns : tie.Need-returns
-unfolding judged passes heads
+unfolding classedBy passes heads
 returns c = picked _ _ (c .before .equal .ensures) (c .if1 .taken)
 
 abbrev s1 : tie.Else1 → List ℕ
 s1 c = c .before .before .before .before .args .s .now
 
 left1 : (c : tie.Else1) → Left 1 (s1 c)
-unfolding judged passes heads
+unfolding classedBy passes heads
 left1 c = passed _ _ (c .before .equal .ensures) (c .if1 .left)
 
 returns-2 : tie.Need-returns-2
-unfolding judged passes heads
+unfolding classedBy passes heads
 returns-2 c = picked _ _ (c .before .equal2 .ensures) (c .if2 .taken) ∙ sym (left1 (c .before .before .before))
 
 abbrev s2 : tie.Else2 → List ℕ
 s2 c = s1 (c .before .before .before)
 
 left2 : (c : tie.Else2) → Left 2 (s2 c)
-unfolding judged passes heads
+unfolding classedBy passes heads
 left2 c = left1 (c .before .before .before) ∙ passed _ _ (c .before .equal2 .ensures) (c .if2 .left)
 
 returns-3 : tie.Need-returns-3
-unfolding judged passes heads
+unfolding classedBy passes heads
 returns-3 c = picked _ _ (c .before .equal3 .ensures) (c .if3 .taken) ∙ sym (left2 (c .before .before .before))
 
 abbrev s3 : tie.Else3 → List ℕ
 s3 c = s2 (c .before .before .before)
 
 left3 : (c : tie.Else3) → Left 3 (s3 c)
-unfolding judged passes heads
+unfolding classedBy passes heads
 left3 c = left2 (c .before .before .before) ∙ passed _ _ (c .before .equal3 .ensures) (c .if3 .left)
 
 returns-4 : tie.Need-returns-4
-unfolding judged passes heads
+unfolding classedBy passes heads
 returns-4 c = picked _ _ (c .before .equal4 .ensures) (c .if4 .taken) ∙ sym (left3 (c .before .before .before))
 
 abbrev s4 : tie.Else4 → List ℕ
 s4 c = s3 (c .before .before .before)
 
 left4 : (c : tie.Else4) → Left 4 (s4 c)
-unfolding judged passes heads
+unfolding classedBy passes heads
 left4 c = left3 (c .before .before .before) ∙ passed _ _ (c .before .equal4 .ensures) (c .if4 .left)
 
 returns-5 : tie.Need-returns-5
-unfolding judged passes heads
+unfolding classedBy passes heads
 returns-5 c = picked _ _ (c .before .equal5 .ensures) (c .if5 .taken) ∙ sym (left4 (c .before .before .before))
 
 abbrev s5 : tie.Else5 → List ℕ
 s5 c = s4 (c .before .before .before)
 
 left5 : (c : tie.Else5) → Left 5 (s5 c)
-unfolding judged passes heads
+unfolding classedBy passes heads
 left5 c = left4 (c .before .before .before) ∙ passed _ _ (c .before .equal5 .ensures) (c .if5 .left)
 
 returns-6 : tie.Need-returns-6
-unfolding judged passes heads
+unfolding classedBy passes heads
 returns-6 c = picked _ _ (c .before .equal6 .ensures) (c .if6 .taken) ∙ sym (left5 (c .before .before .before))
 
 abbrev s6 : tie.Else6 → List ℕ
 s6 c = s5 (c .before .before .before)
 
 left6 : (c : tie.Else6) → Left 6 (s6 c)
-unfolding judged passes heads
+unfolding classedBy passes heads
 left6 c = left5 (c .before .before .before) ∙ passed _ _ (c .before .equal6 .ensures) (c .if6 .left)
 
 returns-7 : tie.Need-returns-7
-unfolding judged passes heads
+unfolding classedBy passes heads
 returns-7 c = sym (left6 c)
 
 pub head-of-spec : {M : Type 1} → statement M

@@ -5,7 +5,7 @@ use lib.ListN.{take}
 use lib.Seq.{length-take-le}
 use borrow.Author.Needs.{needs}
 use Rattle.text.proofs.FindLaws.{index-le}
-use Rattle.domains.specs.Classify.{judged, heads}
+use Rattle.domains.specs.Classify.{classedBy, heads}
 use Rattle.domains.proofs.classify.versioned.Statement.{statement}
 use Rattle.domains.proofs.classify.versioned.Tie as tie
 
@@ -18,7 +18,7 @@ returns : tie.Need-returns
 returns c =
     let f = c .before .before in
     let s = f .before .before .args .s .now in
-    c .head-of .ensures ∙ ap (λ k. judged heads (take k s)) (f .find .ensures)
+    c .head-of .ensures ∙ ap (λ k. classedBy heads (take k s)) (f .find .ensures)
 
 pub versioned-spec : {M : Type 1} → statement M
 versioned-spec =

@@ -1,5 +1,5 @@
 -- `judged_export_name` meets its contract. Assumes nothing.
-use mathlib.Core.Path.{_∙_, ap}
+use mathlib.Core.Path.{_∙_}
 use borrow.Author.Needs.{needs}
 use Rattle.judged.proofs.Telling.{name-told}
 use Rattle.judged.proofs.compares.judged_export_name.Statement.{statement}
@@ -8,7 +8,7 @@ use Rattle.judged.proofs.compares.judged_export_name.Tie as tie
 returns : tie.Need-returns
 returns c =
     let k = c .before in
-    c .name-of .ensures ∙ name-told _ _ _ _ _ _ _ _ _ _ _ (k .before .change-of .ensures) (k .export-diff-name .ensures .0)
+    c .name-of .ensures ∙ name-told _ _ _ _ _ _ 3 _ _ _ _ (k .before .change-of .ensures) (k .export-diff-name .ensures .0)
 
 pub judged-export-name-spec : {M : Type 1} → statement M
 judged-export-name-spec = tie.close (tie.spec

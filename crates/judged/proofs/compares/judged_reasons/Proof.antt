@@ -1,7 +1,7 @@
 -- `judged_reasons` meets its contract. Assumes nothing.
 use mathlib.Core.Path.{_∙_, ap}
 use borrow.Author.Needs.{needs}
-use Rattle.capi.specs.Policies.{writtenTold}
+use Rattle.told.specs.Policies.{writtenTold}
 use Rattle.judged.proofs.compares.judged_reasons.Statement.{statement}
 use Rattle.judged.proofs.compares.judged_reasons.Tie as tie
 

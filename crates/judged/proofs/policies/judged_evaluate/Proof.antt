@@ -8,7 +8,7 @@ use Rattle.judged.proofs.policies.judged_evaluate.Tie as tie
 returns : tie.Need-returns
 returns c =
     let k = c .before in
-    c .judged-of .ensures ∙ evaluation-told _ _ _ _ _ (k .before .policy-of .ensures) (k .evaluate-domains .ensures)
+    c .evaluation-of .ensures ∙ evaluation-told _ _ _ _ _ (k .before .policy-of .ensures) (k .evaluate-domains .ensures)
 
 pub judged-evaluate-spec : {M : Type 1} → statement M
 judged-evaluate-spec =

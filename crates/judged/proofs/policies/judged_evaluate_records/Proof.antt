@@ -44,32 +44,32 @@ use Rattle.refusal.specs.Said.{saidAnswer}
 use Rattle.policy.specs.declared.Policy.{Policy}
 use Rattle.verdicts.specs.declared.Evaluation.{Evaluation}
 use Rattle.verdicts.specs.Evaluate.{evaluated, compliant, EvaluatedAs}
-use Rattle.evaluation.specs.declared.Requirement.{Requirement}
-use Rattle.evaluation.specs.Evaluate.{numbers}
-use Rattle.capi.specs.declared.check.EvaluationTold.{EvaluationTold}
-use Rattle.capi.specs.Policies.{numberIn, placeIn}
-use Rattle.capi.specs.Check.{judgedAs, evaluationTold}
+use Rattle.verdicts.specs.declared.records.Requirement.{Requirement}
+use Rattle.verdicts.specs.Records.{numbers}
+use Rattle.told.specs.declared.check.EvaluationTold.{EvaluationTold}
+use Rattle.told.specs.Policies.{numberIn, placeIn}
+use Rattle.told.specs.Check.{evaluationAs, evaluationTold}
 use Rattle.judged.specs.Policies.{policyIn}
 use Rattle.judged.proofs.Telling.{evaluation-told}
-use Rattle.evaluation.proofs.Requirement as T
+use Rattle.verdicts.proofs.records.Requirement as T
 use Rattle.policy.proofs.Policy as P
 use Rattle.policy.proofs.Policy.Laws as P′
 use Rattle.verdicts.proofs.Evaluation as Ve
 use Rattle.verdicts.proofs.Evaluation.Laws as Ve′
-use Rattle.capi.proofs.check.EvaluationTold as R
-use Rattle.capi.proofs.check.EvaluationTold.Laws as R′
+use Rattle.told.proofs.check.EvaluationTold as R
+use Rattle.told.proofs.check.EvaluationTold.Laws as R′
 use Rattle.judged.proofs.policies.policy_of as policy-of
 use Rattle.judged.proofs.policies.policy_of.Symbol as policy-of-def
 use Rattle.judged.proofs.policies.policy_of.Symbol.{name as #policy-of}
 use Rattle.judged.proofs.policies.policy_of.Met as policy-of-thm
-use Rattle.evaluation.proofs.evaluate as evaluate
-use Rattle.evaluation.proofs.evaluate.Symbol as evaluate-def
-use Rattle.evaluation.proofs.evaluate.Symbol.{name as #evaluate}
-use Rattle.evaluation.proofs.evaluate.Met as evaluate-thm
-use Rattle.capi.proofs.check.judged_of as judged-of
-use Rattle.capi.proofs.check.judged_of.Symbol as judged-of-def
-use Rattle.capi.proofs.check.judged_of.Symbol.{name as #judged-of}
-use Rattle.capi.proofs.check.judged_of.Met as judged-of-thm
+use Rattle.verdicts.proofs.records.evaluate as evaluate
+use Rattle.verdicts.proofs.records.evaluate.Symbol as evaluate-def
+use Rattle.verdicts.proofs.records.evaluate.Symbol.{name as #evaluate}
+use Rattle.verdicts.proofs.records.evaluate.Met as evaluate-thm
+use Rattle.told.proofs.check.evaluation_of as evaluation-of
+use Rattle.told.proofs.check.evaluation_of.Symbol as evaluation-of-def
+use Rattle.told.proofs.check.evaluation_of.Symbol.{name as #evaluation-of}
+use Rattle.told.proofs.check.evaluation_of.Met as evaluation-of-thm
 use Rattle.judged.proofs.policies.judged_evaluate_records.Key.{name as #records}
 use Rattle.judged.proofs.policies.judged_evaluate_records as fn
 use Rattle.judged.proofs.policies.judged_evaluate_records.Statement as stated
@@ -109,7 +109,7 @@ module _ {M : Type 1} (𝓤 : URA M) (H : Heap 𝓤) (A : Atoms 𝓤) (mem : Mem
   Held = tripleOf 𝓤 H A evaluate.signature (evaluate.spec 𝓤 H A mem run)
 
   abbrev Told : Contract 𝓤
-  Told = tripleOf 𝓤 H A judged-of.signature (judged-of.spec 𝓤 H A mem run)
+  Told = tripleOf 𝓤 H A evaluation-of.signature (evaluation-of.spec 𝓤 H A mem run)
 
 module _ {M : Type 1} (𝓤 : URA M) (H : Heap 𝓤) (A : Atoms 𝓤) (W : Given 𝓤 H A) (mem : Memory → SProp 𝓤) (run : Routine → Fun 𝓤)
     (κ κ′ : Lft) (q q′ : Share) (list : RefT (List Requirement)) (n : ℕ) (cells : RefT (List ℕ)) (small : n < 2 ^ 64) where
@@ -185,11 +185,11 @@ module _ {M : Type 1} (𝓤 : URA M) (H : Heap 𝓤) (A : Atoms 𝓤) (W : Given
 
   abbrev told-as : Evaluation → EvaluationTold
   told-as e =
-      judgedAs (numberIn (saidAnswer (e .answer))) (placeIn (saidAnswer (e .answer))) (e .verdicts) (e .set) (e .count) (compliant e)
+      evaluationAs (numberIn (saidAnswer (e .answer))) (placeIn (saidAnswer (e .answer))) (e .verdicts) (e .set) (e .count) (compliant e)
 
   told-said : (e : Evaluation) (r : EvaluationTold)
-      → ent 𝓤 (ensured 𝓤 H A judged-of.ended (judged-of.clauses 𝓤 H A mem run) tt (e, tt) tt r) (fact 𝓤 (r ≡ told-as e))
-  told-said e r = exE 𝓤 _ (λ ws. snd∗ 𝓤 (sem 𝓤 H A (lasts judged-of.ended tt (e, tt) ws)) (fact 𝓤 (r ≡ told-as e)))
+      → ent 𝓤 (ensured 𝓤 H A evaluation-of.ended (evaluation-of.clauses 𝓤 H A mem run) tt (e, tt) tt r) (fact 𝓤 (r ≡ told-as e))
+  told-said e r = exE 𝓤 _ (λ ws. snd∗ 𝓤 (sem 𝓤 H A (lasts evaluation-of.ended tt (e, tt) ws)) (fact 𝓤 (r ≡ told-as e)))
 
   exits : (r : EvaluationTold) (v : Val) → Is R.the-row r (v ∷ []) → r ≡ asked
       → ent 𝓤 (⋆ 𝓤 H A ((‵ (flft κ q) ⊛ ‵ ftrue) ∷ (‵ (flft κ′ q′) ⊛ ‵ ftrue) ∷ ‵ Cells-own ∷ ‵ List-own ∷ [])) (Post v)
@@ -203,7 +203,7 @@ module _ {M : Type 1} (𝓤 : URA M) (H : Heap 𝓤) (A : Atoms 𝓤) (W : Given
       owned ! R.the-row (Is R.the-row) (LL.makes R.the-type R′.the-plain 𝓤 H A) r (v ∷ []) is $ done !
 
   module _ (𝓣 : Tables 𝓤 H) (known-made : Triple 𝓤 (𝓣 .C #policy-of) (Made 𝓤 H A mem run))
-      (known-held : Triple 𝓤 (𝓣 .C #evaluate) (Held 𝓤 H A mem run)) (known-told : Triple 𝓤 (𝓣 .C #judged-of) (Told 𝓤 H A mem run)) where
+      (known-held : Triple 𝓤 (𝓣 .C #evaluate) (Held 𝓤 H A mem run)) (known-told : Triple 𝓤 (𝓣 .C #evaluation-of) (Told 𝓤 H A mem run)) where
     walk : Is (ShrSlice (named 0) κ T.the-row) list (lv ∷ []) → Is (ShrSlice (named 1) κ′ usize) cells (cv ∷ [])
         → ent 𝓤 (onEntry 𝓤 H A fn.signature κs (q, (q′, tt)) x at)
         (WpFn 𝓤 H (𝓣 .C) (𝓣 .Λ) spelled (lv ∷ vint w64 n ∷ cv ∷ []) Post)
@@ -248,7 +248,7 @@ module _ {M : Type 1} (𝓤 : URA M) (H : Heap 𝓤) (A : Atoms 𝓤) (W : Given
         calls-at ! (fmOf 𝓤 H (W .laws) 𝓣) (Told 𝓤 H A mem run) known-told (to-told e ev)
         (and-then ! (load ! (from ! (stop !)) (look ! 5 refl)) (no-more !)) (λ rv.
         use1 W (later (some (λ (r : EvaluationTold). (‵ ftrue ⊛ ‵ (R.the-row .own r (rv ∷ [])))
-        ⊛ raw (ensured 𝓤 H A judged-of.ended (judged-of.clauses 𝓤 H A mem run) tt (e, tt) tt r)))) (id⊢ 𝓤 _) $
+        ⊛ raw (ensured 𝓤 H A evaluation-of.ended (evaluation-of.clauses 𝓤 H A mem run) tt (e, tt) tt r)))) (id⊢ 𝓤 _) $
         await ! tt $ pick ! (λ r. split ! $ move ! (1 ∷ []) $
         use1 W (raw (fact 𝓤 (r ≡ told-as e))) (told-said e r) $ heard ! (r ≡ told-as e) (λ told.
         split ! $ drop ! $ peeks ! R.the-row (Is R.the-row) (shows 𝓤 H A R.the-row) r (rv ∷ []) (λ isr.
@@ -262,7 +262,7 @@ module _ {M : Type 1} (𝓤 : URA M) (H : Heap 𝓤) (A : Atoms 𝓤) (W : Given
 
 module _ {M : Type 1} (𝓤 : URA M) (H : Heap 𝓤) (A : Atoms 𝓤) (W : Given 𝓤 H A) (mem : Memory → SProp 𝓤) (run : Routine → Fun 𝓤)
     (𝓣 : Tables 𝓤 H) (known-made : Triple 𝓤 (𝓣 .C #policy-of) (Made 𝓤 H A mem run))
-    (known-held : Triple 𝓤 (𝓣 .C #evaluate) (Held 𝓤 H A mem run)) (known-told : Triple 𝓤 (𝓣 .C #judged-of) (Told 𝓤 H A mem run)) where
+    (known-held : Triple 𝓤 (𝓣 .C #evaluate) (Held 𝓤 H A mem run)) (known-told : Triple 𝓤 (𝓣 .C #evaluation-of) (Told 𝓤 H A mem run)) where
   walks-spelled : Walks 𝓤 H A fn.ended stayed (WpFn 𝓤 H (𝓣 .C) (𝓣 .Λ) spelled) (fn.clauses 𝓤 H A mem run)
   walks-spelled =
       walked 𝓤 H A fn.ended stayed (fn.clauses 𝓤 H A mem run) (WpFn 𝓤 H (𝓣 .C) (𝓣 .Λ) spelled)
@@ -294,6 +294,6 @@ judged-evaluate-records-spec 𝓤 H 𝓜 𝓖 𝓡 =
     (cited 𝓤 H (Made 𝓤 H (𝓖 .A) (𝓜 .mem) (𝓡 .run)) 𝓜 𝓡 code.env #policy-of policy-of-def.routine
     code.calls-judged·policies·policy-of (policy-of-thm.met 𝓤 H 𝓜 𝓖 𝓡))
     (cited 𝓤 H (Held 𝓤 H (𝓖 .A) (𝓜 .mem) (𝓡 .run)) 𝓜 𝓡 code.env #evaluate evaluate-def.routine
-    code.calls-evaluation·evaluate (evaluate-thm.met 𝓤 H 𝓜 𝓖 𝓡))
-    (cited 𝓤 H (Told 𝓤 H (𝓖 .A) (𝓜 .mem) (𝓡 .run)) 𝓜 𝓡 code.env #judged-of judged-of-def.routine
-    code.calls-capi·check·judged-of (judged-of-thm.met 𝓤 H 𝓜 𝓖 𝓡)))
+    code.calls-verdicts·records·evaluate (evaluate-thm.met 𝓤 H 𝓜 𝓖 𝓡))
+    (cited 𝓤 H (Told 𝓤 H (𝓖 .A) (𝓜 .mem) (𝓡 .run)) 𝓜 𝓡 code.env #evaluation-of evaluation-of-def.routine
+    code.calls-told·check·evaluation-of (evaluation-of-thm.met 𝓤 H 𝓜 𝓖 𝓡)))

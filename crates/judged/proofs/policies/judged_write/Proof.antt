@@ -1,5 +1,5 @@
 -- `judged_write` meets its contract. Assumes nothing.
-use Rattle.capi.proofs.Telling.{write-told}
+use Rattle.told.proofs.Telling.{write-told}
 use borrow.Author.Needs.{needs}
 use Rattle.judged.proofs.policies.judged_write.Statement.{statement}
 use Rattle.judged.proofs.policies.judged_write.Tie as tie

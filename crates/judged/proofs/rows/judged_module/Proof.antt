@@ -1,6 +1,6 @@
 -- `judged_module` meets its contract. Assumes nothing.
 use mathlib.Core.Path.{_∙_, ap}
-use Rattle.judged.specs.Rows.{moduleTold}
+use Rattle.judged.specs.Rows.{moduleAnswer}
 use borrow.Author.Needs.{needs}
 use Rattle.judged.proofs.rows.judged_module.Statement.{statement}
 use Rattle.judged.proofs.rows.judged_module.Tie as tie
@@ -8,7 +8,7 @@ use Rattle.judged.proofs.rows.judged_module.Tie as tie
 returns : tie.Need-returns
 returns c =
     let k = c .before .before .before .before .before .before .before .before .before .read-module .ensures in
-    record { answer-is = c .module-of .ensures ∙ ap moduleTold (k .answer-is); tables-are = k .tables-are }
+    record { answer-is = c .module-of .ensures ∙ ap moduleAnswer (k .answer-is); tables-are = k .tables-are }
 
 pub judged-module-spec : {M : Type 1} → statement M
 judged-module-spec =

@@ -1,6 +1,8 @@
 -- `domain_at` meets its contract. Assumes nothing.
 use mathlib.Core.Path.{sym, ap, _∙_}
+use native.Mathlib.Omega.{arith}
 use borrow.Author.Needs.{needs}
+use Rattle.text.proofs.PieceLaws.{trim-to}
 use Rattle.domains.specs.Domain.{domainOf}
 use Rattle.policy.proofs.HeardLaws.{trim-is-bytes}
 use Rattle.policy.proofs.reader.domain_at.Statement.{statement}
@@ -12,7 +14,7 @@ returns c =
     let a = t .before .before .args in
     c .from-slug .ensures
     ∙ ap domainOf (sym (trim-is-bytes (a .s .now) (a .a) (a .e) (t .trimmed-at .result .from) (t .trimmed-at .result .past)
-    (t .trimmed-at .ensures)))
+    (trim-to (a .s .now) (a .a) (a .e) (omega arith) (omega arith) (t .trimmed-at .ensures .0))))
 
 pub domain-at-spec : {M : Type 1} → statement M
 domain-at-spec =

@@ -1,12 +1,13 @@
 -- `heard_at` meets its contract. Assumes nothing.
 use mathlib.Core.Path.{sym, ap, _∙_}
+use Prim.Native.Nat.{_+_}
 use native.Mathlib.Omega.{arith}
 use borrow.Author.Needs.{needs}
 use Rattle.text.proofs.FindLaws.{index-le}
 use Rattle.policy.specs.Heard.{ranged}
-use Rattle.pieces.specs.Piece.{bytesOf}
-use Rattle.pieces.proofs.Pieces.{piece-long}
-use Rattle.policy.proofs.HeardLaws.{hash-fits, directive-some, directive-none}
+use Rattle.text.specs.Piece.{bytesBetween, TrimTo}
+use Rattle.text.proofs.PieceLaws.{piece-long, trim-to}
+use Rattle.policy.proofs.HeardLaws.{directive-some, directive-none}
 use Rattle.policy.proofs.reader.heard_at.Statement.{statement}
 use Rattle.policy.proofs.reader.heard_at.Tie as tie
 
@@ -14,28 +15,19 @@ add-h : tie.Need-add-h
 add-h c =
     let a = c .before .before .before .args in
     let s = a .s .now in
-    omega (arith, c .find .ensures, index-le 35 (bytesOf s (a .a) (a .e)), piece-long s (a .a) (a .e) (omega arith))
+    omega (arith, c .find .ensures, index-le 35 (bytesBetween s (a .a) (a .e)), piece-long s (a .a) (a .e) (omega arith))
 
-trimmed-at-requires : tie.Need-trimmed-at-requires
-trimmed-at-requires c κs =
-    let a = c .before .before .before .args in
-    let s = a .s .now in
-    omega (arith, c .find .ensures, index-le 35 (bytesOf s (a .a) (a .e)), piece-long s (a .a) (a .e) (omega arith))
-
-worded-at-requires : tie.Need-worded-at-requires
-worded-at-requires c κs =
-    let t = c .before in
-    let f = t .before in
+-- the line without its comment, trimmed
+trims : (c : tie.After-trimmed-at) → let f = c .before in
+    let a = f .before .before .before .args in
+    TrimTo (a .s .now) (a .a) (a .a + f .find .result) (c .trimmed-at .result .from) (c .trimmed-at .result .past)
+trims c =
+    let f = c .before in
     let a = f .before .before .before .args in
     let s = a .s .now in
-    let x = t .trimmed-at .result .from in
-    let y = t .trimmed-at .result .past in
-    omega (
-      arith,
-      t .trimmed-at .ensures .high,
-      hash-fits s (a .a) (a .e) (f .find .result) x y (omega arith) (f .find .ensures)
-          (t .trimmed-at .ensures),
-    )
+    trim-to s (a .a) (a .a + f .find .result) (omega arith)
+    (omega (arith, f .find .ensures, index-le 35 (bytesBetween s (a .a) (a .e)), piece-long s (a .a) (a .e) (omega arith)))
+    (c .trimmed-at .ensures .0)
 
 returns : tie.Need-returns
 returns c =
@@ -47,7 +39,7 @@ returns c =
     let y = t .trimmed-at .result .past in
     c .worded-at .ensures
     ∙ sym (ap ranged (directive-some s (a .a) (a .e) (f .find .result) x y (omega arith) (f .find .ensures)
-    (t .trimmed-at .ensures) (omega arith) (omega arith)))
+    (trims t) (omega arith) (omega arith)))
 
 returns-2 : tie.Need-returns-2
 returns-2 c =
@@ -57,12 +49,12 @@ returns-2 c =
     let s = a .s .now in
     let x = t .trimmed-at .result .from in
     let y = t .trimmed-at .result .past in
-    sym (ap ranged (directive-none s (a .a) (a .e) (f .find .result) x y (omega arith) (f .find .ensures) (t .trimmed-at .ensures)
+    sym (ap ranged (directive-none s (a .a) (a .e) (f .find .result) x y (omega arith) (f .find .ensures) (trims t)
     (omega arith) (omega arith)))
 
 pub heard-at-spec : {M : Type 1} → statement M
 heard-at-spec =
     tie.close
     (tie.spec
-    (λ c. search needs) (λ c. search needs) (λ c. search needs) (λ c κs. search needs) add-h trimmed-at-requires
-    worded-at-requires returns returns-2)
+    (λ c. search needs) (λ c. search needs) (λ c. search needs) (λ c κs. search needs) add-h (λ c κs. search needs)
+    (λ c κs. search needs) returns returns-2)

@@ -1,6 +1,8 @@
 -- `preset_at` meets its contract. Assumes nothing.
 use mathlib.Core.Path.{sym, _∙_}
+use native.Mathlib.Omega.{arith}
 use borrow.Author.Needs.{needs}
+use Rattle.text.proofs.PieceLaws.{trim-to}
 use Rattle.policy.proofs.HeardLaws.{preset-allow, preset-deny, preset-bad}
 use Rattle.policy.proofs.reader.preset_at.Statement.{statement}
 use Rattle.policy.proofs.reader.preset_at.Tie as tie
@@ -9,7 +11,8 @@ returns : tie.Need-returns
 returns c =
     let t = c .before .before .before .before in
     let a = t .before .before .args in
-    preset-allow (a .s .now) (a .a) (a .e) (t .trimmed-at .result .from) (t .trimmed-at .result .past) (t .trimmed-at .ensures)
+    preset-allow (a .s .now) (a .a) (a .e) (t .trimmed-at .result .from) (t .trimmed-at .result .past)
+    (trim-to (a .s .now) (a .a) (a .e) (omega arith) (omega arith) (t .trimmed-at .ensures .0))
     (sym (c .before .equal .ensures) ∙ c .if1 .taken)
 
 returns-2 : tie.Need-returns-2
@@ -20,7 +23,8 @@ returns-2 c =
     let c4 = c3 .before .before .before in
     let t = c4 in
     let a = t .before .before .args in
-    preset-deny (a .s .now) (a .a) (a .e) (t .trimmed-at .result .from) (t .trimmed-at .result .past) (t .trimmed-at .ensures)
+    preset-deny (a .s .now) (a .a) (a .e) (t .trimmed-at .result .from) (t .trimmed-at .result .past)
+    (trim-to (a .s .now) (a .a) (a .e) (omega arith) (omega arith) (t .trimmed-at .ensures .0))
     (sym (c3 .equal .ensures) ∙ c2 .if1 .left) (sym (c1 .equal2 .ensures) ∙ c .if2 .taken)
 
 returns-3 : tie.Need-returns-3
@@ -31,7 +35,8 @@ returns-3 c =
     let c4 = c3 .before .before .before in
     let t = c4 in
     let a = t .before .before .args in
-    preset-bad (a .s .now) (a .a) (a .e) (t .trimmed-at .result .from) (t .trimmed-at .result .past) (t .trimmed-at .ensures)
+    preset-bad (a .s .now) (a .a) (a .e) (t .trimmed-at .result .from) (t .trimmed-at .result .past)
+    (trim-to (a .s .now) (a .a) (a .e) (omega arith) (omega arith) (t .trimmed-at .ensures .0))
     (sym (c3 .equal .ensures) ∙ c2 .if1 .left) (sym (c1 .equal2 .ensures) ∙ c .if2 .left)
 
 pub preset-at-spec : {M : Type 1} → statement M

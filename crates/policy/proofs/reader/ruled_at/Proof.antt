@@ -5,9 +5,9 @@ use native.Mathlib.Omega.{arith}
 use borrow.Author.Needs.{needs}
 use Rattle.text.proofs.FindLaws.{index-le}
 use Rattle.domains.specs.Domain.{found, just, domainOf}
-use Rattle.pieces.specs.Piece.{trim, piece, bytesOf}
+use Rattle.text.specs.Piece.{trim, piece, bytesBetween}
 use Rattle.policy.specs.Heard.{ranged}
-use Rattle.pieces.proofs.Pieces.{piece-long}
+use Rattle.text.proofs.PieceLaws.{piece-long}
 use Rattle.policy.proofs.HeardLaws.{ruled-far, ruled-near, listed-wrong, listed-right, plain-wrong, plain-right}
 use Rattle.policy.proofs.reader.ruled_at.Statement.{statement}
 use Rattle.policy.proofs.reader.ruled_at.Tie as tie
@@ -18,7 +18,7 @@ add-i c =
     let a = f .before .before .before .args in
     let s = a .s .now in
     let i = f .find .result in
-    omega (arith, c .find .ensures, index-le 58 (bytesOf s (a .a) (a .e)), piece-long s (a .a) (a .e) (omega arith))
+    omega (arith, c .find .ensures, index-le 58 (bytesBetween s (a .a) (a .e)), piece-long s (a .a) (a .e) (omega arith))
 
 returns : tie.Need-returns
 returns c =

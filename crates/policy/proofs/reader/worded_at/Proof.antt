@@ -6,7 +6,7 @@ use Prim.Native.Nat.{ℕ}
 use native.Mathlib.Omega.{arith}
 use borrow.Author.Needs.{needs}
 use Rattle.text.specs.Find.{begins}
-use Rattle.pieces.specs.Piece.{bytesOf}
+use Rattle.text.specs.Piece.{bytesBetween}
 use Rattle.policy.specs.Directive.{policyW, defaultW, allowW, denyW}
 use Rattle.policy.proofs.HeardLaws.{word-fits, worded-name, worded-default, worded-allow, worded-deny, worded-wrong}
 use Rattle.policy.proofs.reader.worded_at.Statement.{statement}
@@ -14,7 +14,7 @@ use Rattle.policy.proofs.reader.worded_at.Tie as tie
 
 -- the line begins with a word, or does not
 abbrev Begins : List ℕ → tie.Start → Bool → Type 0
-Begins w c t = begins w (bytesOf (c .args .s .now) (c .args .a) (c .args .e)) ≡ t
+Begins w c t = begins w (bytesBetween (c .args .s .now) (c .args .a) (c .args .e)) ≡ t
 
 -- where a test failed: the entry, and that it failed
 abbrev start1 : tie.Else1 → tie.Start

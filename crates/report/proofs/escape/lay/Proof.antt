@@ -1,6 +1,6 @@
 -- `escape::lay` meets its contract. Assumes nothing.
 use borrow.Author.Needs.{needs}
-use Rattle.writing.proofs.Laws.{wrote-put, wrote-then}
+use Rattle.output.proofs.ByteLaws.{wrote-put, wrote-then}
 use Rattle.report.proofs.escape.lay.Statement.{statement}
 use Rattle.report.proofs.escape.lay.Tie as tie
 

@@ -4,7 +4,7 @@ use Prim.Native.Nat.{_-_}
 use native.Mathlib.Omega.{arith}
 use lib.ListN.{length, take}
 use borrow.Author.Needs.{needs}
-use Rattle.writing.specs.Writing.{Wrote}
+use Rattle.output.specs.Bytes.{Wrote}
 use Rattle.report.specs.Escape.{escaped}
 use Rattle.report.proofs.Escapes.{name-none, name-next, name-all}
 use Rattle.report.proofs.escape.put_name.Statement.{statement}

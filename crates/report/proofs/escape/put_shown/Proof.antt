@@ -1,7 +1,7 @@
 -- `escape::put_shown` meets its contract. Assumes nothing.
 use mathlib.Core.Path.{sym, _∙_}
 use borrow.Author.Needs.{needs}
-use Rattle.writing.proofs.Laws.{wrote-put}
+use Rattle.output.proofs.ByteLaws.{wrote-put}
 use Rattle.report.proofs.Escapes.{shown-plain, shown-coded}
 use Rattle.report.proofs.escape.put_shown.Statement.{statement}
 use Rattle.report.proofs.escape.put_shown.Tie as tie

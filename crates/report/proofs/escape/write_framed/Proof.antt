@@ -4,8 +4,8 @@ use Prim.Native.Nat.{_+_, _≤_}
 use native.Mathlib.Omega.{arith}
 use lib.ListN.{length}
 use borrow.Author.Needs.{needs}
-use Rattle.writing.specs.Writing.{most}
-use Rattle.writing.proofs.Laws.{form-full, form-done, formed-first}
+use Rattle.output.specs.Bytes.{most}
+use Rattle.output.proofs.ByteLaws.{form-full, form-done, formed-first}
 use Rattle.report.specs.Escape.{escaped}
 use Rattle.report.proofs.Escapes.{framed-few}
 use Rattle.report.proofs.escape.write_framed.Statement.{statement}

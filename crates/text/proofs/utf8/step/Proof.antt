@@ -3,7 +3,7 @@ use mathlib.Core.Bool.{true, false}
 use mathlib.Core.Logic.{⊎-elim}
 use native.Mathlib.Omega.{arith}
 use borrow.Author.Needs.{needs}
-use Rattle.text.specs.Steps.{stepOf}
+use Rattle.text.specs.Steps.{sequenceOf}
 use Rattle.text.proofs.Utf8Laws.{step-1, step-2, step-3, step-4, short-2, short-3, short-4}
 use Rattle.text.proofs.utf8.step.Statement.{statement}
 use Rattle.text.proofs.utf8.step.Tie as tie
@@ -14,14 +14,14 @@ one c =
     step-1 (x .s .now) (x .at) (omega arith) (c .if1 .taken)
 
 two : tie.Need-returns-2
-unfolding stepOf
+unfolding sequenceOf
 two c =
     let k = c .before in
     let x = k .before .before .before .before .before .before .before .args in
     step-2 (x .s .now) (x .at) (k .two .result) true (omega arith) (k .two .ensures) (c .if4 .taken)
 
 no-two : tie.Need-returns-3
-unfolding stepOf
+unfolding sequenceOf
 no-two c =
     let l = c .before in
     let x = l .before .before .before .before .args in
@@ -31,14 +31,14 @@ no-two c =
     (c .if3 .came)
 
 three : tie.Need-returns-4
-unfolding stepOf
+unfolding sequenceOf
 three c =
     let k = c .before in
     let x = k .before .before .before .before .before .before .before .before .before .args in
     step-3 (x .s .now) (x .at) (k .three .result) true (omega arith) (k .three .ensures) (c .if7 .taken)
 
 no-three : tie.Need-returns-5
-unfolding stepOf
+unfolding sequenceOf
 no-three c =
     let l = c .before in
     let x = l .before .before .before .before .before .args in
@@ -48,14 +48,14 @@ no-three c =
     (c .if6 .came)
 
 four : tie.Need-returns-6
-unfolding stepOf
+unfolding sequenceOf
 four c =
     let k = c .before in
     let x = k .before .before .before .before .before .before .before .before .before .before .args in
     step-4 (x .s .now) (x .at) (k .four .result) true (omega arith) (k .four .ensures) (c .if9 .taken)
 
 no-four : tie.Need-returns-7
-unfolding stepOf
+unfolding sequenceOf
 no-four c =
     let l = c .before in
     let k = l .before .before .before .before in

@@ -9,7 +9,7 @@ use Rattle.refusal.specs.Said.{accepted, got}
 use Rattle.table.specs.Told.{Passed}
 use Rattle.table.proofs.Telling.{tell-first, tell-next}
 use Rattle.leb.specs.Answers.{saidByte, saidPart, whyByte, whyPart}
-use Rattle.leb.specs.Reads.{bytesOf, byteAt, countedAt}
+use Rattle.leb.specs.Reads.{partBytes, byteAt, countedAt}
 use Rattle.leb.proofs.Answering.{hear}
 use Rattle.leb.proofs.Bounds.{byte-in, counted-in}
 use Rattle.wasm.specs.Module.{sectionAt}
@@ -34,7 +34,7 @@ second c = hear saidPart _ _ (c .before .before .before .counted .ensures) (c .b
 cutting : (c : tie.After-known-told2)
     → let p = c .before .two .given .0 .0 in
     let s = now (c .before .before .before .before .before .before .before .before .before .before .before .before .before .args .file) in
-    take (p .from + p .len - p .from) (drop (p .from) s) ≡ bytesOf s p
+    take (p .from + p .len - p .from) (drop (p .from) s) ≡ partBytes s p
 cutting c = let p = c .before .two .given .0 .0 in cut (p .from) (p .len)
     (now (c .before .before .before .before .before .before .before .before .before .before .before .before .before .args .file))
 

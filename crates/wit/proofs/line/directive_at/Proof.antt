@@ -1,10 +1,11 @@
 -- `directive_at` meets its contract. Assumes nothing.
 use mathlib.Core.Path.{_∙_}
+use Prim.Native.Nat.{_+_}
 use native.Mathlib.Omega.{arith}
 use borrow.Author.Needs.{needs}
-use Rattle.pieces.specs.Piece.{bytesOf}
-use Rattle.pieces.proofs.Pieces.{piece-long}
-use Rattle.wit.proofs.LineLaws.{pair-le, comment-fits, directive-some, directive-none}
+use Rattle.text.specs.Piece.{bytesBetween, TrimTo}
+use Rattle.text.proofs.PieceLaws.{piece-long, trim-to}
+use Rattle.wit.proofs.LineLaws.{pair-le, directive-some, directive-none}
 use Rattle.wit.proofs.line.directive_at.Statement.{statement}
 use Rattle.wit.proofs.line.directive_at.Tie as tie
 
@@ -12,25 +13,19 @@ add-h : tie.Need-add-h
 add-h c =
     let a = c .before .before .before .args in
     let s = a .s .now in
-    omega (arith, c .find-pair .ensures, pair-le 47 47 (bytesOf s (a .a) (a .e)), piece-long s (a .a) (a .e) (omega arith))
+    omega (arith, c .find-pair .ensures, pair-le 47 47 (bytesBetween s (a .a) (a .e)), piece-long s (a .a) (a .e) (omega arith))
 
-trimmed-at-requires : tie.Need-trimmed-at-requires
-trimmed-at-requires c κs =
-    let a = c .before .before .before .args in
-    let s = a .s .now in
-    omega (arith, c .find-pair .ensures, pair-le 47 47 (bytesOf s (a .a) (a .e)), piece-long s (a .a) (a .e) (omega arith))
-
-worded-at-requires : tie.Need-worded-at-requires
-worded-at-requires c κs =
-    let t = c .before in
-    let f = t .before in
+-- the line without its comment, trimmed
+trims : (c : tie.After-trimmed-at) → let f = c .before in
     let a = f .before .before .before .args in
-    omega (
-      arith,
-      t .trimmed-at .ensures .high,
-      comment-fits (a .s .now) (a .a) (a .e) (f .find-pair .result) _ _ (omega arith) (f .find-pair .ensures)
-          (t .trimmed-at .ensures),
-    )
+    TrimTo (a .s .now) (a .a) (a .a + f .find-pair .result) (c .trimmed-at .result .from) (c .trimmed-at .result .past)
+trims c =
+    let f = c .before in
+    let a = f .before .before .before .args in
+    let s = a .s .now in
+    trim-to s (a .a) (a .a + f .find-pair .result) (omega arith)
+    (omega (arith, f .find-pair .ensures, pair-le 47 47 (bytesBetween s (a .a) (a .e)), piece-long s (a .a) (a .e) (omega arith)))
+    (c .trimmed-at .ensures .0)
 
 returns : tie.Need-returns
 returns c =
@@ -38,7 +33,7 @@ returns c =
     let f = t .before in
     let a = f .before .before .before .args in
     c .worded-at .ensures
-    ∙ directive-some (a .s .now) (a .a) (a .e) _ _ _ (omega arith) (f .find-pair .ensures) (t .trimmed-at .ensures) (omega arith)
+    ∙ directive-some (a .s .now) (a .a) (a .e) _ _ _ (omega arith) (f .find-pair .ensures) (trims t) (omega arith)
     (c .before .if1 .taken)
 
 returns-2 : tie.Need-returns-2
@@ -46,12 +41,12 @@ returns-2 c =
     let t = c .before in
     let f = t .before in
     let a = f .before .before .before .args in
-    directive-none (a .s .now) (a .a) (a .e) _ _ _ (omega arith) (f .find-pair .ensures) (t .trimmed-at .ensures) (omega arith)
+    directive-none (a .s .now) (a .a) (a .e) _ _ _ (omega arith) (f .find-pair .ensures) (trims t) (omega arith)
     (c .if1 .left)
 
 pub directive-at-spec : {M : Type 1} → statement M
 directive-at-spec =
     tie.close
     (tie.spec
-    (λ c. search needs) (λ c. search needs) (λ c. search needs) (λ c κs. search needs) add-h trimmed-at-requires
-    worded-at-requires returns returns-2)
+    (λ c. search needs) (λ c. search needs) (λ c. search needs) (λ c κs. search needs) add-h (λ c κs. search needs)
+    (λ c κs. search needs) returns returns-2)

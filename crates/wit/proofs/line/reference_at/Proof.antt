@@ -4,8 +4,8 @@ use Prim.Native.Nat.{_≤_}
 use native.Mathlib.Omega.{arith}
 use lib.ListN.{length}
 use borrow.Author.Needs.{needs}
-use Rattle.pieces.specs.Piece.{piece, trim, bytesOf}
-use Rattle.pieces.proofs.Pieces.{piece-long}
+use Rattle.text.specs.Piece.{piece, trim, bytesBetween}
+use Rattle.text.proofs.PieceLaws.{piece-long, trim-to}
 use Rattle.wit.specs.Line.{unbraced, referenceOf}
 use Rattle.wit.proofs.LineLaws.{boundary-le, bare-is, split-far, split-none}
 use Rattle.wit.proofs.line.reference_at.Statement.{statement}
@@ -18,7 +18,10 @@ bare : (c : tie.After-trimmed-at2)
 bare c =
     let u = c .before in
     let a = u .before .before .before .args in
-    bare-is (a .s .now) (a .a) (a .e) _ _ _ _ _ (u .before .trimmed-at .ensures) (u .unbraced-at .ensures .2) (c .trimmed-at2 .ensures)
+    bare-is (a .s .now) (a .a) (a .e) _ _ _ _ _
+    (trim-to (a .s .now) (a .a) (a .e) (omega arith) (omega arith) (u .before .trimmed-at .ensures .0)) (u .unbraced-at .ensures .2)
+    (trim-to (a .s .now) (u .before .trimmed-at .result .from) (u .unbraced-at .result) (omega arith) (omega arith)
+    (c .trimmed-at2 .ensures .0))
 
 within : (c : tie.After-trimmed-at2) → c .trimmed-at2 .result .past ≤ length (c .before .before .before .before .args .s .now)
 within c = omega arith
@@ -29,7 +32,7 @@ add-i c =
     let s = t .before .before .before .before .args .s .now in
     let b = t .trimmed-at2 .result .from in
     let e = t .trimmed-at2 .result .past in
-    omega (arith, c .boundary-of .ensures, boundary-le (bytesOf s b e), piece-long s b e (omega arith))
+    omega (arith, c .boundary-of .ensures, boundary-le (bytesBetween s b e), piece-long s b e (omega arith))
 
 returns : tie.Need-returns
 returns c =

@@ -1,3 +1,0 @@
--- Laws that the proofs cite.
-pub mod Bytes
-pub mod Putting

@@ -1,2 +1,0 @@
--- What the promise cites.
-pub mod Cells

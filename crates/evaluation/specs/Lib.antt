@@ -1,3 +1,0 @@
--- What the promises cite.
-pub mod Evaluate
-pub mod Tally

@@ -1,2 +1,0 @@
--- Laws of parts.
-pub mod Places

@@ -1,3 +1,0 @@
--- What the promises of every reader of texts are written in.
-pub mod Whole
-pub mod Piece

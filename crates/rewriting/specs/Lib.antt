@@ -1,4 +1,0 @@
--- What the promises cite.
-pub mod Writer
-pub mod Writing
-pub mod Token

@@ -1,0 +1,9 @@
+-- Laws of the second walk and of the rules.
+pub mod Differing
+pub mod Ruling
+pub mod Marking
+pub mod Judging
+pub mod Seeing
+pub mod Strictly
+pub mod Room
+pub mod Numbered

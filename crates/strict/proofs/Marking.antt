@@ -1,0 +1,59 @@
+-- Laws of the second walk: a run of entries, a frame, a custom section. Assumes nothing.
+use Prim.Native.Nat.{ℕ, suc, _-_, _≤_, _<_}
+use native.Mathlib.Omega.{arith}
+use mathlib.Core.Path.{_≡_, sym, _∙_, ap}
+use mathlib.Core.Bool.{true, false}
+use mathlib.Core.List.{List}
+use Rattle.refusal.specs.Said.{Said, accepted, refused, Got, got, onward}
+use Rattle.refusal.specs.declared.Part.{Part}
+use Rattle.text.specs.Find.{same}
+use Rattle.table.specs.Walking.{walkFrom}
+use Rattle.leb.specs.Reads.{partBytes, byteAt, countedAt}
+use Rattle.wasm.specs.Custom.{nameWord}
+use Rattle.strict.specs.declared.again.Marks.{Marks}
+use Rattle.strict.specs.Again.{withNumber, runFrom, framedMarks, subsectionMarks, customMarks}
+
+-- ---- entries
+module _ (read : ℕ → Marks → Said (Got Marks)) (left at : ℕ) (m : Marks) where
+  more : 0 < left → left ≡ suc (left - 1)
+  more h = omega arith
+
+  pub run-end : left ≤ 0 → runFrom read left at m ≡ accepted (got m at)
+  unfolding runFrom
+  run-end h = let e : left ≡ 0 = omega arith in rw e
+
+  pub run-stop : {n p : ℕ} → 0 < left → read at m ≡ refused n p → runFrom read left at m ≡ refused n p
+  unfolding runFrom onward
+  run-stop h e = rw (more h, e)
+
+  pub run-on : {k : Marks} {d : ℕ} → 0 < left → read at m ≡ accepted (got k d) → runFrom read left at m ≡ runFrom read (left - 1) d k
+  unfolding runFrom onward
+  run-on {k} {d} h e = ap (λ (n : ℕ). runFrom read n at m) (more h) ∙ rw e
+
+-- ---- a frame whose id and size were read; q is its bytes as the code cut them out
+module _ (inside : ℕ → List ℕ → Marks → Said (Got Marks)) (s : List ℕ) (at : ℕ) (m : Marks) (id a next : ℕ) (p : Part)
+    (one : byteAt s at ≡ accepted (got id a)) (two : countedAt s a ≡ accepted (got p next)) (q : List ℕ) (is : q ≡ partBytes s p)
+    {k : Marks} (short : k ≡ withNumber m (p .from - a)) {r : Said (Got Marks)} (told : r ≡ inside id q k) where
+  here : r ≡ inside id (partBytes s p) (withNumber m (p .from - a))
+  here = told ∙ ap (λ (l : List ℕ). inside id l k) is ∙ ap (inside id (partBytes s p)) short
+
+  pub framed-stop : {n e : ℕ} → r ≡ refused n e → refused n e ≡ framedMarks inside s at m
+  unfolding framedMarks onward
+  framed-stop e = rw (one, two, sym here ∙ e)
+
+  pub framed-got : {v : Marks} {d : ℕ} → r ≡ accepted (got v d) → accepted (got v next) ≡ framedMarks inside s at m
+  unfolding framedMarks onward
+  framed-got e = rw (one, two, sym here ∙ e)
+
+-- ---- a custom section whose name was read
+module _ (s : List ℕ) (m : Marks) (p : Part) (at : ℕ) (first : countedAt s 0 ≡ accepted (got p at)) (q : List ℕ) (is : q ≡ partBytes s p)
+    {k : Marks} (short : k ≡ withNumber m (p .from)) where
+  pub custom-other : same nameWord q ≡ false → accepted (got k at) ≡ customMarks s m
+  unfolding customMarks onward
+  custom-other o = let t : same nameWord (partBytes s p) ≡ false = rw (sym is) o in rw (first, t, short)
+
+  pub custom-named : {r : Said (Got Marks)} → same nameWord q ≡ true → r ≡ walkFrom (subsectionMarks s) s at k → r ≡ customMarks s m
+  unfolding customMarks onward
+  custom-named o e =
+      let t : same nameWord (partBytes s p) ≡ true = rw (sym is) o in
+      rw (first, t) (e ∙ ap (walkFrom (subsectionMarks s) s at) short)

@@ -1,0 +1,4 @@
+-- What the structs hold.
+pub mod Reading
+pub mod Policies
+pub mod Check

@@ -1,4 +1,0 @@
--- Laws that the writers cite.
-pub mod Laws
-pub mod Words
-pub mod Known

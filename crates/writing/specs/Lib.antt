@@ -1,2 +1,0 @@
--- What the writers promise.
-pub mod Writing
