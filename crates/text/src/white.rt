@@ -19,41 +19,41 @@ fn in_range(c: u32, lo: u32, hi: u32) -> bool
     false
 }
 
-// The lines of PropList.txt, in its order.
+// The lines of PropList.txt, in its order: each test has the printed line beside it. tools/white holds them against the file.
 pub fn is_white(c: u32) -> bool
     ensures { λ r. ⌜ r ≡ isWhite c ⌝ }
 {
-    if in_range(c, 0x9, 0xD) {
+    if in_range(c, 0x0009, 0x000D) { // 0009..000D
         return true;
     }
-    if in_range(c, 0x20, 0x20) {
+    if in_range(c, 0x0020, 0x0020) { // 0020
         return true;
     }
-    if in_range(c, 0x85, 0x85) {
+    if in_range(c, 0x0085, 0x0085) { // 0085
         return true;
     }
-    if in_range(c, 0xA0, 0xA0) {
+    if in_range(c, 0x00A0, 0x00A0) { // 00A0
         return true;
     }
-    if in_range(c, 0x1680, 0x1680) {
+    if in_range(c, 0x1680, 0x1680) { // 1680
         return true;
     }
-    if in_range(c, 0x2000, 0x200A) {
+    if in_range(c, 0x2000, 0x200A) { // 2000..200A
         return true;
     }
-    if in_range(c, 0x2028, 0x2028) {
+    if in_range(c, 0x2028, 0x2028) { // 2028
         return true;
     }
-    if in_range(c, 0x2029, 0x2029) {
+    if in_range(c, 0x2029, 0x2029) { // 2029
         return true;
     }
-    if in_range(c, 0x202F, 0x202F) {
+    if in_range(c, 0x202F, 0x202F) { // 202F
         return true;
     }
-    if in_range(c, 0x205F, 0x205F) {
+    if in_range(c, 0x205F, 0x205F) { // 205F
         return true;
     }
-    in_range(c, 0x3000, 0x3000)
+    in_range(c, 0x3000, 0x3000) // 3000
 }
 
 // The low bits of the byte at i, 0 past the end.
