@@ -157,4 +157,4 @@ module _ (κs : Lfts 2) (a : Dens κs check-kinds.ps) (r : resT check-kinds.r κ
   pub checks-along : (f : List ℕ) (gs : List (List ℕ)) → Bytes f → FileChain f gs → now (a .0) ≡ lastFile f gs
       → Clear f (now (a .1 .0)) → r .compliant ≡ true
   checks-along f gs bytes c e q =
-      check-says .1 (subst (λ (x : List ℕ). Clear x (now (a .1 .0))) (sym e) (of-files .passes f gs bytes c (now (a .1 .0)) q))
+      check-says .1 (subst (λ (x : List ℕ). Clear x (now (a .1 .0))) (sym e) (of-files .checks f gs bytes c (now (a .1 .0)) q))

@@ -19,11 +19,12 @@ use Rattle.conform.proofs.Larger.{limits-decide}
 use Rattle.differences.specs.View.{View, ExportKey, Need}
 use Rattle.differences.specs.Compared.{lists, viewed, verdictOn}
 use Rattle.listed.specs.Comparisons.{Comparison, build, builds, comparison}
-use Rattle.standin.specs.Builds.{Build, view, exports, pairs, StandsIn, buildsTold, Clear, Replaces, FileChain, lastFile, Stood}
+use Rattle.policy.specs.declared.Policy.{Policy}
+use Rattle.standin.specs.Builds.{Build, view, StandsIn, buildsTold, Read, Meets, Clear, Replaces, FileChain, lastFile, Stood}
 use Rattle.standin.specs.Claims.{OfFiles}
 use Rattle.standin.proofs.Views.{says}
 use Rattle.standin.proofs.Builds.{read, short}
-use Rattle.standin.proofs.Limits.{left, whole, at-limits, full, same-exports, same-pairs}
+use Rattle.standin.proofs.Limits.{left, whole, at-limits, full, same-exports, same-pairs, meets-clear, clear-meets}
 use Rattle.standin.proofs.Theorems.{replacement, explanation}
 
 every : (f : List ℕ) (z : Sizes) (m : Parsed) → Bytes f → moduleAt f z ≡ accepted m → (b : Build) × (b .file ≡ f)
@@ -159,9 +160,15 @@ step f g s text q =
     (replacement .checks (s .baseline) (s .candidate ∷ []) (s .stands, tt) text
     (subst (λ (x : List ℕ). Clear x text) (sym (s .baseline-is)) q))
 
-passes : (f : List ℕ) (gs : List (List ℕ)) → Bytes f → FileChain f gs → (text : List ℕ) → Clear f text → Clear (lastFile f gs) text
-passes f [] bytes c text q = q
-passes f (g ∷ gs) bytes c text q = passes g gs (c .0) (c .2) text (step f g (to-builds f g bytes (c .0) (c .1)) text q)
+checks : (f : List ℕ) (gs : List (List ℕ)) → Bytes f → FileChain f gs → (text : List ℕ) → Clear f text → Clear (lastFile f gs) text
+checks f [] bytes c text q = q
+checks f (g ∷ gs) bytes c text q = checks g gs (c .0) (c .2) text (step f g (to-builds f g bytes (c .0) (c .1)) text q)
+
+policies : (f : List ℕ) (gs : List (List ℕ)) → Bytes f → FileChain f gs → (b c : Build) → b .file ≡ f → c .file ≡ lastFile f gs
+    → (p : Policy) → Read p → Meets p b → Meets p c
+policies f gs bytes chain b c of-first of-last p r ok =
+    let q = subst (λ (x : List ℕ). Clear x (r .text)) of-first (meets-clear b (r .text) p (r .reads) ok) in
+    clear-meets c (r .text) p (r .reads) (subst (λ (x : List ℕ). Clear x (r .text)) (sym of-last) (checks f gs bytes chain (r .text) q))
 
 pub of-files : OfFiles
-of-files = record { every = every; stood = stood; series = series; passes = passes }
+of-files = record { every = every; stood = stood; series = series; policies = policies; checks = checks }

@@ -33,8 +33,11 @@ pub record OfFiles : Type 0 where
   pub stood : (f g : List ℕ) → Bytes f → Bytes g → Replaces f g ↔ Stood f g
   -- Along any chain of files, of any length, the last can replace the first.
   pub series : (f g : List ℕ) (gs : List (List ℕ)) → Bytes f → FileChain f (g ∷ gs) → Replaces f (lastFile g gs)
+  -- Every build of the last meets every policy that some build of the first meets.
+  pub policies : (f : List ℕ) (gs : List (List ℕ)) → Bytes f → FileChain f gs → (b c : Build) → b .file ≡ f → c .file ≡ lastFile f gs
+      → (p : Policy) → Read p → Meets p b → Meets p c
   -- And where the whole check of the first passes under a policy's text, so does that of the last.
-  pub passes : (f : List ℕ) (gs : List (List ℕ)) → Bytes f → FileChain f gs → (text : List ℕ) → Clear f text → Clear (lastFile f gs) text
+  pub checks : (f : List ℕ) (gs : List (List ℕ)) → Bytes f → FileChain f gs → (text : List ℕ) → Clear f text → Clear (lastFile f gs) text
 
 -- c has every export of b, by name and kind, and its function imports need no pair of domain and source that those of b do not
 pub record Covers (b c : Build) : Type 0 where
