@@ -20,6 +20,7 @@ pub mod OfReasons
 pub mod Examples
 pub mod Rejected
 pub mod RejectedReasons
+pub mod Standins
 pub mod OfTold
 pub mod OfCapi
 pub mod OfJudged

@@ -66,7 +66,7 @@ module _ {R : Type 0} (f : R → List ℕ) (w limit n : ℕ) (wide : (r : R) →
 pub noImport : Import
 noImport = record { «module» = part 0 0; field = part 0 0; kind = 0; desc = func 0 }
 
-noExport : Export
+pub noExport : Export
 noExport = record { name = part 0 0; kind = 0; index = 0 }
 
 pub import-wide : (r : Import) → length (importCells r) ≡ width 2
@@ -83,6 +83,10 @@ fits a b {m} h e = rw (le-leb (a + b) m h, e)
 pub import-cell : (n : ℕ) (rows : List Import) (i j : ℕ) → i < length rows → j < width 2
     → cellIn 2 (laid n (cells importCells rows)) i j ≡ getD (importCells (getD rows i noImport)) j 0
 import-cell n rows i j h k = cell-laid importCells (width 2) import-wide n rows i j noImport h k
+
+pub export-cell : (n : ℕ) (rows : List Export) (i j : ℕ) → i < length rows → j < width 3
+    → cellIn 3 (laid n (cells exportCells rows)) i j ≡ getD (exportCells (getD rows i noExport)) j 0
+export-cell n rows i j h k = cell-laid exportCells (width 3) export-wide n rows i j noExport h k
 
 module _ (m n : ℕ) (rows : List Import) (ok : Each (ImportOk m) rows) where
   abbrev imported : List ℕ
@@ -107,17 +111,14 @@ module _ (m n : ℕ) (rows : List Export) (ok : Each (ExportOk m) rows) where
   abbrev exported : List ℕ
   exported = laid n (cells exportCells rows)
 
-  export-cell : (i j : ℕ) → i < length rows → j < width 3 → cellIn 3 exported i j ≡ getD (exportCells (getD rows i noExport)) j 0
-  export-cell i j h k = cell-laid exportCells (width 3) export-wide n rows i j noExport h k
-
   export-good : (i : ℕ) → i < length rows → bad (exportFits m exported) i ≡ false
   unfolding exportFits exportCells
   export-good i h =
       let r = each-at noExport rows ok i h in
       ap (λ (t : Bool). pick t false true)
       (fits (cellIn 3 exported i 0) (cellIn 3 exported i 1)
-      (omega (arith, r .name-in-file, export-cell i 0 h (omega arith), export-cell i 1 h (omega arith)))
-      (le-leb (cellIn 3 exported i 2) 255 (omega (arith, r .kind-byte, export-cell i 2 h (omega arith)))))
+      (omega (arith, r .name-in-file, export-cell n rows i 0 h (omega arith), export-cell n rows i 1 h (omega arith)))
+      (le-leb (cellIn 3 exported i 2) 255 (omega (arith, r .kind-byte, export-cell n rows i 2 h (omega arith)))))
 
   exports-good : length rows ≤ capacityIn 3 n → exportsTested m exported (length rows) ≡ accepted tt
   unfolding exportsTested
@@ -146,7 +147,7 @@ module _ (b : Build) where
   unfolding parsed moduleOf countsOf
   import-count = ap (λ (m : Module). m .imports) (sym (one-value (read .then)))
 
-  export-count : b .answer .exports ≡ length (parsed .exports)
+  pub export-count : b .answer .exports ≡ length (parsed .exports)
   unfolding parsed moduleOf countsOf
   export-count = ap (λ (m : Module). m .exports) (sym (one-value (read .then)))
 

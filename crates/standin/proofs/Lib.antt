@@ -8,5 +8,8 @@ pub mod Builds
 pub mod Domains
 pub mod Limits
 pub mod Explained
+pub mod Cells
 pub mod Theorems
+pub mod Files
+pub mod Examples
 pub mod Strict

@@ -1,5 +1,5 @@
 -- The proofs of Claims. Assumes nothing.
-use mathlib.Core.Path.{_≡_, refl, sym, _∙_, ap}
+use mathlib.Core.Path.{_≡_, refl, sym, _∙_, ap, subst₂}
 use mathlib.Core.Logic.{_⊎_, inl, inr, _↔_, ⊎-elim}
 use mathlib.Core.Bool.{Bool, true, false, true≢false}
 use mathlib.Core.List.{List, [], _∷_, List·Memᴰ·head, List·Memᴰ·tail, List·Memᴰ·not-nil, List·Memᴰ·cases-cons, Memᴰ·cast}
@@ -8,13 +8,14 @@ use native.Mathlib.Omega.{arith}
 use native.Mathlib.Decide.{ℕ-discrete}
 use lib.Dec.{leb, eqb}
 use lib.ListN.{length, length-map}
-use borrow.Author.Tests.{leb-false}
+use borrow.Author.Tests.{leb-true, leb-false}
 use Rattle.refusal.specs.Pick.{pick, both}
 use Rattle.refusal.specs.Said.{Said, accepted, refused, follow, saidAnswer}
 use Rattle.refusal.specs.declared.Answer.{Answer}
-use Rattle.refusal.proofs.Following.{never, one-value, follow-goes}
+use Rattle.refusal.proofs.Following.{never, one-value, follow-goes, follow-stops}
 use Rattle.table.specs.Entries.{finished}
-use Rattle.table.specs.Shape.{limit}
+use Rattle.table.specs.Table.{laid, cells}
+use Rattle.table.specs.Shape.{limit, capacityIn}
 use Rattle.sorting.specs.Sort.{_∈_}
 use Rattle.wasm.specs.Module.{Parsed, moduleAt, moduleOf, countsOf}
 use Rattle.conform.specs.Claims.{Bytes}
@@ -25,13 +26,15 @@ use Rattle.verdicts.specs.Evaluate.{EvaluatedAs, acceptedAs, compliant}
 use Rattle.import_rows.specs.Queries.{kindIs}
 use Rattle.differences.specs.View.{Need, needAt}
 use Rattle.differences.specs.Differences.{cmpExport, cmpNeed, exportOrder, needOrder, exportDiff, needDiff}
-use Rattle.differences.specs.Compared.{Lists, lists, roomed, compared, Verdict, verdictOn}
+use Rattle.differences.specs.Compared.{Lists, lists, roomed, compared, Verdict, verdictOn, exportDiffCells, needDiffCells, listed}
+use Rattle.differences.specs.Compared.{Compares}
 use Rattle.listed.specs.Comparisons.{explained, build, against, builds}
 use Rattle.standin.specs.Passing.{witness}
 use Rattle.standin.specs.Replacing.{reversed}
 use Rattle.standin.specs.Builds.{Build, handed, view, domains, pairs, buildsCompared, StandsIn, Chain, last, exchanged}
-use Rattle.standin.specs.Builds.{buildsTold, Read, Meets}
-use Rattle.standin.specs.Claims.{Covers, Replacement, Listing, Explanation, FailSafe}
+use Rattle.standin.specs.Builds.{buildsTold, Read, Meets, Clear}
+use Rattle.standin.specs.Claims.{WithRoom, CellsExchanged, lentCompared, Covers, Replacement, Listing, Explanation, FailSafe}
+use Rattle.standin.proofs.Cells.{export-cells, need-cells}
 use Rattle.standin.proofs.Passing.{allBut, witness-reads, but-denied, but-allowed}
 use Rattle.standin.proofs.Differ.{mem-map, map-mem}
 use Rattle.standin.proofs.Lowest.{Rising, rising-rows, lowest-each}
@@ -45,16 +48,18 @@ use Rattle.standin.proofs.Domains.{small, meets-allows, allows-meets}
 -- ---- room
 -- the lists, or 13 at 8 or at 9
 data Roomed (room8 room9 : ℕ) (l : Lists) : Type 0 where
-  room : roomed room8 room9 l ≡ accepted l → Roomed room8 room9 l
+  room : roomed room8 room9 l ≡ accepted l → length (l .exports) ≤ room8 → length (l .needs) ≤ room9 → Roomed room8 room9 l
   full8 : roomed room8 room9 l ≡ refused 13 8 → room8 < length (l .exports) → Roomed room8 room9 l
-  full9 : roomed room8 room9 l ≡ refused 13 9 → room9 < length (l .needs) → Roomed room8 room9 l
+  full9 : roomed room8 room9 l ≡ refused 13 9 → length (l .exports) ≤ room8 → room9 < length (l .needs) → Roomed room8 room9 l
 
 roomed-as : (room8 room9 : ℕ) (l : Lists) → Roomed room8 room9 l
 roomed-as room8 room9 l = by (leb (length (l .exports)) room8) refl (leb (length (l .needs)) room9) refl
   where
     by : (t : Bool) → leb (length (l .exports)) room8 ≡ t → (u : Bool) → leb (length (l .needs)) room9 ≡ u → Roomed room8 room9 l
-    by true p true q = room (unfold roomed finished follow in rw (p, q))
-    by true p false q = full9 (unfold roomed finished follow in rw (p, q)) (leb-false (length (l .needs)) room9 q)
+    by true p true q =
+        room (unfold roomed finished follow in rw (p, q)) (leb-true (length (l .exports)) room8 p) (leb-true (length (l .needs)) room9 q)
+    by true p false q =
+        full9 (unfold roomed finished follow in rw (p, q)) (leb-true (length (l .exports)) room8 p) (leb-false (length (l .needs)) room9 q)
     by false p u q = full8 (unfold roomed finished follow in rw p) (leb-false (length (l .exports)) room8 p)
 
 -- tables at the limits take both lists
@@ -75,44 +80,59 @@ whole-lists b c = compared-is b c (limit 8) (limit 9) ∙ by (roomed-as (limit 8
   where
     by : Roomed (limit 8) (limit 9) (lists (view b) (view c))
         → roomed (limit 8) (limit 9) (lists (view b) (view c)) ≡ accepted (lists (view b) (view c))
-    by (room e) = e
+    by (room e h k) = e
     by (full8 e h) = absurd (omega (arith, few-exports b c))
-    by (full9 e h) = absurd (omega (arith, few-needs b c))
+    by (full9 e h k) = absurd (omega (arith, few-needs b c))
 
 answered : (b c : Build) → buildsCompared b c (limit 8) (limit 9) ≡ accepted (verdictOn (lists (view b) (view c)))
 answered b c = sym (follow-goes _ (whole-lists b c) refl)
 
-otherwise : (b c : Build) (room8 room9 : ℕ)
-    → (buildsCompared b c room8 room9 ≡ buildsCompared b c (limit 8) (limit 9))
-    ⊎ ((buildsCompared b c room8 room9 ≡ refused 13 8) × (room8 < length (exportDiff (view b) (view c))))
-    ⊎ ((buildsCompared b c room8 room9 ≡ refused 13 9) × (room9 < length (needDiff (view b) (view c))))
+-- the verdict on lists, where there are lists
+on-lists : (b c : Build) (room8 room9 : ℕ) {x : Said Lists} → roomed room8 room9 (lists (view b) (view c)) ≡ x
+    → buildsCompared b c room8 room9 ≡ follow x (λ l. accepted (verdictOn l))
+on-lists b c room8 room9 e = by-lists b c room8 room9 ∙ ap (λ (x : Said Lists). follow x (λ l. accepted (verdictOn l))) e
+
+apart : _≡_ {A = Said Verdict} (refused 13 8) (refused 13 9) → ⊥
+apart e = let z : _≡_ {A = ℕ} 8 9 = cc in omega arith
+
+otherwise : (b c : Build) (room8 room9 : ℕ) → WithRoom b c room8 room9
 unfolding follow
 otherwise b c room8 room9 = by (roomed-as room8 room9 (lists (view b) (view c)))
   where
-    on : Said Lists → Said Verdict
-    on x = follow x (λ l. accepted (verdictOn l))
-
-    by : Roomed room8 room9 (lists (view b) (view c))
-        → (buildsCompared b c room8 room9 ≡ buildsCompared b c (limit 8) (limit 9))
-        ⊎ ((buildsCompared b c room8 room9 ≡ refused 13 8) × (room8 < length (exportDiff (view b) (view c))))
-        ⊎ ((buildsCompared b c room8 room9 ≡ refused 13 9) × (room9 < length (needDiff (view b) (view c))))
-    by (room e) = inl (by-lists b c room8 room9 ∙ ap on e ∙ sym (answered b c))
-    by (full8 e h) = inr (inl (by-lists b c room8 room9 ∙ ap on e, h))
-    by (full9 e h) = inr (inr (by-lists b c room8 room9 ∙ ap on e, h))
+    by : Roomed room8 room9 (lists (view b) (view c)) → WithRoom b c room8 room9
+    by (room e h k) =
+        let p = on-lists b c room8 room9 e in
+        record {
+          same = ((λ q. (h, k)), λ q. p ∙ sym (answered b c));
+          full8 = ((λ q. absurd (never (sym q ∙ p))), λ q. absurd (omega (arith, q)));
+          full9 = ((λ q. absurd (never (sym q ∙ p))), λ q. absurd (omega (arith, q .1)));
+        }
+    by (full8 e h) =
+        let p = on-lists b c room8 room9 e in
+        record {
+          same = ((λ q. absurd (never (sym p ∙ q ∙ answered b c))), λ q. absurd (omega (arith, q .0)));
+          full8 = ((λ q. h), λ q. p);
+          full9 = ((λ q. absurd (apart (sym p ∙ q))), λ q. absurd (omega (arith, q .0)));
+        }
+    by (full9 e h k) =
+        let p = on-lists b c room8 room9 e in
+        record {
+          same = ((λ q. absurd (never (sym p ∙ q ∙ answered b c))), λ q. absurd (omega (arith, q .1)));
+          full8 = ((λ q. absurd (apart (sym q ∙ p))), λ q. absurd (omega (arith, q)));
+          full9 = ((λ q. (h, k)), λ q. p);
+        }
 
 -- ---- what compatible means
 -- an accepted comparison gives the verdict on the whole lists
 verdict-is : (b c : Build) (room8 room9 : ℕ) (v : Verdict) → buildsCompared b c room8 room9 ≡ accepted v
     → v ≡ verdictOn (lists (view b) (view c))
-verdict-is b c room8 room9 v e = by (otherwise b c room8 room9)
+unfolding follow
+verdict-is b c room8 room9 v e = by (roomed-as room8 room9 (lists (view b) (view c)))
   where
-    by : (buildsCompared b c room8 room9 ≡ buildsCompared b c (limit 8) (limit 9))
-        ⊎ ((buildsCompared b c room8 room9 ≡ refused 13 8) × (room8 < length (exportDiff (view b) (view c))))
-        ⊎ ((buildsCompared b c room8 room9 ≡ refused 13 9) × (room9 < length (needDiff (view b) (view c))))
-        → v ≡ verdictOn (lists (view b) (view c))
-    by (inl h) = one-value (sym e ∙ h ∙ answered b c)
-    by (inr (inl h)) = absurd (never (sym (h .0) ∙ e))
-    by (inr (inr h)) = absurd (never (sym (h .0) ∙ e))
+    by : Roomed room8 room9 (lists (view b) (view c)) → v ≡ verdictOn (lists (view b) (view c))
+    by (room q h k) = one-value (sym e ∙ on-lists b c room8 room9 q)
+    by (full8 q h) = absurd (never (sym (on-lists b c room8 room9 q) ∙ e))
+    by (full9 q h k) = absurd (never (sym (on-lists b c room8 room9 q) ∙ e))
 
 means : (b c : Build) (room8 room9 : ℕ) (v : Verdict) → buildsCompared b c room8 room9 ≡ accepted v
     → (v .compatible ≡ true) ↔ Covers b c
@@ -152,14 +172,27 @@ mem-dec d (x ∷ l) = go (ℕ-discrete d x) (mem-dec d l)
     go (no n) (inl m) = inl (List·Memᴰ·tail m)
     go (no n) (inr k) = inr (λ m. ⊎-elim n k (List·Memᴰ·cases-cons m))
 
-needed : (a b : Build) → ((p : Policy) → Read p → Meets p b → Meets p a) → (d : ℕ) → d ∈ domains a → d ∈ domains b
-needed a b f d m = ⊎-elim (λ t. t) (λ n. absurd (go n)) (mem-dec d (domains b))
+needs-no-more : (a b : Build) → ((p : Policy) → Read p → Meets p b → Meets p a) → (d : ℕ) → d ∈ domains a → d ∈ domains b
+needs-no-more a b f d m = ⊎-elim (λ t. t) (λ n. absurd (go n)) (mem-dec d (domains b))
   where
     go : (d ∈ domains b → ⊥) → ⊥
     go n =
         let read : Read (allBut d) = record { text = witness d; reads = witness-reads d (small a d m) } in
         let ok : Meets (allBut d) b = allows-meets (allBut d) b (λ e i. but-allowed d e (λ p. n (Memᴰ·cast (sym p) i))) in
         true≢false (sym (meets-allows (allBut d) a (f (allBut d) read ok) d m) ∙ but-denied d (small a d m))
+
+exactly : (a b : Build) → ((p : Policy) → Read p → Meets p b → Meets p a) ↔ ((d : ℕ) → d ∈ domains a → d ∈ domains b)
+exactly a b = (needs-no-more a b, λ h p r ok. allows-meets p a (λ d m. meets-allows p b ok d (h d m)))
+
+-- the same of texts: what a check passes under is read as a policy
+needed : (a b : Build) → ((text : List ℕ) → Clear (b .file) text → Clear (a .file) text) ↔ ((d : ℕ) → d ∈ domains a → d ∈ domains b)
+needed a b = (
+  (λ f. exactly a b .0 (λ p r ok. clear-meets a (r .text) p (r .reads) (f (r .text) (meets-clear b (r .text) p (r .reads) ok)))),
+  λ h text q.
+      let p = clear-reads b text q in
+      let r : Read (p .policy) = record { text = text; reads = p .reads } in
+      meets-clear a text (p .policy) (p .reads) (exactly a b .1 h (p .policy) r (clear-meets b text (p .policy) (p .reads) q)),
+)
 
 -- ---- exchange
 exchanged-lists : (b c : Build) → lists (view c) (view b) ≡ exchanged (lists (view b) (view c))
@@ -191,6 +224,30 @@ exchange b c room8 room9 =
     ∙ roomed-exchanged room8 room9 (lists (view b) (view c))
     ∙ ap (λ (x : Said Lists). follow x (λ l. accepted (exchanged l))) (sym (compared-is b c room8 room9))
 
+-- after a refusal there is nothing to exchange
+listed-exchanged : (x : Said Lists) → listed (follow x (λ l. accepted (exchanged l))) ≡ exchanged (listed x)
+unfolding follow
+listed-exchanged (accepted l) = refl
+listed-exchanged (refused n p) = refl
+
+exchange-cells : (b c : Build) (lent8 lent9 left8 left9 right8 right9 : List ℕ) (v w : Said Verdict)
+    → Compares (lentCompared b c lent8 lent9) lent8 left8 lent9 left9 v
+    → Compares (lentCompared c b lent8 lent9) lent8 right8 lent9 right9 w
+    → CellsExchanged 8 (length (listed (lentCompared b c lent8 lent9) .exports)) left8 right8
+    × CellsExchanged 9 (length (listed (lentCompared b c lent8 lent9) .needs)) left9 right9
+exchange-cells b c lent8 lent9 left8 left9 right8 right9 v w p q =
+    let here = listed (lentCompared b c lent8 lent9) in
+    let e : listed (lentCompared c b lent8 lent9) ≡ exchanged here =
+    ap listed (exchange b c (capacityIn 8 (length lent8)) (capacityIn 9 (length lent9)))
+    ∙ listed-exchanged (lentCompared b c lent8 lent9) in (
+      subst₂ (CellsExchanged 8 (length (here .exports))) (sym (p .table8-is))
+          (sym (q .table8-is ∙ ap (λ (l : Lists). laid (length lent8) (cells exportDiffCells (l .exports))) e))
+          (export-cells (length lent8) (here .exports)),
+      subst₂ (CellsExchanged 9 (length (here .needs))) (sym (p .table9-is))
+          (sym (q .table9-is ∙ ap (λ (l : Lists). laid (length lent9) (cells needDiffCells (l .needs))) e))
+          (need-cells (length lent9) (here .needs)),
+    )
+
 pub replacement : Replacement
 replacement =
     record {
@@ -204,8 +261,10 @@ replacement =
           let p = clear-reads b text q in
           meets-clear (last b cs) text (p .policy) (p .reads)
           (fewer b (last b cs) (covers b cs h) (p .policy) (clear-meets b text (p .policy) (p .reads) q));
+      exactly = exactly;
       needed = needed;
       exchange = exchange;
+      exchangeCells = exchange-cells;
     }
 
 pub listing : Listing
@@ -247,7 +306,7 @@ unfolding compliant
 failSafe =
     record {
       evaluation = evaluation;
-      comparisons = λ b c n place e h. never (sym e ∙ h .answers);
+      comparisons = λ b c room8 room9 n place e lent8 left8 lent9 left9 a h. h .answer-is ∙ sym (follow-stops _ e);
     }
   where
     evaluation : (n place : ℕ) (r : Evaluation) → EvaluatedAs (refused n place) r → compliant r ≡ true → ⊥

@@ -18,7 +18,7 @@ use Rattle.checking.specs.Checking.{checkedOf}
 use Rattle.differences.specs.View.{View, Need, ExportKey}
 use Rattle.differences.specs.Compared.{Given, given, viewed, Lists, lists, compared, Verdict, verdictOn}
 use Rattle.reasons.specs.Reasons.{reasonsOf}
-use Rattle.listed.specs.Comparisons.{Comparison, tabled}
+use Rattle.listed.specs.Comparisons.{Comparison, tabled, comparison}
 use Rattle.standin.specs.Passing.{Passes}
 use Rattle.standin.specs.Replacing.{keys, reversed}
 
@@ -99,3 +99,27 @@ pub record Clear (file text : List ℕ) : Type 0 where
   pub outcome : Outcome
   pub answers : checkedOf file text ≡ accepted outcome
   pub none : outcome .count ≡ 0
+
+-- ---- files
+-- what the one call says of two files, `comparison`, which `viscrombal_compare` promises: it is accepted, and says compatible
+pub record Replaces (f g : List ℕ) : Type 0 where
+  pub all : Comparison
+  pub answers : comparison f g ≡ accepted all
+  pub says : verdictOn (all .lists) .compatible ≡ true
+
+-- a series of files, its first and the others in order, each of which replaces the one before it; its last
+abbrev pub FileChain : List ℕ → List (List ℕ) → Type 0
+FileChain f [] = Unit {0}
+FileChain f (g ∷ gs) = Bytes g × Replaces f g × FileChain g gs
+
+abbrev pub lastFile : List ℕ → List (List ℕ) → List ℕ
+lastFile f [] = f
+lastFile f (g ∷ gs) = lastFile g gs
+
+-- builds of these two files, of which the second stands in for the first
+pub record Stood (f g : List ℕ) : Type 0 where
+  pub baseline : Build
+  pub candidate : Build
+  pub baseline-is : baseline .file ≡ f
+  pub candidate-is : candidate .file ≡ g
+  pub stands : StandsIn baseline candidate

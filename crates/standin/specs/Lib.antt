@@ -3,4 +3,5 @@ pub mod Passing
 pub mod Replacing
 pub mod Builds
 pub mod Claims
+pub mod Examples
 pub mod Strict

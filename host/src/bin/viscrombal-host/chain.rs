@@ -1,8 +1,9 @@
 //! `chain`: whether each build can stand in for the one before it, and what then holds of the last.
 //!
-//! The theorem is `Replacement` in crates/standin/specs/Claims.antt: along a chain of such steps, of any length, the last build can
-//! stand in for the first (`series`), meets every policy that the first meets (`policies`), and passes the whole check under every
-//! text under which the first does (`checks`). The last is compared and checked all the same, so that a reader sees both.
+//! The theorem is `OfFiles` in crates/standin/specs/Claims.antt, which speaks of files and of what `viscrombal_compare` and
+//! `viscrombal_check` answer: along a chain of such steps, of any length, the last build can stand in for the first (`series`), meets
+//! every policy that the first meets (`policies`), and passes the whole check under every text under which the first does (`checks`).
+//! The last is compared and checked all the same, so that a reader sees both.
 
 use std::io::Write;
 use std::path::{Path, PathBuf};
