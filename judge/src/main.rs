@@ -10,10 +10,11 @@ mod port;
 mod random;
 mod says;
 mod shrink;
+mod strict;
 mod strip;
 mod vectors;
 
-use case::{Case, CALLS};
+use case::{Call, Case, CALLS};
 use port::Port;
 use std::io::{Read, Write};
 use std::process::{Command, Stdio};
@@ -121,8 +122,7 @@ fn fixed_list(comparisons: bool) -> bool {
 fn heard_apart(court: &mut Court) -> (u64, u64) {
     let (mut files, mut ended) = (0, 0);
     for file in make::reserving() {
-        let case = Case::new(case::Call::Module, &[1280, 5120, 4096, 12288], &[&file]);
-        let expected = says::original_says(&case);
+        let expected = says::original_says(&Case::new(Call::Module, &limits::FULL, &[&file]));
         let exe = std::env::current_exe().expect("this program");
         let mut child =
             Command::new(exe).arg("apart").stdin(Stdio::piped()).stdout(Stdio::piped()).stderr(Stdio::null()).spawn().expect("a process");
@@ -132,10 +132,9 @@ fn heard_apart(court: &mut Court) -> (u64, u64) {
         if !out.status.success() {
             ended += 1;
         } else if !expected.starts_with(String::from_utf8_lossy(&out.stdout).trim_end()) {
-            println!("disagreement: the original with its own count says {}", String::from_utf8_lossy(&out.stdout));
-            court.disagreements += 1;
+            court.differ(&format!("the original with its own count says {}", String::from_utf8_lossy(&out.stdout)));
         }
-        court.hear(case);
+        make::hear(court, &file, limits::FULL);
     }
     (files, ended)
 }
@@ -146,7 +145,7 @@ fn published(folder: &str) -> bool {
     let mut court = Court::new(false);
     let mut said = Vec::new();
     for v in &all {
-        let case = Case::new(case::Call::Module, &[1280, 5120, 4096, 12288], &[&v.bytes]);
+        let case = Case::new(Call::Module, &limits::FULL, &[&v.bytes]);
         said.push(says::original_says(&case));
         court.hear(case);
     }
@@ -246,6 +245,12 @@ impl Court {
         let text = small.text();
         println!("disagreement:");
         println!("  original: {original}\n  port:     {said}\n  repeat:   ./viscrombal judge --one {text}");
+    }
+
+    /// What the judge itself relies on is not so.
+    pub fn differ(&mut self, words: &str) {
+        println!("disagreement: {words}");
+        self.disagreements += 1;
     }
 
     pub fn over(&self) -> bool {
