@@ -139,35 +139,15 @@ fn heard_apart(court: &mut Court) -> (u64, u64) {
     (files, ended)
 }
 
-/// The modules below a folder, by both: how many there are, how they are answered, and what the suite calls malformed that both accept.
+/// The modules below a folder, by both, plainly and strictly.
 fn published(folder: &str) -> bool {
     let all = vectors::below(std::path::Path::new(folder));
     let mut court = Court::new(false);
-    let mut said = Vec::new();
     for v in &all {
-        let case = Case::new(Call::Module, &limits::FULL, &[&v.bytes]);
-        said.push(says::original_says(&case));
-        court.hear(case);
+        make::hear(&mut court, &v.bytes, limits::FULL);
     }
     court.decide();
-    println!("{} modules", all.len());
-    for (answer, n) in vectors::tally(said.iter().map(|s| &s[..])) {
-        println!("  {answer}: {n}");
-    }
-    let called: Vec<_> = all.iter().zip(&said).filter(|(v, _)| v.malformed.is_some()).collect();
-    println!("{} called malformed by the suite", called.len());
-    for (answer, n) in vectors::tally(called.iter().map(|(_, s)| &s[..])) {
-        println!("  {answer}: {n}");
-    }
-    let mut reasons = std::collections::BTreeMap::new();
-    for (v, s) in called {
-        if !s.starts_with("refused") {
-            *reasons.entry(v.malformed.clone().unwrap()).or_insert(0u64) += 1;
-        }
-    }
-    for (reason, n) in reasons {
-        println!("    accepted though malformed, {reason}: {n}");
-    }
+    vectors::report(&all.iter().map(vectors::told).collect::<Vec<_>>());
     println!("{} disagreements", court.disagreements);
     court.disagreements == 0
 }

@@ -338,10 +338,13 @@ fn full_tables(court: &mut Court) {
                 equal[j].0 = equal[i].0.clone();
                 hear(court, &exported(&equal), FULL);
             }
+            // the empty name is what a row past the last one would say
             for at in [0, n / 2, n - 1] {
-                let mut bad = list.clone();
+                let (mut bad, mut empty) = (list.clone(), list.clone());
                 bad[at].1 = 4;
+                empty[at].0.clear();
                 hear(court, &exported(&bad), more);
+                hear(court, &exported(&empty), more);
             }
         }
         hear(court, &exported(&vec![(b"a".to_vec(), 0); n]), FULL);
