@@ -13,6 +13,12 @@
 extern "C" {
 #endif
 
+/* Accepted, or refused, and nothing else. */
+struct viscrombal_answer {
+    uint32_t number;
+    size_t place;
+};
+
 /* An unsigned number that was read, and the offset after it. */
 struct viscrombal_unsigned {
     uint32_t number;
@@ -141,6 +147,10 @@ struct viscrombal_comparison {
     size_t bytes;
 };
 
+/* The number of this interface: a change of a struct, of a number or of a place raises it. */
+#define VISCROMBAL_INTERFACE 1
+uint32_t viscrombal_interface(void);
+
 /* Reads at offset `at` of the bytes s[0] to s[len - 1]. */
 struct viscrombal_unsigned viscrombal_uleb128(const uint8_t *s, size_t len, size_t at);
 struct viscrombal_unsigned viscrombal_uleb128_u32(const uint8_t *s, size_t len, size_t at);
@@ -160,6 +170,10 @@ struct viscrombal_written viscrombal_rewrite(const uint8_t *text, size_t len, ui
 
 /* The whole check: a module's file held against a policy's text. `compliant` is false after a refusal. */
 struct viscrombal_evaluation viscrombal_check(const uint8_t *file, size_t len, const uint8_t *text, size_t text_len);
+
+/* Whether a module's file is clean in what is read: the refusal of the plain reader, or 20 at the lowest of the eight rules of strict reading
+ * that it breaks. Accepted, its rows are those of viscrombal_module. It is no validation: sections that are not read may hold anything. */
+struct viscrombal_answer viscrombal_strict(const uint8_t *file, size_t len);
 
 /* Lists go to `out`, which must not overlap what is read: cells of eight bytes each, the lowest byte first, one row after another and one
  * list after another, `bytes` in all. Refused, `out` is untouched (16: its place is the bytes needed); accepted, nothing past the lists.

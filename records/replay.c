@@ -102,9 +102,16 @@ static void utf8(void) {
 /* Modules. */
 static void counted(struct judged_count_told r) { ANSWER(r, r.count); }
 
-static void module(void) {
-    struct judged_module_told r = judged_module(A, LENT(1), LENT(2), LENT(3), LENT(4));
+static void module_read(struct judged_module_told r) {
     ANSWER(r, r.version, r.length, r.named, r.start, r.size, r.sections, r.imports, r.exports, r.symbols);
+}
+
+static void module(void) { module_read(judged_module(A, LENT(1), LENT(2), LENT(3), LENT(4))); }
+static void strict(void) { module_read(judged_strict(A, LENT(1), LENT(2), LENT(3), LENT(4))); }
+
+static void c_strict(void) {
+    struct viscrombal_answer r = viscrombal_strict(A);
+    ANSWER(r, 0);
 }
 
 static void functions(void) { counted(judged_functions(GIVEN(2), given.count[2])); }
@@ -255,7 +262,7 @@ static const struct call {
 } calls[] = {
     {"uleb128", uleb128}, {"uleb128_u32", uleb128_u32}, {"sleb128", sleb128}, {"u32_le", u32_le}, {"take", take},
     {"counted_name", counted_name}, {"utf8", utf8},
-    {"module", module}, {"functions", functions}, {"memories", memories}, {"namespaces", namespaces}, {"requirements", requirements},
+    {"module", module}, {"strict", strict}, {"c_strict", c_strict}, {"functions", functions}, {"memories", memories}, {"namespaces", namespaces}, {"requirements", requirements},
     {"kind", kind}, {"section", section},
     {"slug", slug}, {"domain", domain}, {"import", import}, {"path", path},
     {"policy", policy}, {"default", policy}, {"effective", effective}, {"token", token}, {"write", write_policy},

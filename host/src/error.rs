@@ -8,7 +8,7 @@ pub type Result<T> = std::result::Result<T, Refusal>;
 /// The original's name of a [`Refusal`].
 pub type Error = Refusal;
 
-/// The sixteen refusals, by their numbers.
+/// The refusals, by their numbers.
 #[derive(Debug, Clone, Copy, PartialEq, Eq, PartialOrd, Ord, Hash)]
 #[allow(missing_docs)]
 pub enum ErrorKind {
@@ -28,13 +28,14 @@ pub enum ErrorKind {
     TooLong,
     BadTable,
     NoRoom,
+    NotStrict = 20,
 }
 
 use ErrorKind::*;
 
 impl ErrorKind {
-    /// Every kind, in the order of the numbers 1 to 16.
-    pub const ALL: [ErrorKind; 16] = [
+    /// Every kind, in the order of the numbers, 1 to 16 and 20.
+    pub const ALL: [ErrorKind; 17] = [
         UnexpectedEof,
         BadMagic,
         BadLeb128,
@@ -51,9 +52,10 @@ impl ErrorKind {
         TooLong,
         BadTable,
         NoRoom,
+        NotStrict,
     ];
 
-    /// 1 to 16.
+    /// 1 to 16, or 20.
     pub fn number(self) -> u32 {
         self as u32
     }
@@ -77,6 +79,7 @@ impl ErrorKind {
             TooLong => "longer than is read",
             BadTable => "a table that does not hold",
             NoRoom => "no room for the answer",
+            NotStrict => "not strict",
         }
     }
 
@@ -99,7 +102,66 @@ impl ErrorKind {
             TooLong => "too-long",
             BadTable => "bad-table",
             NoRoom => "no-room",
+            NotStrict => "not-strict",
         }
+    }
+}
+
+/// The eight rules of strict reading, by their numbers (docs/RULES.md, "Strict reading").
+#[derive(Debug, Clone, Copy, PartialEq, Eq, PartialOrd, Ord, Hash)]
+#[non_exhaustive]
+#[allow(missing_docs)]
+pub enum StrictRule {
+    Version = 1,
+    Numbers = 2,
+    Ids = 3,
+    Order = 4,
+    Used = 5,
+    Names = 6,
+    Kinds = 7,
+    Flags = 8,
+}
+
+impl StrictRule {
+    /// All eight, in the order of their numbers.
+    pub const ALL: [StrictRule; 8] = [
+        StrictRule::Version,
+        StrictRule::Numbers,
+        StrictRule::Ids,
+        StrictRule::Order,
+        StrictRule::Used,
+        StrictRule::Names,
+        StrictRule::Kinds,
+        StrictRule::Flags,
+    ];
+
+    /// 1 to 8.
+    pub fn number(self) -> usize {
+        self as usize
+    }
+
+    /// What breaks it, in words.
+    pub fn words(self) -> &'static str {
+        match self {
+            StrictRule::Version => "a version other than 1",
+            StrictRule::Numbers => "a number in more than five bytes",
+            StrictRule::Ids => "a section id above 12",
+            StrictRule::Order => "a section twice, or out of order",
+            StrictRule::Used => "unused bytes in an import or export section",
+            StrictRule::Names => "two exports of one name",
+            StrictRule::Kinds => "an export of unknown kind",
+            StrictRule::Flags => "a limits flag or a mutability other than 0 and 1",
+        }
+    }
+
+    fn numbered(number: usize) -> Option<StrictRule> {
+        StrictRule::ALL.into_iter().find(|rule| rule.number() == number)
+    }
+}
+
+impl fmt::Display for StrictRule {
+    fn fmt(&self, f: &mut fmt::Formatter<'_>) -> fmt::Result {
+        write!(f, "rule {}: {}", self.number(), self.words())
     }
 }
 
@@ -117,25 +179,34 @@ impl Refusal {
     /// A number and a place from the archive.
     pub(crate) fn told(number: u32, place: usize) -> Refusal {
         match ErrorKind::ALL.into_iter().find(|kind| kind.number() == number) {
+            Some(NotStrict) if StrictRule::numbered(place).is_none() => Refusal::STRANGE,
             Some(kind) => Refusal { kind, place },
             None => Refusal::STRANGE,
         }
     }
 
-    /// Which of the sixteen.
+    /// Which of them.
     pub fn kind(&self) -> ErrorKind {
         self.kind
     }
 
-    /// Its number, 1 to 16.
+    /// Its number, 1 to 16, or 20.
     pub fn number(&self) -> u32 {
         self.kind.number()
     }
 
     /// Its place, as docs/RULES.md has it for each number: an offset of what was being read (the file, a section's payload, a
-    /// subsection), a line, a table's number, a kind's byte, or bytes needed.
+    /// subsection), a line, a table's number, a kind's byte, bytes needed, or a rule of strict reading.
     pub fn place(&self) -> usize {
         self.place
+    }
+
+    /// The rule of strict reading that is broken, the lowest one: of 20 alone.
+    pub fn rule(&self) -> Option<StrictRule> {
+        match self.kind {
+            NotStrict => StrictRule::numbered(self.place),
+            _ => None,
+        }
     }
 }
 
@@ -150,6 +221,7 @@ impl fmt::Display for Refusal {
             Full => write!(f, " (table of {})", table(place)),
             TooLong | BadTable => Ok(()),
             NoRoom => write!(f, " ({place} bytes needed)"),
+            NotStrict => self.rule().map_or(Ok(()), |rule| write!(f, " ({rule})")),
         }
     }
 }

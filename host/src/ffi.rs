@@ -13,12 +13,25 @@ struct Told<T> {
     answer: T,
 }
 
-impl<T> Told<T> {
-    fn accepted(self) -> Result<T> {
+/// An answer that says nothing else.
+#[repr(C)]
+struct Answer {
+    number: u32,
+    place: usize,
+}
+
+impl Answer {
+    fn accepted(self) -> Result<()> {
         match self.number {
-            0 => Ok(self.answer),
+            0 => Ok(()),
             number => Err(Refusal::told(number, self.place)),
         }
+    }
+}
+
+impl<T> Told<T> {
+    fn accepted(self) -> Result<T> {
+        Answer { number: self.number, place: self.place }.accepted().map(|()| self.answer)
     }
 }
 
@@ -104,6 +117,7 @@ extern "C" {
     fn viscrombal_tokens(text: *const u8, len: usize, domain: usize, out: *mut u8, room: usize) -> Told<Tokens>;
     fn viscrombal_rewrite(text: *const u8, len: usize, out: *mut u8, room: usize) -> Told<Written>;
     fn viscrombal_check(file: *const u8, len: usize, text: *const u8, text_len: usize) -> Told<Evaluation>;
+    fn viscrombal_strict(file: *const u8, len: usize) -> Answer;
     fn viscrombal_module(file: *const u8, len: usize, out: *mut u8, room: usize) -> Told<Module>;
     fn viscrombal_manifest(text: *const u8, len: usize, out: *mut u8, room: usize) -> Told<Manifest>;
     fn viscrombal_compare(
@@ -132,6 +146,10 @@ pub fn rewrite(text: &[u8], out: &mut [u8]) -> Result<Written> {
 
 pub fn check(file: &[u8], text: &[u8]) -> Result<Evaluation> {
     unsafe { viscrombal_check(file.as_ptr(), file.len(), text.as_ptr(), text.len()) }.accepted()
+}
+
+pub fn strict(file: &[u8]) -> Result<()> {
+    unsafe { viscrombal_strict(file.as_ptr(), file.len()) }.accepted()
 }
 
 pub fn module(file: &[u8], out: &mut [u8]) -> Result<Module> {

@@ -1,8 +1,8 @@
 //! The safe side of Viscrombal's C interface: every answer here was computed by proved code, in the archive of crate capi.
 //!
-//! A [`Verdict`] comes from [`check`] and from nothing else, a [`wasm::Module`] from [`wasm::parse`], a [`policy::Policy`] from
-//! [`policy::Policy::parse`], a [`compat::Compatibility`] from [`compat::compare_modules`]: what was refused has none, but an
-//! [`Err`] with a [`Refusal`]. Names are parts of the bytes that the caller handed in, nothing is copied.
+//! A [`Verdict`] comes from [`check`] and from nothing else, a [`wasm::Module`] from [`wasm::parse`] or [`wasm::parse_strict`], a
+//! [`policy::Policy`] from [`policy::Policy::parse`], a [`compat::Compatibility`] from [`compat::compare_modules`]: what was refused has
+//! none, but an [`Err`] with a [`Refusal`]. Names are parts of the bytes that the caller handed in, nothing is copied.
 //!
 //! ```
 //! use viscrombal::{check, compat, policy::{Domain, Policy}, wasm};
@@ -57,7 +57,7 @@ mod rows;
 pub mod wasm;
 pub mod wit;
 
-pub use error::{Error, ErrorKind, Refusal, Result};
+pub use error::{Error, ErrorKind, Refusal, Result, StrictRule};
 pub use policy::{check, Verdict};
 
 /// The longest file of a module that is read, in bytes: a longer one is refused, 14.

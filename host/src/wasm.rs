@@ -142,6 +142,22 @@ pub fn parse(file: &[u8]) -> Result<Module<'_>> {
     Ok(Module { file, version: told.version, sections, imports, exports, module_name, function_names })
 }
 
+/// Whether a module's file is read strictly: it is accepted, or refused as [`parse`] refuses it, or it breaks one of the eight
+/// [rules](crate::StrictRule) of strict reading: 20, and [`Refusal::rule`](crate::Refusal::rule) is the lowest that is broken.
+///
+/// A file that is read strictly is clean in what is read: header, sections, imports, exports and names. It is not validated: type bytes,
+/// the inside of name sections, and what other sections hold, may still be wrong.
+pub fn test_strict(file: &[u8]) -> Result<()> {
+    ffi::strict(file)
+}
+
+/// Reads a module's file where it is read strictly, as [`test_strict`] says: clean in what is read, and not validated. What is read is what
+/// [`parse`] reads.
+pub fn parse_strict(file: &[u8]) -> Result<Module<'_>> {
+    test_strict(file)?;
+    parse(file)
+}
+
 impl<'a> Module<'a> {
     /// The file.
     pub fn file(&self) -> &'a [u8] {

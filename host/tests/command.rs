@@ -9,7 +9,7 @@ use std::os::unix::ffi::OsStrExt;
 use std::path::{Path, PathBuf};
 use std::process::{Command, Stdio};
 
-use common::{bomb, damaged, folder, long, module, samples};
+use common::{bomb, bytes, damaged, folder, long, module, samples};
 use viscrombal::LONGEST_MODULE;
 
 /// What a run left.
@@ -153,7 +153,7 @@ fn a_table_of_all_samples() {
     let ran = check(&files, &of_sample("portal.policy"), &[]);
     assert_eq!((ran.status, ran.err.as_str()), (1, ""), "no progress where there is no terminal");
     assert!(ran.out.starts_with("policy portal (") && is_plain(&ran.out));
-    assert!(ran.out.ends_with("\n7 files: 4 compliant, 3 not compliant, 0 refused, 0 not readable\n"), "{}", ran.out);
+    assert!(ran.out.ends_with("\n9 files: 5 compliant, 4 not compliant, 0 refused, 0 not readable\n"), "{}", ran.out);
     assert!(ran.out.contains("feed.wasm: network is not allowed: imports sock_open from wasi_snapshot_preview1\n"));
 }
 
@@ -162,13 +162,82 @@ fn an_object_for_each_sample() {
     let files: Vec<_> = samples(".wasm").iter().map(|(name, _)| of_sample(name)).collect();
     let ran = check(&files, &of_sample("portal.policy"), &["--json"]);
     let lines = objects(&ran.out);
-    assert_eq!((ran.status, lines.len()), (1, 7));
+    assert_eq!((ran.status, lines.len()), (1, 9));
     for (line, file) in lines.iter().zip(&files) {
         assert!(line.starts_with(&format!("{{\"file\":\"{}\",", file.to_str().unwrap())), "in the order of the words");
     }
     assert!(lines[3].contains(r#""answer":"not compliant","bytes":568,"compliant":false,"violations":["network"],"#));
     assert!(lines[3].contains(r#"{"domain":"network","required":true,"allowed":false,"many":3}"#));
-    assert!(lines[3].ends_with(r#""needs":[{"domain":"network","source":"wasi_snapshot_preview1","detail":"sock_open"}]}"#));
+    let needs = r#""needs":[{"domain":"network","source":"wasi_snapshot_preview1","detail":"sock_open"}],"strict":false}"#;
+    assert!(lines[3].ends_with(needs), "{}", lines[3]);
+}
+
+#[test]
+fn a_strict_check() {
+    let files: Vec<_> = samples(".wasm").iter().map(|(name, _)| of_sample(name)).collect();
+    let ran = check(&files, &of_sample("portal.policy"), &["--strict"]);
+    assert_eq!((ran.status, ran.err.as_str()), (2, ""));
+    assert!(ran.out.ends_with("\n9 files, read strictly: 4 compliant, 4 not compliant, 1 refused, 0 not readable\n"), "{}", ran.out);
+    let told = ran.out.lines().find(|line| line.contains("/gauge-1.wasm ")).unwrap();
+    assert!(told.ends_with("  refused 20 at 4: not strict (rule 4: a section twice, or out of order)"), "{told}");
+    let ran = check(&files, &of_sample("portal.policy"), &["--strict", "--json"]);
+    for (line, file) in objects(&ran.out).iter().zip(&files) {
+        let clean = !file.to_str().unwrap().ends_with("/gauge-1.wasm");
+        let refusal = r#""answer":"refused","number":20,"place":4,"rule":4,"refusal":"not-strict","words":"refused 20 at 4: "#;
+        assert_eq!((line.ends_with(r#","strict":true}"#), line.contains(refusal)), (clean, !clean), "{line}");
+    }
+    let status = |name: &str, options: &[&str]| check(&[of_sample(name)], &of_sample("portal.policy"), options).status;
+    assert_eq!(["gauge-1.wasm", "gauge-2.wasm", "tide.wasm"].map(|name| status(name, &["--strict"])), [2, 1, 0]);
+    assert_eq!(["gauge-1.wasm", "gauge-2.wasm", "tide.wasm"].map(|name| status(name, &[])), [0, 1, 0]);
+}
+
+/// Each of the eight rules, and a plain refusal, in words and as an object.
+#[test]
+fn every_rule_is_told() {
+    let place = place("rules");
+    let cases = [
+        ("00 61 73 6d 02 00 00 00", "rule 1: a version other than 1"),
+        ("H 01 80 80 80 80 80 00", "rule 2: a number in more than five bytes"),
+        ("H 0d 00", "rule 3: a section id above 12"),
+        ("H 03 00 01 00", "rule 4: a section twice, or out of order"),
+        ("H 02 02 00 00", "rule 5: unused bytes in an import or export section"),
+        ("H 07 07 02 00 00 00 00 00 00", "rule 6: two exports of one name"),
+        ("H 07 05 01 01 65 04 00", "rule 7: an export of unknown kind"),
+        ("H 02 08 01 01 6d 01 66 03 7f 02", "rule 8: a limits flag or a mutability other than 0 and 1"),
+    ];
+    for (rule, (input, words)) in (1..).zip(cases) {
+        let file = write(&place, format!("{rule}.wasm"), &bytes(input));
+        let ran = check(&[file.clone()], &of_sample("open.policy"), &["--strict"]);
+        assert!(ran.status == 2 && ran.out.contains(&format!(" refused 20 at {rule}: not strict ({words})\n")), "{}", ran.out);
+        let ran = check(&[file.clone()], &of_sample("open.policy"), &["--strict", "--json"]);
+        assert!(ran.status == 2 && ran.out.contains(&format!(r#""number":20,"place":{rule},"rule":{rule},"#)), "{}", ran.out);
+        assert_eq!(check(&[file], &of_sample("open.policy"), &[]).status, 0, "the plain reader takes it");
+    }
+    let cut = write(&place, "cut.wasm", &bytes("H 0d"));
+    let ran = check(&[cut], &of_sample("open.policy"), &["--strict", "--json"]);
+    assert!(ran.out.contains(r#""number":1,"place":9,"refusal":"#) && !ran.out.contains("\"rule\":"), "{}", ran.out);
+}
+
+#[test]
+fn strict_comparisons_and_chains() {
+    let (one, three, apart) = (of_sample("contours-1.wasm"), of_sample("contours-3.wasm"), of_sample("gauge-1.wasm"));
+    let portal = of_sample("portal.policy");
+    let words = "refused 20 at 4: not strict (rule 4: a section twice, or out of order)";
+    let ran = compare(&one, &three, &["--strict"]);
+    assert_eq!((ran.status, ran.out.matches("  read strictly\n").count()), (0, 2), "{}", ran.out);
+    assert!(compare(&one, &three, &["--strict", "--json"]).out.ends_with(",\"strict\":true}\n"));
+    assert!(compare(&one, &three, &["--json"]).out.ends_with(",\"strict\":false}\n"));
+    let ran = compare(&apart, &one, &["--strict"]);
+    assert_eq!((ran.status, ran.out), (2, format!("baseline {}: {words}\n", apart.to_str().unwrap())));
+    let ran = compare(&one, &apart, &["--strict"]);
+    assert_eq!((ran.status, ran.out), (2, format!("candidate {}: {words}\n", apart.to_str().unwrap())));
+    let ran = chain(&[one.clone(), three.clone()], &portal, &["--strict"]);
+    assert!(ran.status == 0 && ran.out.contains("\n  asked    strict    every build is read strictly\n"), "{}", ran.out);
+    assert!(chain(&[one.clone(), three.clone()], &portal, &["--strict", "--json"]).out.ends_with(",\"strict\":true}\n"));
+    for builds in [[apart.clone(), one.clone(), three.clone()], [one.clone(), apart.clone(), three.clone()], [one, three, apart.clone()]] {
+        let ran = chain(&builds, &portal, &["--strict"]);
+        assert!(ran.status == 2 && ran.out.ends_with(&format!("build {}: {words}\n", apart.to_str().unwrap())), "{}", ran.out);
+    }
 }
 
 /// Every sample, and copies of each that are cut or changed: an answer with a number, or a verdict.
@@ -321,7 +390,8 @@ fn what_a_chain_gives() {
     let lines = objects(&told.out);
     assert!(lines[0].starts_with(r#"{"step":1,"#) && lines[0].contains(r#""compatible":true"#));
     let end = r#""answer":"unbroken","unbroken":true,"theorem":["series","policies","checks"],"last_stands_in":true,"#;
-    assert!(lines[1].contains(end) && lines[1].ends_with(r#""first_compliant":true,"last_compliant":true}"#), "{}", lines[1]);
+    let last = r#""first_compliant":true,"last_compliant":true,"strict":false}"#;
+    assert!(lines[1].contains(end) && lines[1].ends_with(last), "{}", lines[1]);
     let refused = chain(&[builds(&[1]), vec![of_sample("README.md")]].concat(), &portal, &[]);
     assert!(refused.status == 2 && refused.out.ends_with("README.md: refused 2 at 0: not a WebAssembly module (offset 0)\n"));
 }

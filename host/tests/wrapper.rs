@@ -5,11 +5,11 @@ mod common;
 use std::collections::HashSet;
 use std::thread;
 
-use common::{bomb, damaged, every, full, long, module, sample, samples, section, HEADER};
+use common::{bomb, bytes, damaged, every, full, long, module, sample, samples, section, HEADER};
 use viscrombal::compat::{compare_modules, Change};
 use viscrombal::policy::{capabilities, Domain, Policy};
 use viscrombal::wasm::{self, ExternalKind, Module};
-use viscrombal::{check, wit, ErrorKind, Refusal, LONGEST_MODULE, LONGEST_TEXT};
+use viscrombal::{check, wit, ErrorKind, Refusal, StrictRule, LONGEST_MODULE, LONGEST_TEXT};
 
 const NONE: [(&str, &str); 0] = [];
 
@@ -106,11 +106,13 @@ fn verdicts_on_the_samples() {
     let policy = Policy::parse(&text).unwrap();
     let violations: Vec<_> =
         samples(".wasm").iter().map(|(name, file)| (name.clone(), check(file, &policy).unwrap().violations())).collect();
-    let want: [(&str, &[Domain]); 7] = [
+    let want: [(&str, &[Domain]); 9] = [
         ("contours-1.wasm", &[]),
         ("contours-2.wasm", &[Domain::Network]),
         ("contours-3.wasm", &[]),
         ("feed.wasm", &[Domain::Network]),
+        ("gauge-1.wasm", &[]),
+        ("gauge-2.wasm", &[Domain::Network]),
         ("legend.wasm", &[Domain::Unknown]),
         ("soundings.wasm", &[]),
         ("tide.wasm", &[]),
@@ -143,19 +145,20 @@ fn verdicts_agree_with_themselves() {
 fn damaged_copies_are_read_or_refused() {
     let text = sample("guarded.policy");
     let policy = Policy::parse(&text).unwrap();
-    let (mut read, mut numbers) = (0, HashSet::new());
+    let (mut read, mut numbers, mut rules) = (0, HashSet::new(), HashSet::new());
     for (name, file) in &samples(".wasm") {
         let whole = wasm::parse(file).unwrap();
         for copy in damaged(file).step_by(every()) {
             match (wasm::parse(&copy), check(&copy, &policy)) {
                 (Err(one), Err(other)) => {
-                    assert_eq!(one, other, "{name}");
+                    assert_eq!((one, Err(one)), (other, wasm::test_strict(&copy)), "{name}");
                     assert!((1..=16).contains(&one.number()) && !one.to_string().is_empty());
                     numbers.insert(one.number());
                 }
                 (Ok(module), Ok(_)) => {
                     read += 1;
                     both_ways(&whole, &module);
+                    rules.extend(read_strictly(&module).map(StrictRule::number));
                 }
                 (one, other) => panic!("{name}: {one:?}, {other:?}"),
             }
@@ -163,6 +166,90 @@ fn damaged_copies_are_read_or_refused() {
     }
     let kinds = if every() == 1 { 5 } else { 4 };
     assert!(read > 1000 / every() && numbers.len() >= kinds, "{read} read, refused by {numbers:?}");
+    assert!(rules.len() >= kinds, "refused by the rules {rules:?}");
+}
+
+/// A strict read of a module that was read plainly: the rule that it breaks, or the very same module.
+fn read_strictly(module: &Module) -> Option<StrictRule> {
+    match wasm::parse_strict(module.file()) {
+        Ok(strict) => {
+            assert_eq!(format!("{strict:?}"), format!("{module:?}"));
+            None
+        }
+        Err(refusal) => {
+            assert_eq!((refusal.kind(), refusal.number()), (ErrorKind::NotStrict, 20));
+            let rule = refusal.rule().expect("a rule");
+            assert_eq!((rule.number(), refusal), (refusal.place(), wasm::test_strict(module.file()).unwrap_err()));
+            Some(rule)
+        }
+    }
+}
+
+#[test]
+fn samples_are_read_strictly_but_one() {
+    for (name, file) in &samples(".wasm") {
+        let want = (name == "gauge-1.wasm").then_some(StrictRule::Order);
+        assert_eq!(read_strictly(&wasm::parse(file).unwrap()), want, "{name}");
+    }
+}
+
+/// The worked cases of strict reading.
+#[test]
+fn strict_reading() {
+    let cases = [
+        ("H", Ok(())),
+        ("H 01 80 80 80 80 80 00", Err((20, 2))),
+        ("H 0d 00", Err((20, 3))),
+        ("H 03 00 01 00", Err((20, 4))),
+        ("H 0a 00 0c 00", Err((20, 4))),
+        ("H 02 02 00 00", Err((20, 5))),
+        ("H 07 05 01 01 65 04 00", Err((20, 7))),
+        ("H 02 08 01 01 6d 01 66 03 7f 02", Err((20, 8))),
+        ("H 02 09 01 01 6d 01 66 01 00 00 00", Ok(())),
+        ("00 61 73 6d 02 00 00 00 0d 00", Err((20, 1))),
+        ("H 02 02 00 00 02 01 00", Err((20, 4))),
+        ("H 00 0f N 01 08 01 80 80 80 80 00 01 66", Ok(())),
+        ("H 00 0e N 02 07 80 80 80 80 80 80 00", Ok(())),
+        ("H 00 0b N 00 04 01 6d 00 00", Ok(())),
+        ("H 00 06 N 00", Err((1, 6))),
+        ("H 02 0e 01 01 6d 01 66 02 01 00 80 80 80 80 80 00", Err((20, 2))),
+        ("H 00 02 01 78 01 01 00 00 02 01 78 02 01 00 00 02 01 78", Ok(())),
+        ("H 07 07 02 00 00 00 00 00 00", Err((20, 6))),
+        ("H 0d 00 0d 00", Err((20, 3))),
+        ("00 61 73 6d 0d 00 01 00", Err((20, 1))),
+        ("H 02 0c 01 81 80 80 80 80 00 6d 01 66 00 00", Err((20, 2))),
+        ("H 00 07 81 80 80 80 80 00 78", Err((20, 2))),
+        ("H 01 00 03 00 04 00 05 00 06 00 08 00 09 00 0c 00 0a 00 0b 00", Ok(())),
+    ];
+    for (words, want) in cases {
+        let file = bytes(words);
+        assert_eq!(wasm::test_strict(&file).map_err(told), want, "{words}");
+        assert_eq!(wasm::parse_strict(&file).map(drop).map_err(told), want, "{words}");
+    }
+    // plain refusals come first, 13 and 14 too
+    let old = [b"\0asm\x02\0\0\0".to_vec(), [13, 0].repeat(257)].concat();
+    assert_eq!([refused(wasm::parse_strict(&old)), refused(wasm::test_strict(&long(LONGEST_MODULE + 1)))], [(13, 1), (14, 0)]);
+    assert_eq!(wasm::test_strict(&long(LONGEST_MODULE)), Ok(()));
+}
+
+/// Every input of the page, as the page says.
+#[test]
+fn strict_reading_as_the_differences_say() {
+    let page = include_str!("../../docs/DIFFERENCES.md");
+    let (_, part) = page.split_once("\n## Strict reading against the specification\n").expect("the section");
+    let part = part.split("\n## ").next().unwrap();
+    let mut rows = 0;
+    for line in part.lines().filter(|line| line.contains("| H ")) {
+        let cells: Vec<_> = line.split('|').map(str::trim).collect();
+        let [_, _, input, _, says, ..] = cells[..] else { panic!("{line}") };
+        let told = match wasm::test_strict(&bytes(input)) {
+            Ok(()) => "accepted".into(),
+            Err(refusal) => format!("{} at {}", refusal.number(), refusal.place()),
+        };
+        assert_eq!(told, says, "{line}");
+        rows += 1;
+    }
+    assert!(rows >= 10, "{rows} rows");
 }
 
 /// Exchanging the two turns removed into added and changes nothing else; a comparison is compatible where it has no breaking reason.
@@ -356,6 +443,7 @@ fn threads_with_a_plain_stack() {
         let (old, new) = (wasm::parse(&one).unwrap(), wasm::parse(&other).unwrap());
         let counts = [old.sections().len(), old.imports().len(), old.exports().len(), old.function_names().len()];
         assert_eq!(counts, [256, 1024, 1024, 4096]);
+        assert_eq!(read_strictly(&old), None);
         let answer = compare_modules(&old, &new).unwrap();
         assert_eq!((answer.export_diffs().len(), answer.capability_diffs().len()), (2048, 2048));
         assert_eq!(check(&one, &policy).unwrap().verdicts()[6].many, 1024);
@@ -371,14 +459,20 @@ fn threads_with_a_plain_stack() {
 
 #[test]
 fn refusals_have_words() {
-    assert_eq!(ErrorKind::ALL.map(ErrorKind::number), std::array::from_fn(|i| i as u32 + 1));
+    assert_eq!(ErrorKind::ALL.map(ErrorKind::number)[..16], std::array::from_fn::<u32, 16, _>(|i| i as u32 + 1));
+    assert_eq!((ErrorKind::NotStrict.number(), ErrorKind::NotStrict.slug()), (20, "not-strict"));
     for tell in [ErrorKind::words, ErrorKind::slug] {
-        assert_eq!(ErrorKind::ALL.map(tell).into_iter().collect::<HashSet<_>>().len(), 16);
+        assert_eq!(ErrorKind::ALL.map(tell).into_iter().collect::<HashSet<_>>().len(), 17);
     }
+    assert_eq!(StrictRule::ALL.map(StrictRule::number), [1, 2, 3, 4, 5, 6, 7, 8]);
+    assert_eq!(StrictRule::ALL.map(StrictRule::words).into_iter().collect::<HashSet<_>>().len(), 8);
     let said = |file: &[u8]| wasm::parse(file).unwrap_err().to_string();
     assert_eq!(said(&bomb()), "refused 1 at 5: the bytes end too soon (offset 5)");
     assert_eq!(said(&[HEADER, b"\x02\x04\x01\0\0\x04"].concat()), "refused 5 at 4: an import of unknown kind (its byte is 0x04)");
     assert_eq!(said(&[HEADER, &[1, 0].repeat(257)].concat()), "refused 13 at 1: more entries than are taken (table of sections)");
+    let unordered = wasm::parse_strict(&bytes("H 03 00 01 00")).unwrap_err();
+    assert_eq!(unordered.to_string(), "refused 20 at 4: not strict (rule 4: a section twice, or out of order)");
+    assert_eq!(wasm::parse_strict(b"").unwrap_err().rule(), None);
     assert_eq!(Policy::parse("x").unwrap_err().to_string(), "refused 6 at 1: a line that is no directive (line 1)");
     let refusal: Box<dyn std::error::Error> = Box::new(Policy::parse("x").unwrap_err());
     assert!(refusal.downcast_ref::<Refusal>().is_some_and(|refusal| refusal.kind() == ErrorKind::Directive));

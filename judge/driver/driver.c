@@ -70,16 +70,26 @@ static void name(void) {
 }
 
 /* numbers: the cells of tables 1 to 4 */
-static void module(void) {
+typedef struct judged_module_told read_call(const uint8_t *, size_t, size_t *, size_t, size_t *, size_t, size_t *, size_t, size_t *, size_t);
+
+static void read_by(read_call *call) {
     size_t *a = lend(number[0]), *b = lend(number[1]), *c = lend(number[2]), *d = lend(number[3]);
-    struct judged_module_told r =
-        judged_module(string[0], length[0], a, number[0], b, number[1], c, number[2], d, number[3]);
+    struct judged_module_told r = call(string[0], length[0], a, number[0], b, number[1], c, number[2], d, number[3]);
     tell(r.number), tell(r.place), tell(r.version), tell(r.length), tell(r.named), tell(r.start), tell(r.size);
     tell(r.sections), tell(r.imports), tell(r.exports), tell(r.symbols);
     tell_table(a, number[0], r.sections * 5);
     tell_table(b, number[1], r.imports * 5);
     tell_table(c, number[2], r.exports * 4);
     tell_table(d, number[3], r.symbols * 3);
+}
+
+static void module(void) { read_by(judged_module); }
+
+static void strict(void) { read_by(judged_strict); }
+
+static void c_strict(void) {
+    struct viscrombal_answer r = viscrombal_strict(string[0], length[0]);
+    tell(r.number), tell(r.place);
 }
 
 /* numbers: the stated count, then the cells of table 2 */
@@ -417,7 +427,7 @@ static void (*const calls[])(void) = {
     NULL, uleb128, uleb128_u32, sleb128, name, module, functions, memories, namespaces, policy, token, write_policy, evaluate, import, path,
     rewrite, manifest, requirements, all_imports, all_exports, check, needs, compare, differences, export_name, source_name,
     u8, u32_le, take_bytes, skip, left, kind, section, change, reasons,
-    c_module, c_manifest, c_compare, evaluate_records, c_tokens,
+    c_module, c_manifest, c_compare, evaluate_records, c_tokens, strict, c_strict,
 };
 
 /* ---- cases */

@@ -28,6 +28,8 @@ struct judged_requirement {
 
 struct judged_module_told judged_module(const uint8_t *file, size_t length, size_t *sections, size_t n1, size_t *imports, size_t n2,
                                         size_t *exports, size_t n3, size_t *names, size_t n4);
+struct judged_module_told judged_strict(const uint8_t *file, size_t length, size_t *sections, size_t n1, size_t *imports, size_t n2,
+                                        size_t *exports, size_t n3, size_t *names, size_t n4);
 struct judged_count_told judged_functions(const size_t *imports, size_t cells, size_t n);
 struct judged_count_told judged_memories(const size_t *imports, size_t cells, size_t n);
 struct judged_count_told judged_namespaces(const uint8_t *file, size_t length, const size_t *imports, size_t cells, size_t n, size_t *sorted,

@@ -43,9 +43,11 @@ pub enum Call {
     CCompare,
     EvaluateRecords,
     CTokens,
+    Strict,
+    CStrict,
 }
 
-pub const CALLS: [(Call, &str); 39] = [
+pub const CALLS: [(Call, &str); 41] = [
     (Call::Uleb128, "uleb128"),
     (Call::Uleb128U32, "uleb128_u32"),
     (Call::Sleb128, "sleb128"),
@@ -85,6 +87,8 @@ pub const CALLS: [(Call, &str); 39] = [
     (Call::CCompare, "c_compare"),
     (Call::EvaluateRecords, "evaluate_records"),
     (Call::CTokens, "c_tokens"),
+    (Call::Strict, "strict"),
+    (Call::CStrict, "c_strict"),
 ];
 
 #[derive(Clone, PartialEq, Eq, Debug)]

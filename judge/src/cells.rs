@@ -106,7 +106,11 @@ pub fn port_manifest(text: &[u8], t: &[u64], bytes: &[u8]) -> String {
             .map(|row| {
                 let Some(r) = references.chunks_exact(7).nth(*row as usize) else { return format!("no row {row}") };
                 let lowest = references.chunks_exact(7).position(|x| x[1] == direction && path(x) == path(r));
-                if lowest == Some(*row as usize) { path(r) } else { format!("row {row}, not the lowest") }
+                if lowest == Some(*row as usize) {
+                    path(r)
+                } else {
+                    format!("row {row}, not the lowest")
+                }
             })
             .collect()
     };
@@ -163,7 +167,10 @@ pub fn port_compare(baseline: &[u8], candidate: &[u8], t: &[u64], bytes: &[u8]) 
     let word = |change: u64| ["removed", "added"].get(change as usize).copied().unwrap_or("another change");
     let mut out = format!("{} {} {}", t[2], t[3], t[4] == 1);
     for r in exports.chunks_exact(2) {
-        let told = of[(r[0] != 0) as usize].exports.get(r[1] as usize).map(|e| format!("{} {}", crate::case::hex(e.field.as_bytes()), e.kind.slug()));
+        let told = of[(r[0] != 0) as usize]
+            .exports
+            .get(r[1] as usize)
+            .map(|e| format!("{} {}", crate::case::hex(e.field.as_bytes()), e.kind.slug()));
         out += &format!("; {} row {} {}", word(r[0]), r[1], told.unwrap_or("no row".into()));
     }
     for r in needs.chunks_exact(3) {

@@ -12,11 +12,21 @@ use original::wit;
 
 /// Cells to a row and most rows of tables 1 to 4.
 const TABLES: [(u64, u64); 4] = [(5, 256), (5, 1024), (4, 1024), (3, 4096)];
+/// Cells of tables 1 to 4 at their limits.
+pub const FULL: [u64; 4] = [5 * 256, 5 * 1024, 4 * 1024, 3 * 4096];
 
 pub fn module(file: &[u8], cells: [u64; 4]) -> String {
+    module_within(file, cells) + &zeros_to(&cells)
+}
+
+/// Without what is left in the tables.
+pub fn module_within(file: &[u8], cells: [u64; 4]) -> String {
     let room: Vec<u64> = TABLES.iter().zip(cells).map(|((width, limit), n)| (n / width).min(*limit)).collect();
-    let said = if file.len() > LONGEST_MODULE { "refused 14 at 0".into() } else { Walk::new(file, &room).says() };
-    said + &zeros_to(&cells)
+    if file.len() > LONGEST_MODULE {
+        "refused 14 at 0".into()
+    } else {
+        Walk::new(file, &room).says()
+    }
 }
 
 pub fn manifest(text: &[u8], cells: [u64; 2]) -> String {

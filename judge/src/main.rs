@@ -10,10 +10,11 @@ mod port;
 mod random;
 mod says;
 mod shrink;
+mod strict;
 mod strip;
 mod vectors;
 
-use case::{Case, CALLS};
+use case::{Call, Case, CALLS};
 use port::Port;
 use std::io::{Read, Write};
 use std::process::{Command, Stdio};
@@ -121,8 +122,7 @@ fn fixed_list(comparisons: bool) -> bool {
 fn heard_apart(court: &mut Court) -> (u64, u64) {
     let (mut files, mut ended) = (0, 0);
     for file in make::reserving() {
-        let case = Case::new(case::Call::Module, &[1280, 5120, 4096, 12288], &[&file]);
-        let expected = says::original_says(&case);
+        let expected = says::original_says(&Case::new(Call::Module, &limits::FULL, &[&file]));
         let exe = std::env::current_exe().expect("this program");
         let mut child =
             Command::new(exe).arg("apart").stdin(Stdio::piped()).stdout(Stdio::piped()).stderr(Stdio::null()).spawn().expect("a process");
@@ -132,43 +132,22 @@ fn heard_apart(court: &mut Court) -> (u64, u64) {
         if !out.status.success() {
             ended += 1;
         } else if !expected.starts_with(String::from_utf8_lossy(&out.stdout).trim_end()) {
-            println!("disagreement: the original with its own count says {}", String::from_utf8_lossy(&out.stdout));
-            court.disagreements += 1;
+            court.differ(&format!("the original with its own count says {}", String::from_utf8_lossy(&out.stdout)));
         }
-        court.hear(case);
+        make::hear(court, &file, limits::FULL);
     }
     (files, ended)
 }
 
-/// The modules below a folder, by both: how many there are, how they are answered, and what the suite calls malformed that both accept.
+/// The modules below a folder, by both, plainly and strictly.
 fn published(folder: &str) -> bool {
     let all = vectors::below(std::path::Path::new(folder));
     let mut court = Court::new(false);
-    let mut said = Vec::new();
     for v in &all {
-        let case = Case::new(case::Call::Module, &[1280, 5120, 4096, 12288], &[&v.bytes]);
-        said.push(says::original_says(&case));
-        court.hear(case);
+        make::hear(&mut court, &v.bytes, limits::FULL);
     }
     court.decide();
-    println!("{} modules", all.len());
-    for (answer, n) in vectors::tally(said.iter().map(|s| &s[..])) {
-        println!("  {answer}: {n}");
-    }
-    let called: Vec<_> = all.iter().zip(&said).filter(|(v, _)| v.malformed.is_some()).collect();
-    println!("{} called malformed by the suite", called.len());
-    for (answer, n) in vectors::tally(called.iter().map(|(_, s)| &s[..])) {
-        println!("  {answer}: {n}");
-    }
-    let mut reasons = std::collections::BTreeMap::new();
-    for (v, s) in called {
-        if !s.starts_with("refused") {
-            *reasons.entry(v.malformed.clone().unwrap()).or_insert(0u64) += 1;
-        }
-    }
-    for (reason, n) in reasons {
-        println!("    accepted though malformed, {reason}: {n}");
-    }
+    vectors::report(&all.iter().map(vectors::told).collect::<Vec<_>>());
     println!("{} disagreements", court.disagreements);
     court.disagreements == 0
 }
@@ -246,6 +225,12 @@ impl Court {
         let text = small.text();
         println!("disagreement:");
         println!("  original: {original}\n  port:     {said}\n  repeat:   ./viscrombal judge --one {text}");
+    }
+
+    /// What the judge itself relies on is not so.
+    pub fn differ(&mut self, words: &str) {
+        println!("disagreement: {words}");
+        self.disagreements += 1;
     }
 
     pub fn over(&self) -> bool {

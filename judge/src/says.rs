@@ -3,6 +3,7 @@
 use crate::case::{hex, Answer, Call, Case};
 use crate::cells;
 use crate::compare;
+use crate::strict;
 use original::compat::Change;
 use original::error::{Error, ErrorKind};
 use original::leb::Reader;
@@ -54,6 +55,8 @@ pub fn original_says(case: &Case) -> String {
         Call::CManifest => cells::manifest(s(0), n[0]),
         Call::CCompare => cells::compare(s(0), s(1), n[0]),
         Call::CTokens => cells::tokens(s(0), n[1], n[0]),
+        Call::Strict => strict::module(s(0), [n[0], n[1], n[2], n[3]]),
+        Call::CStrict => strict::answer(s(0)),
         Call::U8 => read(s(0), n[0], |r| r.u8().map(|v| v.to_string())),
         Call::U32Le => read(s(0), n[0], |r| r.u32_le().map(|v| v.to_string())),
         Call::Take => taken(s(0), n[0], n[1], |r, k| r.take(k).map(hex)),
@@ -72,7 +75,7 @@ pub fn port_says(case: &Case, a: &Answer) -> String {
         Call::Uleb128 | Call::Uleb128U32 => port_read(t, |t| t[2].to_string()),
         Call::Sleb128 => port_read(t, |t| (t[2] as i64).to_string()),
         Call::Name => port_read(t, |t| part(s(0), t[2], t[3])),
-        Call::Module => port_module(s(0), t),
+        Call::Module | Call::Strict => port_module(s(0), t),
         Call::Functions | Call::Memories => answered(t, 3, |t| t[2].to_string()),
         Call::Namespaces | Call::AllImports | Call::AllExports => port_listed(t),
         Call::Policy => port_policy(s(0), t),
@@ -90,6 +93,7 @@ pub fn port_says(case: &Case, a: &Answer) -> String {
         Call::CManifest => cells::port_manifest(s(0), t, &a.bytes),
         Call::CCompare => cells::port_compare(s(0), s(1), t, &a.bytes),
         Call::CTokens => cells::port_tokens(s(0), t, &a.bytes),
+        Call::CStrict => answered(t, 2, |_| strict::ACCEPTED.into()),
         Call::ExportName | Call::SourceName | Call::Section | Call::ChangeWord => compare::port_name(t),
         Call::U8 | Call::U32Le => port_read(t, |t| t[2].to_string()),
         Call::Take => port_read(t, |t| part(s(0), t[2], t[3])),

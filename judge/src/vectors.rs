@@ -1,12 +1,26 @@
-//! Published vectors: the modules of a folder, files .wasm and what .wast files write out in binary, run by both.
+//! Published vectors: the modules of a folder, files .wasm and what .wast files write out in binary, run by both; and what they are told.
+use crate::limits::{module_within, FULL};
+use crate::strict;
 use std::collections::BTreeMap;
 use std::fs;
+use std::io::Write;
 use std::path::{Path, PathBuf};
+use std::process::{Command, Stdio};
 
-/// A module, and the suite's reason where the suite calls it malformed.
+/// What the suite says of a module; a file .wasm is not of the suite.
+#[derive(Clone, Copy, PartialEq, Eq)]
+enum Called {
+    File,
+    Good,
+    Malformed,
+    Invalid,
+}
+
 pub struct Vector {
     pub bytes: Vec<u8>,
-    pub malformed: Option<String>,
+    called: Called,
+    /// The suite's reason, where it has one.
+    reason: String,
 }
 
 enum Node {
@@ -118,13 +132,16 @@ fn binary(list: &[Node]) -> Option<Vec<u8>> {
 }
 
 fn walk(list: &[Node], out: &mut Vec<Vector>) {
-    let asserted = matches!(list.first(), Some(Node::Word(w)) if w == "assert_malformed");
+    let called = match list.first() {
+        Some(Node::Word(w)) if w == "assert_malformed" => Called::Malformed,
+        Some(Node::Word(w)) if w == "assert_invalid" => Called::Invalid,
+        _ => Called::Good,
+    };
     for node in list {
         let Node::List(inner) = node else { continue };
         if let Some(bytes) = binary(inner) {
-            let reason =
-                list.iter().rev().find_map(|n| if let Node::Text(t) = n { Some(String::from_utf8_lossy(t).into_owned()) } else { None });
-            out.push(Vector { bytes, malformed: if asserted { reason } else { None } });
+            let text = |n: &Node| if let Node::Text(t) = n { Some(String::from_utf8_lossy(t).into_owned()) } else { None };
+            out.push(Vector { bytes, called, reason: list.iter().rev().find_map(text).unwrap_or_default() });
         } else {
             walk(inner, out);
         }
@@ -140,7 +157,7 @@ pub fn below(folder: &Path) -> Vec<Vector> {
     for file in files {
         let Ok(bytes) = fs::read(&file) else { continue };
         if file.extension().is_some_and(|e| e == "wasm") {
-            out.push(Vector { bytes, malformed: None });
+            out.push(Vector { bytes, called: Called::File, reason: String::new() });
         } else {
             walk(&Parser { s: &bytes, at: 0 }.nodes(), &mut out);
         }
@@ -159,12 +176,80 @@ fn gather(folder: &Path, out: &mut Vec<PathBuf>) {
     }
 }
 
-/// How many modules have each answer, by its first words.
-pub fn tally<'a>(answers: impl Iterator<Item = &'a str>) -> BTreeMap<String, u64> {
-    let mut out = BTreeMap::new();
-    for a in answers {
-        let key = if a.starts_with("refused") { a.split(" at").next().unwrap().to_string() } else { "accepted".into() };
-        *out.entry(key).or_insert(0) += 1;
+/// What a module is told: plainly, strictly, and by VISCROMBAL_VALIDATE, the command of a validator, where that is set.
+pub struct Told<'a> {
+    of: &'a Vector,
+    plain: String,
+    strict: String,
+    valid: Option<bool>,
+}
+
+pub fn told(of: &Vector) -> Told<'_> {
+    Told { of, plain: module_within(&of.bytes, FULL), strict: strict::answer(&of.bytes), valid: valid(&of.bytes) }
+}
+
+/// Whether a validator takes a module from standard input.
+fn valid(file: &[u8]) -> Option<bool> {
+    let command = std::env::var("VISCROMBAL_VALIDATE").ok()?;
+    let mut child = Command::new(command).arg("-").stdin(Stdio::piped()).stdout(Stdio::null()).stderr(Stdio::null()).spawn().ok()?;
+    // it need not read the whole of what it refuses
+    let _ = child.stdin.take()?.write_all(file);
+    Some(child.wait().ok()?.success())
+}
+
+/// An answer by its first words: a refusal by its number, 20 by its rule too.
+fn short(answer: &str) -> &str {
+    match answer.split_once(" at ") {
+        Some((number, _)) if number != "refused 20" => number,
+        Some(_) => answer,
+        None => "accepted",
     }
-    out
+}
+
+fn tally<'a>(answers: impl Iterator<Item = &'a str>) -> String {
+    let mut counts = BTreeMap::new();
+    for a in answers {
+        *counts.entry(a).or_insert(0) += 1;
+    }
+    counts.iter().map(|(answer, n): (&&str, &u64)| format!("{answer}: {n}")).collect::<Vec<_>>().join(", ")
+}
+
+/// How many modules of each sort there are, and what they are told; those that are read though the suite calls them bad, by its reasons.
+pub fn report(all: &[Told]) {
+    let sorts = [
+        (Called::File, "files .wasm"),
+        (Called::Good, "modules of the suite"),
+        (Called::Malformed, "modules that the suite calls malformed"),
+        (Called::Invalid, "modules that the suite calls invalid"),
+    ];
+    for (called, words) in sorts {
+        let these: Vec<&Told> = all.iter().filter(|t| t.of.called == called).collect();
+        if these.is_empty() {
+            continue;
+        }
+        println!("{} {words}", these.len());
+        println!("  plainly: {}", tally(these.iter().map(|t| short(&t.plain))));
+        println!("  strictly: {}", tally(these.iter().map(|t| short(&t.strict))));
+        third(&these);
+    }
+    let bad = |t: &&Told| [Called::Malformed, Called::Invalid].contains(&t.of.called) && !t.plain.starts_with("refused");
+    let mut reasons: BTreeMap<&str, Vec<&Told>> = BTreeMap::new();
+    for t in all.iter().filter(bad) {
+        reasons.entry(&t.of.reason).or_default().push(t);
+    }
+    for (reason, these) in reasons {
+        println!("    read, called {reason}: {}, strictly {}", these.len(), tally(these.iter().map(|t| short(&t.strict))));
+    }
+}
+
+/// What the validator says of those that are read plainly, by what strict reading says of them.
+fn third(these: &[&Told]) {
+    let opinions = these.iter().filter(|t| !t.plain.starts_with("refused")).filter_map(|t| {
+        let word = if t.valid? { "taken" } else { "not taken" };
+        Some(format!("{} and {word}", short(&t.strict)))
+    });
+    let opinions: Vec<String> = opinions.collect();
+    if !opinions.is_empty() {
+        println!("  strictly, and by the validator: {}", tally(opinions.iter().map(|o| &o[..])));
+    }
 }

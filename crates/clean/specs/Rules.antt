@@ -1,4 +1,4 @@
--- docs/DECISIONS.md, "Strict reading": the eight rules, over a derivation by the port's grammar and apart from any code; and what besides
+-- docs/RULES.md, "Strict reading": the eight rules, over a derivation by the port's grammar and apart from any code; and what besides
 -- them the specification's grammar asks of what is read: type bytes, and the inside of name sections. Assumes nothing.
 use Prim.Native.Nat.{ℕ, zero, suc, _≤_, _<_}
 use mathlib.Core.Path.{_≡_}

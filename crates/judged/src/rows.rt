@@ -5,6 +5,7 @@ ghost use mathlib.Core.Path.{_≡_};
 ghost use lib.ListN.{length};
 ghost use Rattle.refusal.specs.Said.{saidCount};
 ghost use Rattle.wasm.specs.Module.{sizes, lend, saidModule, moduleAt};
+ghost use Rattle.strict.specs.Rules.{strictAt};
 ghost use Rattle.import_rows.specs.Queries.{importedOf, namespacesOf};
 ghost use Rattle.requirements.specs.Requirements.{roomOf, rowDomain, moduleRows};
 ghost use Rattle.judged.specs.Rows.{moduleAnswer, countTold, ModuleTells, ListTells, RequireTells};
@@ -95,6 +96,22 @@ pub extern "C" fn judged_module(
         (lend (now (sections .exit)) (now (imports .exit)) (now (exports .exit)) (now (names .exit))) r ⌝ }
 {
     module_of(wasm::read_module(file, sections, imports, exports, names))
+}
+
+#[no_mangle]
+pub extern "C" fn judged_strict(
+    file: &[u8],
+    sections: &mut [usize],
+    imports: &mut [usize],
+    exports: &mut [usize],
+    names: &mut [usize],
+) -> ModuleTold
+    ensures { λ r. ⌜ ModuleTells (length (now (file .entry)))
+        (sizes (now (sections .entry)) (now (imports .entry)) (now (exports .entry)) (now (names .entry)))
+        (strictAt (now (file .entry)) (sizes (now (sections .entry)) (now (imports .entry)) (now (exports .entry)) (now (names .entry))))
+        (lend (now (sections .exit)) (now (imports .exit)) (now (exports .exit)) (now (names .exit))) r ⌝ }
+{
+    module_of(strict::read_strict(file, sections, imports, exports, names))
 }
 
 #[no_mangle]

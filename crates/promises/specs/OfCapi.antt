@@ -21,6 +21,10 @@ use Rattle.capi.proofs.check.viscrombal_check.Kinds as check-kinds
 use Rattle.capi.proofs.check.viscrombal_check.Reads as check
 use Rattle.capi.proofs.policies.viscrombal_rewrite.Kinds as rewrite-kinds
 use Rattle.capi.proofs.policies.viscrombal_rewrite.Reads as rewrite
+use Rattle.capi.proofs.strictly.viscrombal_strict.Kinds as strict-kinds
+use Rattle.capi.proofs.strictly.viscrombal_strict.Reads as strict
+use Rattle.capi.proofs.interface.viscrombal_interface.Kinds as interface-kinds
+use Rattle.capi.proofs.interface.viscrombal_interface.Reads as interface
 
 pub uleb128-decides : Decides uleb128-kinds.ps uleb128-kinds.r uleb128.Post
 uleb128-decides κs a x y s t p q = p ∙ sym q
@@ -50,3 +54,9 @@ rewrite-leaves κs a x y s t p q = p .output-is ∙ sym (q .output-is)
 
 pub check-decides : Decides check-kinds.ps check-kinds.r check.Post
 check-decides κs a x y s t p q = p ∙ sym q
+
+pub strict-decides : Decides strict-kinds.ps strict-kinds.r strict.Post
+strict-decides κs a x y s t p q = p ∙ sym q
+
+pub interface-decides : Decides interface-kinds.ps interface-kinds.r interface.Post
+interface-decides κs a x y s t p q = p ∙ sym q

@@ -21,6 +21,8 @@ use Rattle.judged.specs.Policies.{policyIn}
 use Rattle.promises.specs.Decides.{Decides}
 use Rattle.judged.proofs.rows.judged_module.Kinds as module-kinds
 use Rattle.judged.proofs.rows.judged_module.Reads as module-reads
+use Rattle.judged.proofs.rows.judged_strict.Kinds as strict-kinds
+use Rattle.judged.proofs.rows.judged_strict.Reads as strict-reads
 use Rattle.judged.proofs.rows.judged_functions.Kinds as functions-kinds
 use Rattle.judged.proofs.rows.judged_functions.Reads as functions-reads
 use Rattle.judged.proofs.rows.judged_memories.Kinds as memories-kinds
@@ -118,6 +120,9 @@ path-decides κs a x y s t p q = p ∙ sym q
 pub module-decides : Decides module-kinds.ps module-kinds.r module-reads.Post
 module-decides κs a x y s t p q = p .answer-is ∙ sym (q .answer-is)
 
+pub judged-strict-decides : Decides strict-kinds.ps strict-kinds.r strict-reads.Post
+judged-strict-decides κs a x y s t p q = p .answer-is ∙ sym (q .answer-is)
+
 pub namespaces-decides : Decides namespaces-kinds.ps namespaces-kinds.r namespaces-reads.Post
 namespaces-decides κs a x y s t p q = p .answer-is ∙ sym (q .answer-is)
 
@@ -144,6 +149,20 @@ module _ (κs : Lfts 5) (a : Dens κs module-kinds.ps) (x y : resT module-kinds.
 
   pub names-left : now (s .1 .1 .1 .1 .0) ≡ now (t .1 .1 .1 .1 .0)
   names-left = p .tables-are .names-are ∙ sym (q .tables-are .names-are)
+
+module _ (κs : Lfts 5) (a : Dens κs strict-kinds.ps) (x y : resT strict-kinds.r κs .Denot)
+    (s t : AtExit (endedOf 5 strict-kinds.ps strict-kinds.r) κs) (p : strict-reads.Post κs a x s) (q : strict-reads.Post κs a y t) where
+  pub strict-sections-left : now (s .1 .0) ≡ now (t .1 .0)
+  strict-sections-left = p .tables-are .sections-are ∙ sym (q .tables-are .sections-are)
+
+  pub strict-imports-left : now (s .1 .1 .0) ≡ now (t .1 .1 .0)
+  strict-imports-left = p .tables-are .imports-are ∙ sym (q .tables-are .imports-are)
+
+  pub strict-exports-left : now (s .1 .1 .1 .0) ≡ now (t .1 .1 .1 .0)
+  strict-exports-left = p .tables-are .exports-are ∙ sym (q .tables-are .exports-are)
+
+  pub strict-names-left : now (s .1 .1 .1 .1 .0) ≡ now (t .1 .1 .1 .1 .0)
+  strict-names-left = p .tables-are .names-are ∙ sym (q .tables-are .names-are)
 
 pub namespaces-leaves : (κs : Lfts 3) (a : Dens κs namespaces-kinds.ps) (x y : resT namespaces-kinds.r κs .Denot)
     (s t : AtExit (endedOf 3 namespaces-kinds.ps namespaces-kinds.r) κs)

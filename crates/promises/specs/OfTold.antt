@@ -19,6 +19,8 @@ use Rattle.told.proofs.check.evaluation_of.Kinds as evaluation-of-kinds
 use Rattle.told.proofs.check.evaluation_of.Reads as evaluation-of
 use Rattle.told.proofs.policies.written_of.Kinds as written-of-kinds
 use Rattle.told.proofs.policies.written_of.Reads as written-of
+use Rattle.told.proofs.answers.answer_of.Kinds as answer-of-kinds
+use Rattle.told.proofs.answers.answer_of.Reads as answer-of
 
 pub narrow-of-decides : Decides narrow-of-kinds.ps narrow-of-kinds.r narrow-of.Post
 narrow-of-decides κs a x y s t p q = p ∙ sym q
@@ -46,3 +48,6 @@ evaluation-of-decides κs a x y s t p q = p ∙ sym q
 
 pub written-of-decides : Decides written-of-kinds.ps written-of-kinds.r written-of.Post
 written-of-decides κs a x y s t p q = p ∙ sym q
+
+pub answer-of-decides : Decides answer-of-kinds.ps answer-of-kinds.r answer-of.Post
+answer-of-decides κs a x y s t p q = p ∙ sym q

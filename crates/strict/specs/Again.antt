@@ -1,4 +1,4 @@
--- docs/DECISIONS.md, "Strict reading", rules 2, 5 and 8: a second walk over what the plain reader decodes, a definition beside each of
+-- docs/RULES.md, "Strict reading", rules 2, 5 and 8: a second walk over what the plain reader decodes, a definition beside each of
 -- its own (`wasm`, specs/Entry to Module), with what holds so far. Assumes nothing.
 use Prim.Native.Nat.{ℕ, zero, suc, _-_, _%_}
 use mathlib.Core.Bool.{true, false}

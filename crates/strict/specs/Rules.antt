@@ -1,4 +1,4 @@
--- docs/DECISIONS.md, "Strict reading": the eight rules, the lowest one that a file breaks, and what a strict read answers. Assumes nothing.
+-- docs/RULES.md, "Strict reading": the eight rules, the lowest one that a file breaks, and what a strict read answers. Assumes nothing.
 use Prim.Native.Nat.{ℕ}
 use mathlib.Core.Bool.{Bool, true, false}
 use mathlib.Core.List.{List, [], _∷_, map}

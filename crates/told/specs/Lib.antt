@@ -2,3 +2,4 @@
 pub mod Reading
 pub mod Policies
 pub mod Check
+pub mod Answers

@@ -55,6 +55,16 @@ pub fn leb(mut n: usize) -> Vec<u8> {
     out
 }
 
+/// Bytes in pairs of hexadecimal digits; `H` is the header, `N` the name `name` with its length.
+pub fn bytes(words: &str) -> Vec<u8> {
+    let bytes = words.split_whitespace().flat_map(|word| match word {
+        "H" => HEADER.to_vec(),
+        "N" => name("name"),
+        pair => vec![u8::from_str_radix(pair, 16).unwrap_or_else(|_| panic!("{words}: {pair}"))],
+    });
+    bytes.collect()
+}
+
 fn name(name: &str) -> Vec<u8> {
     [leb(name.len()), name.into()].concat()
 }
@@ -76,12 +86,12 @@ pub fn module<M: AsRef<str>, E: AsRef<str>, N: AsRef<str>>(imports: &[(M, &str)]
     [HEADER.to_vec(), section(2, imported), section(7, exported), section(0, named)].concat()
 }
 
-/// A module with every table full, names that begin alike, and every name told apart by `mark`.
+/// A module that is read strictly, with every table full, names that begin alike, and every name told apart by `mark`.
 pub fn full(mark: &str) -> Vec<u8> {
     let names: Vec<String> = (0..4096).map(|n| format!("a-name-that-begins-like-all-others-{n}-{mark}")).collect();
     let imports: Vec<_> = names[..1024].iter().map(|name| (name, "f")).collect();
     let exports: Vec<_> = names[..1024].iter().map(|name| (name, 0)).collect();
-    let sections: Vec<u8> = (0..253).flat_map(|_| [1, 0]).collect();
+    let sections = section(0, name("")).repeat(253);
     [module(&imports, &exports, &names), sections].concat()
 }
 

@@ -1,4 +1,5 @@
-//! What is measured: for each case the original's call, the port's, and that both say the same.
+//! What is measured: for each case the original's call, the port's, and that both say the same; of strict reading the port's plain read,
+//! and its strict one.
 use crate::inputs;
 use crate::port::{self, ModuleTold, Tables};
 use original::compat::{self, Change};
@@ -10,7 +11,8 @@ use std::hint::black_box;
 pub struct Case {
     /// What either says, in the same words.
     pub said: Box<dyn Fn() -> [String; 2]>,
-    pub original: Box<dyn Fn()>,
+    /// The side that the port is measured against.
+    pub original: Box<dyn FnMut()>,
     pub port: Box<dyn FnMut()>,
 }
 
@@ -54,6 +56,19 @@ pub const CASES: [(&str, u32, fn() -> Case); 38] = [
     ("compare: 1,000 imports of 16 KiB, equal", 0, || compare(inputs::long_imports(0), inputs::long_imports(0))),
     ("compare: 1,000 imports of 16 KiB, all differ at the end", 0, || compare(inputs::long_imports(0), inputs::long_imports(1))),
     ("compare: 1,000 exports of 16 KiB, made to be slow", 0, || compare(inputs::hostile_exports(0), inputs::hostile_exports(1))),
+];
+
+/// The same of strict reading, with tables of the file's size. One file is refused by a rule.
+pub const STRICT: [(&str, u32, fn() -> Case); 9] = [
+    ("strict: tiny", 1000, || strict(inputs::tiny(), 0)),
+    ("strict: a code section of 16 MiB", 1000, || strict(inputs::code(), 0)),
+    ("strict: 256 sections, refused by rule 4", 100, || strict(inputs::sections(), 4)),
+    ("strict: 256 custom sections", 100, || strict(inputs::customs(), 0)),
+    ("strict: 1,000 imports, 1,000 exports", 20, || strict(inputs::surface_1000(), 0)),
+    ("strict: 4,000 function names", 20, || strict(inputs::symbols(), 0)),
+    ("strict: 1,000 imports of 16 KiB, mixed UTF-8", 1, || strict(inputs::long_names(), 0)),
+    ("strict: a sample", 1000, || strict(inputs::sample(0), 0)),
+    ("strict: 1,000 exports of 16 KiB that begin alike", 0, || strict(inputs::long_exports(0), 0)),
 ];
 
 fn part(s: &[u8], from: usize, len: usize) -> String {
@@ -105,6 +120,30 @@ fn module(file: Vec<u8>, mut tables: Tables) -> Case {
         original: Box::new(move || drop(black_box(wasm::parse(black_box(&a)).unwrap()))),
         port: Box::new(move || {
             black_box(port::module(black_box(&b), &mut tables));
+        }),
+    }
+}
+
+/// The plain read, and the strict one: the same rows, or 20 and the rule.
+fn strict(file: Vec<u8>, rule: usize) -> Case {
+    let (a, b) = (file.clone(), file.clone());
+    let m = port::module(&file, &mut Tables::at_limits());
+    let rows = [m.sections, m.imports, m.exports, m.symbols];
+    let (mut plain, mut strict) = (Tables::of(rows), Tables::of(rows));
+    Case {
+        said: Box::new(move || {
+            let (mut t, mut u) = (Tables::of(rows), Tables::of(rows));
+            let (m, s) = (port::module(&file, &mut t), port::strict(&file, &mut u));
+            match rule {
+                0 => [port_module_says(&file, m, &t.0), port_module_says(&file, s, &u.0)],
+                rule => [format!("refused 20 at {rule}"), format!("refused {} at {}", s.number, s.place)],
+            }
+        }),
+        original: Box::new(move || {
+            black_box(port::module(black_box(&a), &mut plain));
+        }),
+        port: Box::new(move || {
+            black_box(port::strict(black_box(&b), &mut strict));
         }),
     }
 }

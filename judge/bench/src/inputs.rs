@@ -76,6 +76,12 @@ pub fn sections() -> Vec<u8> {
     module(&(0..256).map(one).collect::<Vec<_>>())
 }
 
+/// 256 custom sections, 64 bytes in each.
+pub fn customs() -> Vec<u8> {
+    let one = |i: usize| section(0, &[counted(format!("producers-{i:03}").as_bytes()), vec![b'x'; 50]].concat());
+    module(&(0..256).map(one).collect::<Vec<_>>())
+}
+
 const PREVIEW1: [&str; 8] = ["fd_write", "fd_read", "path_open", "environ_get", "args_get", "clock_time_get", "sock_recv", "random_get"];
 
 /// 1,000 imports, as compilers name them, and 1,000 exports.

@@ -1,7 +1,7 @@
 //! The original and the port on the same inputs in one process: what they say is compared, then the least processor time of many runs
-//! is taken of each. docs/SPEED.md has the table.
+//! is taken of each. docs/SPEED.md has the table. A second table is of the port's strict read against its plain one.
 //!
-//! bench [WORD]                     the table, of the cases with WORD in their name
+//! bench [WORD]                     the tables, of the cases with WORD in their name
 //! bench run CASE SIDE ROUNDS       one side of a case so many times, for a counter of instructions
 //!
 //! VISCROMBAL_COUNT is the command that runs the words after it and prints how many instructions that took; without it only times are taken.
@@ -9,7 +9,7 @@ mod cases;
 mod inputs;
 mod port;
 
-use cases::{Case, CASES};
+use cases::{Case, CASES, STRICT};
 use std::process::{exit, Command};
 
 #[repr(C)]
@@ -42,13 +42,13 @@ fn timed(rounds: u32, call: &mut dyn FnMut()) -> f64 {
 /// The least time of a call on each side: runs of about half a millisecond, the sides in turn, at least 3 runs, for about a second.
 fn least(case: &mut Case) -> [f64; 2] {
     let Case { original, port, .. } = case;
-    let mut best = [timed(1, &mut || original()), timed(1, port)];
+    let mut best = [timed(1, original), timed(1, port)];
     let rounds = best.map(|t| (5e5 / t).clamp(1.0, 1e6) as u32);
     let mut spent = 0.0;
     let mut runs = 0;
     while runs < 3 || (spent < 1e9 && runs < 1000) {
         for (i, rounds) in rounds.iter().enumerate() {
-            let t = if i == 0 { timed(*rounds, &mut || original()) } else { timed(*rounds, port) };
+            let t = timed(*rounds, if i == 0 { original } else { port });
             best[i] = best[i].min(t);
             spent += t * *rounds as f64;
         }
@@ -78,8 +78,8 @@ fn short(x: f64, units: [&str; 4]) -> String {
     format!("{x:.digits$}{}", units[power])
 }
 
-fn time(x: f64) -> String {
-    short(x, [" ns", " µs", " ms", " s"])
+fn time(x: Option<f64>) -> String {
+    x.map_or("".into(), |x| short(x, [" ns", " µs", " ms", " s"]))
 }
 
 fn count(x: Option<f64>) -> String {
@@ -90,26 +90,38 @@ fn ratio(a: Option<f64>, b: Option<f64>) -> String {
     a.zip(b).map_or("".into(), |(a, b)| short(a / b, ["", " k", " M", " G"]))
 }
 
-fn table(word: &str) {
-    println!("| case | original | port | original ÷ port | original, instructions | port, instructions | original ÷ port |");
-    println!("|---|---:|---:|---:|---:|---:|---:|");
-    for (name, rounds, make) in CASES.iter().filter(|c| c.0.contains(word)) {
+/// A row for each case: both sides, and the first ÷ the second, or of strict reading the second ÷ the first.
+fn table(head: &str, cases: &[(&str, u32, fn() -> Case)], word: &str, over: bool) {
+    let cases: Vec<_> = cases.iter().filter(|c| c.0.contains(word)).collect();
+    if cases.is_empty() {
+        return;
+    }
+    println!("{head}\n|---|---:|---:|---:|---:|---:|---:|");
+    for (name, rounds, make) in cases {
         let mut case = make();
         let [original, port] = (case.said)();
         if original != port {
-            eprintln!("{name}: the original and the port say different things");
+            eprintln!("{name}: the two sides say different things");
             exit(1);
         }
         drop((original, port));
-        let [o, p] = least(&mut case);
+        let [o, p] = least(&mut case).map(Some);
         drop(case);
         let [i, j] = ["original", "port"].map(|side| counted(name, side, *rounds));
-        println!("| {name} | {} | {} | {} | {} | {} | {} |", time(o), time(p), ratio(Some(o), Some(p)), count(i), count(j), ratio(i, j));
+        let ratio = |a, b| if over { ratio(a, b) } else { ratio(b, a) };
+        println!("| {name} | {} | {} | {} | {} | {} | {} |", time(o), time(p), ratio(o, p), count(i), count(j), ratio(i, j));
     }
 }
 
+fn tables(word: &str) {
+    let head = "| case | original | port | original ÷ port | original, instructions | port, instructions | original ÷ port |";
+    table(head, &CASES, word, true);
+    let head = "| case | plain | strict | strict ÷ plain | plain, instructions | strict, instructions | strict ÷ plain |";
+    table(head, &STRICT, word, false);
+}
+
 fn run(name: &str, side: &str, rounds: u32) {
-    let mut case = CASES.iter().find(|c| c.0 == name).expect("a case").2();
+    let mut case = CASES.iter().chain(&STRICT).find(|c| c.0 == name).expect("a case").2();
     for _ in 0..rounds {
         match side {
             "original" => (case.original)(),
@@ -121,9 +133,9 @@ fn run(name: &str, side: &str, rounds: u32) {
 fn main() {
     let words: Vec<String> = std::env::args().skip(1).collect();
     match &words.iter().map(|w| &w[..]).collect::<Vec<_>>()[..] {
-        [] => table(""),
+        [] => tables(""),
         ["run", name, side, rounds] => run(name, side, rounds.parse().expect("a number of rounds")),
-        [word] => table(word),
+        [word] => tables(word),
         _ => exit(2),
     }
 }

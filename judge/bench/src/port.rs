@@ -132,6 +132,8 @@ pub struct ComparisonTold {
 extern "C" {
     fn judged_module(out: *mut ModuleTold, file: *const u8, length: usize, sections: *mut usize, n1: usize, imports: *mut usize, n2: usize,
         exports: *mut usize, n3: usize, names: *mut usize, n4: usize);
+    fn judged_strict(out: *mut ModuleTold, file: *const u8, length: usize, sections: *mut usize, n1: usize, imports: *mut usize, n2: usize,
+        exports: *mut usize, n3: usize, names: *mut usize, n4: usize);
     fn judged_manifest(out: *mut ManifestTold, text: *const u8, length: usize, worlds: *mut usize, n5: usize, references: *mut usize, n6: usize);
     fn judged_token(out: *mut TokenTold, text: *const u8, length: usize, policy: *const usize, cells: usize, domain: usize, from: usize);
     fn judged_compare(out: *mut ComparedTold, baseline: *const u8, length: usize, bi: *const usize, n1: usize, be: *const usize, n2: usize,
@@ -167,24 +169,26 @@ impl Tables {
     }
 }
 
-pub fn module(file: &[u8], t: &mut Tables) -> ModuleTold {
+#[rustfmt::skip]
+type ReadCall = unsafe extern "C" fn(*mut ModuleTold, *const u8, usize, *mut usize, usize, *mut usize, usize, *mut usize, usize, *mut usize, usize);
+
+#[rustfmt::skip]
+fn read_by(call: ReadCall, file: &[u8], t: &mut Tables) -> ModuleTold {
     let [a, b, c, d] = &mut t.0;
     // SAFETY: each pointer has as many elements as the length after it says, and the slices are apart
     answered(|out| unsafe {
-        judged_module(
-            out,
-            file.as_ptr(),
-            file.len(),
-            a.as_mut_ptr(),
-            a.len(),
-            b.as_mut_ptr(),
-            b.len(),
-            c.as_mut_ptr(),
-            c.len(),
-            d.as_mut_ptr(),
-            d.len(),
+        call(
+            out, file.as_ptr(), file.len(), a.as_mut_ptr(), a.len(), b.as_mut_ptr(), b.len(), c.as_mut_ptr(), c.len(), d.as_mut_ptr(), d.len(),
         )
     })
+}
+
+pub fn module(file: &[u8], t: &mut Tables) -> ModuleTold {
+    read_by(judged_module, file, t)
+}
+
+pub fn strict(file: &[u8], t: &mut Tables) -> ModuleTold {
+    read_by(judged_strict, file, t)
 }
 
 /// The module's rows, eight bytes a cell, in one buffer.

@@ -4,19 +4,21 @@ mod manifests;
 mod modules;
 mod numbers;
 mod policies;
+mod strict;
 mod tables;
 
 use crate::case::{Call, Case};
 use crate::random::Random;
 use crate::Court;
 
-pub use modules::reserving;
+pub use modules::{hear, reserving};
 
 pub fn fixed(court: &mut Court) {
     numbers::fixed(court);
     policies::fixed(court);
     manifests::fixed(court);
     modules::fixed(court);
+    strict::fixed(court);
     tables::fixed(court);
     contrasts::fixed(court);
 }
@@ -37,8 +39,10 @@ pub fn seeded(court: &mut Court, seed: u64) {
         }
         let room = |r: &mut Random| if r.one_in(2) { 2000 } else { 8 * r.below(60) as u64 + r.below(2) as u64 };
         court.hear(Case::new(Call::CModule, &[room(r)], &[&file]));
+        modules::strictly(court, &file, modules::FULL);
         court.hear(Case::new(Call::CManifest, &[room(r)], &[&text]));
         let (baseline, candidate) = contrasts::pair(r);
+        modules::strictly(court, &baseline, modules::ROOMY);
         let candidate = if r.one_in(9) { &file } else { &candidate };
         court.hear(Case::new(Call::CCompare, &[room(r)], &[&baseline, candidate]));
     }
@@ -52,6 +56,7 @@ pub fn seeded(court: &mut Court, seed: u64) {
         }
         court.hear(Case::new(Call::Check, &[], &[&file, &text]));
     }
+    strict::seeded(court, r);
 }
 
 /// Every string over the alphabet of exactly this length.

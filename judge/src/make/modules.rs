@@ -4,13 +4,22 @@ use crate::case::{Call, Case};
 use crate::random::Random;
 use crate::Court;
 
-pub const HEADER: &[u8] = b"\0asm\x01\0\0\0";
-/// Cells of tables at their full limits, and of roomy small ones.
-const FULL: [u64; 4] = [256 * 5, 1024 * 5, 1024 * 4, 4096 * 3];
-const ROOMY: [u64; 4] = [40, 60, 48, 36];
+pub use crate::limits::FULL;
 
-fn hear(court: &mut Court, file: &[u8], cells: [u64; 4]) {
+pub const HEADER: &[u8] = b"\0asm\x01\0\0\0";
+/// Cells of roomy small tables.
+pub const ROOMY: [u64; 4] = [40, 60, 48, 36];
+
+/// Plainly and strictly.
+pub fn hear(court: &mut Court, file: &[u8], cells: [u64; 4]) {
     court.hear(Case::new(Call::Module, &cells, &[file]));
+    strictly(court, file, cells);
+}
+
+/// Strictly with tables of so many cells, and over the C interface.
+pub fn strictly(court: &mut Court, file: &[u8], cells: [u64; 4]) {
+    court.hear(Case::new(Call::Strict, &cells, &[file]));
+    court.hear(Case::new(Call::CStrict, &[], &[file]));
 }
 
 /// A number, now and then in more bytes than it takes.
@@ -157,7 +166,7 @@ pub fn module(r: &mut Random) -> Vec<u8> {
 }
 
 /// Tables of a few rows, and now and then with cells that make no row.
-fn small(r: &mut Random) -> [u64; 4] {
+pub fn small(r: &mut Random) -> [u64; 4] {
     [5, 5, 4, 3].map(|w| w * r.below(4) as u64 + if r.one_in(4) { r.below(w as usize) as u64 } else { 0 })
 }
 
@@ -233,6 +242,7 @@ fn few(court: &mut Court) {
         for room in [0, 159, 160, 639, 640, 2_000] {
             court.hear(Case::new(Call::CModule, &[room], &[file]));
         }
+        strictly(court, file, FULL);
         for policy in [&b""[..], b"default allow", b"bogus"] {
             court.hear(Case::new(Call::Check, &[], &[file, policy]));
         }

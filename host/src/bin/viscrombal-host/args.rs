@@ -7,19 +7,29 @@ use std::path::PathBuf;
 #[derive(Debug, PartialEq, Eq)]
 pub enum Command {
     Help,
-    Check { modules: Vec<PathBuf>, policy: PathBuf, json: bool },
-    Compare { baseline: PathBuf, candidate: PathBuf, json: bool },
-    Chain { builds: Vec<PathBuf>, policy: PathBuf, json: bool },
+    Check { modules: Vec<PathBuf>, policy: PathBuf, options: Options },
+    Compare { baseline: PathBuf, candidate: PathBuf, options: Options },
+    Chain { builds: Vec<PathBuf>, policy: PathBuf, options: Options },
+}
+
+/// How it is to be done and said.
+#[derive(Debug, Default, Clone, Copy, PartialEq, Eq)]
+pub struct Options {
+    /// An object a line.
+    pub json: bool,
+    /// Every module must be read strictly.
+    pub strict: bool,
 }
 
 /// The command, or what is wrong with the words. Options stand anywhere; after `--` every word is a file.
 pub fn parse(words: impl Iterator<Item = OsString>) -> Result<Command, &'static str> {
-    let (mut plain, mut policy, mut json) = (Vec::new(), None, false);
+    let (mut plain, mut policy, mut options) = (Vec::new(), None, Options::default());
     let mut words = words.fuse();
     while let Some(word) = words.next() {
         match word.to_str() {
             Some("-h" | "--help") => return Ok(Command::Help),
-            Some("--json") => json = true,
+            Some("--json") => options.json = true,
+            Some("--strict") => options.strict = true,
             Some("--policy") if policy.is_some() => return Err("more than one policy"),
             Some("--policy") => policy = Some(words.next().ok_or("--policy needs a file")?),
             Some("--") => plain.extend(words.by_ref()),
@@ -33,13 +43,13 @@ pub fn parse(words: impl Iterator<Item = OsString>) -> Result<Command, &'static 
     let files: Vec<PathBuf> = plain.map(PathBuf::from).collect();
     match (verb.to_str(), policy) {
         (Some("check"), Some(_)) if files.is_empty() => Err("check needs a module"),
-        (Some("check"), Some(policy)) => Ok(Command::Check { modules: files, policy, json }),
+        (Some("check"), Some(policy)) => Ok(Command::Check { modules: files, policy, options }),
         (Some("chain"), Some(_)) if files.len() < 2 => Err("chain needs two builds or more"),
-        (Some("chain"), Some(policy)) => Ok(Command::Chain { builds: files, policy, json }),
+        (Some("chain"), Some(policy)) => Ok(Command::Chain { builds: files, policy, options }),
         (Some("check" | "chain"), None) => Err("check and chain need --policy FILE"),
         (Some("compare"), Some(_)) => Err("compare takes no policy"),
         (Some("compare"), None) => match <[PathBuf; 2]>::try_from(files) {
-            Ok([baseline, candidate]) => Ok(Command::Compare { baseline, candidate, json }),
+            Ok([baseline, candidate]) => Ok(Command::Compare { baseline, candidate, options }),
             Err(_) => Err("compare needs two modules"),
         },
         _ => Err("no such command"),
@@ -56,15 +66,16 @@ mod tests {
 
     #[test]
     fn options_stand_anywhere() {
-        let want = Ok(Command::Check { modules: vec!["a".into(), "b".into()], policy: "p".into(), json: true });
-        assert_eq!(parsed("check a b --policy p --json"), want);
-        assert_eq!(parsed("--json check --policy p a b"), want);
-        assert_eq!(parsed("--policy p --json -- check a b"), want);
+        let options = Options { json: true, strict: true };
+        let want = Ok(Command::Check { modules: vec!["a".into(), "b".into()], policy: "p".into(), options });
+        assert_eq!(parsed("check a b --policy p --json --strict"), want);
+        assert_eq!(parsed("--strict --json check --policy p a b"), want);
+        assert_eq!(parsed("--policy p --json --strict -- check a b"), want);
     }
 
     #[test]
     fn a_file_may_begin_with_a_dash_after_two() {
-        let want = Command::Compare { baseline: "-a".into(), candidate: "--json".into(), json: false };
+        let want = Command::Compare { baseline: "-a".into(), candidate: "--json".into(), options: Options::default() };
         assert_eq!(parsed("compare -- -a --json"), Ok(want));
     }
 

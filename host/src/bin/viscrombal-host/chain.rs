@@ -10,8 +10,9 @@ use std::path::{Path, PathBuf};
 
 use viscrombal::compat::{self, Compatibility};
 use viscrombal::policy::Policy;
-use viscrombal::{wasm, LONGEST_MODULE, LONGEST_TEXT};
+use viscrombal::{wasm, LONGEST_TEXT};
 
+use crate::args::Options;
 use crate::check::{self, Checked};
 use crate::compare;
 use crate::files::{self, or_stop, Stop};
@@ -26,8 +27,8 @@ struct Build<'a> {
 }
 
 impl Build<'_> {
-    fn read(path: &Path) -> Result<Build<'_>, Stop> {
-        Ok(Build { path, file: or_stop("build", path, files::read(path, LONGEST_MODULE))? })
+    fn read(path: &Path, strict: bool) -> Result<Build<'_>, Stop> {
+        Ok(Build { path, file: or_stop("build", path, files::read_module(path, strict))? })
     }
 
     /// The comparison with the build that this one is to stand in for.
@@ -46,6 +47,7 @@ impl Build<'_> {
 struct Ends<'a> {
     first: &'a Path,
     last: &'a Path,
+    strict: bool,
     unbroken: bool,
     first_passes: bool,
     last_passes: bool,
@@ -53,19 +55,19 @@ struct Ends<'a> {
 }
 
 /// Reads the policy, then build after build.
-pub fn run(out: &mut dyn Write, builds: &[PathBuf], path: &Path, json: bool) -> Result<Status, Stop> {
+pub fn run(out: &mut dyn Write, builds: &[PathBuf], path: &Path, options: Options) -> Result<Status, Stop> {
     let text = or_stop("policy", path, files::read(path, LONGEST_TEXT))?;
     let policy = or_stop("policy", path, Policy::parse(&text))?;
     let progress = Progress::new();
     let mut lines = Vec::new();
-    let ends = follow(&mut lines, builds, &policy, json, &progress);
+    let ends = follow(&mut lines, builds, &policy, options, &progress);
     drop(progress);
-    if !json {
+    if !options.json {
         writeln!(out, "{}", check::stated(&policy, path))?;
     }
     out.write_all(&lines)?;
     let ends = ends?;
-    if json {
+    if options.json {
         writeln!(out, "{}", ends.tell(Object::default().path("policy", path)).done())?;
     } else {
         write!(out, "{}", ends.words(path))?;
@@ -74,17 +76,17 @@ pub fn run(out: &mut dyn Write, builds: &[PathBuf], path: &Path, json: bool) -> 
 }
 
 /// Every step, of which no more than three files are held at a time: the first, the one before, and the one that is to stand in.
-fn follow<'a>(out: &mut Vec<u8>, builds: &'a [PathBuf], policy: &Policy, json: bool, progress: &Progress) -> Result<Ends<'a>, Stop> {
-    let first = Build::read(&builds[0])?;
+fn follow<'a>(out: &mut Vec<u8>, builds: &'a [PathBuf], policy: &Policy, options: Options, progress: &Progress) -> Result<Ends<'a>, Stop> {
+    let first = Build::read(&builds[0], options.strict)?;
     let mut last: Option<Build> = None;
     let mut unbroken = true;
     for (step, path) in builds.iter().enumerate().skip(1) {
         progress.say(step, builds.len() - 1, &show::path(path));
         let before = last.as_ref().unwrap_or(&first);
-        let build = Build::read(path)?;
+        let build = Build::read(path, options.strict)?;
         let answer = build.against(before)?;
         unbroken &= answer.is_compatible();
-        if json {
+        if options.json {
             let object = Object::default().raw("step", step).path("baseline", before.path).path("candidate", path);
             writeln!(out, "{}", compare::tell(&answer, object).done())?;
         } else {
@@ -99,6 +101,7 @@ fn follow<'a>(out: &mut Vec<u8>, builds: &'a [PathBuf], policy: &Policy, json: b
     Ok(Ends {
         first: first.path,
         last: last.path,
+        strict: options.strict,
         unbroken,
         first_passes: first.checked(policy)?.verdict.is_compliant(),
         last_passes: last.checked(policy)?.verdict.is_compliant(),
@@ -128,6 +131,9 @@ impl Ends<'_> {
             };
             rows.push(vec![String::from("  theorem"), part.into(), words]);
         }
+        if self.strict {
+            rows.push(vec!["  asked".into(), "strict".into(), "every build is read strictly".into()]);
+        }
         let stands = if self.last_stands_in { "can stand in" } else { "cannot stand in" };
         rows.push(vec!["  asked".into(), "compare".into(), format!("{last} {stands} for {first}")]);
         rows.push(vec!["  asked".into(), "check".into(), format!("{first} is {}", passes(self.first_passes))]);
@@ -145,6 +151,6 @@ impl Ends<'_> {
         let object = object.str("answer", if self.unbroken { "unbroken" } else { "broken" }).raw("unbroken", self.unbroken);
         let given = self.given().iter().map(|part| json::string(part));
         let object = object.raw("theorem", json::array(given)).raw("last_stands_in", self.last_stands_in);
-        object.raw("first_compliant", self.first_passes).raw("last_compliant", self.last_passes)
+        object.raw("first_compliant", self.first_passes).raw("last_compliant", self.last_passes).raw("strict", self.strict)
     }
 }

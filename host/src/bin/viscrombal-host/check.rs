@@ -4,8 +4,9 @@ use std::io::Write;
 use std::path::{Path, PathBuf};
 
 use viscrombal::policy::{self, Domain, DomainVerdict, Policy};
-use viscrombal::{wasm, Verdict, LONGEST_MODULE, LONGEST_TEXT};
+use viscrombal::{wasm, Verdict, LONGEST_TEXT};
 
+use crate::args::Options;
 use crate::files::{self, or_stop, Stop, Trouble};
 use crate::json::{self, Object};
 use crate::work::{self, Progress};
@@ -40,12 +41,12 @@ fn needs(file: &[u8], domains: &[Domain]) -> viscrombal::Result<Vec<Need>> {
     Ok(wanted.map(|need| Need { domain: need.domain, source: need.source.into(), detail: need.detail.into() }).collect())
 }
 
-fn judge(path: &Path, policy: &Policy) -> Result<Checked, Trouble> {
-    Ok(checked(&files::read(path, LONGEST_MODULE)?, policy)?)
+fn judge(path: &Path, policy: &Policy, strict: bool) -> Result<Checked, Trouble> {
+    Ok(checked(&files::read_module(path, strict)?, policy)?)
 }
 
 /// Reads the policy, then every module.
-pub fn run(out: &mut dyn Write, modules: &[PathBuf], path: &Path, json: bool) -> Result<Status, Stop> {
+pub fn run(out: &mut dyn Write, modules: &[PathBuf], path: &Path, options: Options) -> Result<Status, Stop> {
     let text = or_stop("policy", path, files::read(path, LONGEST_TEXT))?;
     let policy = or_stop("policy", path, Policy::parse(&text))?;
     let progress = Progress::new();
@@ -53,12 +54,12 @@ pub fn run(out: &mut dyn Write, modules: &[PathBuf], path: &Path, json: bool) ->
     let mut answers = Vec::new();
     work::in_order(
         modules,
-        |path| judge(path, &policy),
+        |path| judge(path, &policy, options.strict),
         |i, answer| {
             status = status.max(status_of(&answer));
-            if json {
+            if options.json {
                 progress.clear();
-                writeln!(out, "{}", told(&modules[i], &answer))?;
+                writeln!(out, "{}", told(&modules[i], &answer, options.strict))?;
             } else {
                 answers.push(answer);
             }
@@ -67,8 +68,8 @@ pub fn run(out: &mut dyn Write, modules: &[PathBuf], path: &Path, json: bool) ->
         },
     )?;
     drop(progress);
-    if !json {
-        write!(out, "{}\n{}", stated(&policy, path), report(modules, &answers))?;
+    if !options.json {
+        write!(out, "{}\n{}", stated(&policy, path), report(modules, &answers, options.strict))?;
     }
     Ok(status)
 }
@@ -96,7 +97,7 @@ fn stance(allow: bool) -> &'static str {
 }
 
 /// The table of all files, why those that are not compliant are not, and how many there are of each.
-fn report(modules: &[PathBuf], answers: &[Result<Checked, Trouble>]) -> String {
+fn report(modules: &[PathBuf], answers: &[Result<Checked, Trouble>], strict: bool) -> String {
     let mut rows = vec![["file", "bytes"].into_iter().chain(Domain::EVERY.map(Domain::slug)).chain(["verdict"]).map(Into::into).collect()];
     let mut why = String::new();
     let mut counts = [0; 4];
@@ -115,7 +116,7 @@ fn report(modules: &[PathBuf], answers: &[Result<Checked, Trouble>]) -> String {
         }
     }
     let [pass, no, refused, unreadable] = counts.map(show::count);
-    let files = show::many(answers.len(), "file");
+    let files = show::many(answers.len(), "file") + if strict { ", read strictly" } else { "" };
     let table = show::table(&rows);
     let break_before = if why.is_empty() { "" } else { "\n" };
     format!("{table}{break_before}{why}\n{files}: {pass} compliant, {no} not compliant, {refused} refused, {unreadable} not readable\n")
@@ -171,10 +172,10 @@ impl Checked {
     }
 }
 
-fn told(path: &Path, answer: &Result<Checked, Trouble>) -> String {
+fn told(path: &Path, answer: &Result<Checked, Trouble>, strict: bool) -> String {
     let object = Object::default().path("file", path);
     let object = match answer {
-        Ok(checked) => checked.tell(object),
+        Ok(checked) => checked.tell(object).raw("strict", strict),
         Err(trouble) => trouble.tell(object),
     };
     object.done()

@@ -5,24 +5,24 @@ use std::path::Path;
 
 use viscrombal::compat::{self, Change, Compatibility};
 use viscrombal::wasm::{self, Module};
-use viscrombal::LONGEST_MODULE;
 
+use crate::args::Options;
 use crate::files::{self, or_stop, Stop};
 use crate::json::{self, Object};
 use crate::{show, Status};
 
 /// Reads both files, then compares them.
-pub fn run(out: &mut dyn Write, baseline: &Path, candidate: &Path, json: bool) -> Result<Status, Stop> {
-    let first = or_stop("baseline", baseline, files::read(baseline, LONGEST_MODULE))?;
-    let second = or_stop("candidate", candidate, files::read(candidate, LONGEST_MODULE))?;
+pub fn run(out: &mut dyn Write, baseline: &Path, candidate: &Path, options: Options) -> Result<Status, Stop> {
+    let first = or_stop("baseline", baseline, files::read_module(baseline, options.strict))?;
+    let second = or_stop("candidate", candidate, files::read_module(candidate, options.strict))?;
     let old = or_stop("baseline", baseline, wasm::parse(&first))?;
     let new = or_stop("candidate", candidate, wasm::parse(&second))?;
     let answer = or_stop("candidate", candidate, compat::compare_modules(&old, &new))?;
-    if json {
+    if options.json {
         let object = Object::default().path("baseline", baseline).path("candidate", candidate);
-        writeln!(out, "{}", tell(&answer, object).done())?;
+        writeln!(out, "{}", tell(&answer, object).raw("strict", options.strict).done())?;
     } else {
-        let rows = [sized("baseline", baseline, &old), sized("candidate", candidate, &new)];
+        let rows = [sized("baseline", baseline, &old, options.strict), sized("candidate", candidate, &new, options.strict)];
         writeln!(out, "{}", show::table(&rows))?;
         if !differences(&answer).is_empty() {
             writeln!(out, "{}", show::table(&differences(&answer)))?;
@@ -32,10 +32,11 @@ pub fn run(out: &mut dyn Write, baseline: &Path, candidate: &Path, json: bool) -
     Ok(Status::passing(answer.is_compatible()))
 }
 
-fn sized(what: &str, path: &Path, module: &Module) -> Vec<String> {
+fn sized(what: &str, path: &Path, module: &Module, strict: bool) -> Vec<String> {
     let bytes = show::many(module.byte_len(), "byte");
     let (imports, exports) = (show::many(module.imports().len(), "import"), show::many(module.exports().len(), "export"));
-    vec![what.into(), show::path(path), bytes, imports, exports]
+    let read = if strict { "read strictly" } else { "" };
+    vec![what.into(), show::path(path), bytes, imports, exports, read.into()]
 }
 
 /// Both lists as rows of one table.

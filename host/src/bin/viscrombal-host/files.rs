@@ -5,7 +5,7 @@ use std::fs::File;
 use std::io::{self, Read, Write};
 use std::path::{Path, PathBuf};
 
-use viscrombal::Refusal;
+use viscrombal::{wasm, Refusal, LONGEST_MODULE};
 
 use crate::json::Object;
 use crate::show;
@@ -51,6 +51,10 @@ impl Trouble {
             }
             Trouble::Refused(refusal) => {
                 let object = object.str("answer", "refused").raw("number", refusal.number()).raw("place", refusal.place());
+                let object = match refusal.rule() {
+                    Some(rule) => object.raw("rule", rule.number()),
+                    None => object,
+                };
                 object.str("refusal", refusal.kind().slug()).str("words", &refusal.to_string())
             }
         }
@@ -90,4 +94,13 @@ pub fn read(path: &Path, longest: usize) -> io::Result<Vec<u8>> {
     let mut bytes = Vec::new();
     File::open(path)?.take(longest as u64 + 1).read_to_end(&mut bytes)?;
     Ok(bytes)
+}
+
+/// A module's bytes, which must be read strictly where that is asked for.
+pub fn read_module(path: &Path, strict: bool) -> Result<Vec<u8>, Trouble> {
+    let file = read(path, LONGEST_MODULE)?;
+    if strict {
+        wasm::test_strict(&file)?;
+    }
+    Ok(file)
 }

@@ -20,13 +20,15 @@ use args::Command;
 use files::Stop;
 
 const USAGE: &str = "\
-usage: viscrombal-host [--json] check MODULE.. --policy FILE
-       viscrombal-host [--json] compare BASELINE CANDIDATE
-       viscrombal-host [--json] chain FIRST .. LAST --policy FILE
+usage: viscrombal-host [OPTIONS] check MODULE.. --policy FILE
+       viscrombal-host [OPTIONS] compare BASELINE CANDIDATE
+       viscrombal-host [OPTIONS] chain FIRST .. LAST --policy FILE
 
   check     holds each module against the policy
   compare   whether the candidate can stand in for the baseline, and why not
   chain     whether each build can stand in for the one before it, and what the theorem then gives for the last
+  --strict  a module that is not clean in what is read is refused, by the first of eight rules that it breaks, before anything else is
+            said of it. It is no validation: sections that are not read may hold anything
   --json    one object a line
 
 Exit status: 0 all pass; 1 not compliant, or cannot stand in; 2 refused, cannot be read, or wrong words.
@@ -55,9 +57,9 @@ impl Status {
 fn run(out: &mut dyn Write, command: &Command) -> io::Result<Status> {
     let (ended, json) = match command {
         Command::Help => return write!(out, "{USAGE}").map(|()| Status::Pass),
-        Command::Check { modules, policy, json } => (check::run(out, modules, policy, *json), *json),
-        Command::Compare { baseline, candidate, json } => (compare::run(out, baseline, candidate, *json), *json),
-        Command::Chain { builds, policy, json } => (chain::run(out, builds, policy, *json), *json),
+        Command::Check { modules, policy, options } => (check::run(out, modules, policy, *options), options.json),
+        Command::Compare { baseline, candidate, options } => (compare::run(out, baseline, candidate, *options), options.json),
+        Command::Chain { builds, policy, options } => (chain::run(out, builds, policy, *options), options.json),
     };
     match ended {
         Ok(status) => Ok(status),
