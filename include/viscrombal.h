@@ -1,5 +1,6 @@
 /* The C interface of Viscrombal: crate capi, `rt staticlib capi`, x86-64.
- * Every call answers every input. A byte slice is a pointer and a length; a slice of no bytes may have any pointer but NULL.
+ * Every call answers every input. A byte slice is a pointer and a length; a slice of no bytes may have any pointer but NULL. So the room that
+ * a call needs is asked for by lending none: a room of 0 at any byte of the caller's. It is refused, 16 at the bytes needed, or needs none.
  * Every answer begins with `number` and `place`: 0 and 0 where the call accepts, else a refusal of docs/RULES.md and its place,
  * and then everything else in the answer is zero. */
 #ifndef VISCROMBAL_H

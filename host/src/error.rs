@@ -2,6 +2,8 @@
 
 use std::fmt;
 
+use crate::ffi::INTERFACE;
+
 /// What the calls of this crate answer.
 pub type Result<T> = std::result::Result<T, Refusal>;
 
@@ -10,32 +12,35 @@ pub type Error = Refusal;
 
 /// The refusals, by their numbers.
 #[derive(Debug, Clone, Copy, PartialEq, Eq, PartialOrd, Ord, Hash)]
+#[non_exhaustive]
 #[allow(missing_docs)]
 pub enum ErrorKind {
+    /// No refusal of the rules, and nothing that a file can bring about: the archive that was linked is of another version.
+    OtherArchive = 0,
     UnexpectedEof = 1,
-    BadMagic,
-    BadLeb128,
-    BadUtf8,
-    MalformedSection,
-    Directive,
-    BadDefault,
-    BadDomain,
-    PackageInWorld,
-    NoName,
-    Unmatched,
-    Outside,
-    Full,
-    TooLong,
-    BadTable,
-    NoRoom,
+    BadMagic = 2,
+    BadLeb128 = 3,
+    BadUtf8 = 4,
+    MalformedSection = 5,
+    Directive = 6,
+    BadDefault = 7,
+    BadDomain = 8,
+    PackageInWorld = 9,
+    NoName = 10,
+    Unmatched = 11,
+    Outside = 12,
+    Full = 13,
+    TooLong = 14,
+    BadTable = 15,
+    NoRoom = 16,
     NotStrict = 20,
 }
 
 use ErrorKind::*;
 
 impl ErrorKind {
-    /// Every kind, in the order of the numbers, 1 to 16 and 20.
-    pub const ALL: [ErrorKind; 17] = [
+    /// The refusals of the rules, in the order of their numbers.
+    pub const ALL: &'static [ErrorKind] = &[
         UnexpectedEof,
         BadMagic,
         BadLeb128,
@@ -55,7 +60,7 @@ impl ErrorKind {
         NotStrict,
     ];
 
-    /// 1 to 16, or 20.
+    /// The number of the rules, 1 to 16 or 20; 0 where the archive is of another version.
     pub fn number(self) -> u32 {
         self as u32
     }
@@ -63,6 +68,7 @@ impl ErrorKind {
     /// The name in words.
     pub fn words(self) -> &'static str {
         match self {
+            OtherArchive => "the archive is of another version",
             UnexpectedEof => "the bytes end too soon",
             BadMagic => "not a WebAssembly module",
             BadLeb128 => "a number that is too long or too big",
@@ -86,6 +92,7 @@ impl ErrorKind {
     /// A stable slug, for reports.
     pub fn slug(self) -> &'static str {
         match self {
+            OtherArchive => "other-archive",
             UnexpectedEof => "unexpected-eof",
             BadMagic => "bad-magic",
             BadLeb128 => "bad-leb128",
@@ -173,14 +180,19 @@ pub struct Refusal {
 }
 
 impl Refusal {
-    /// What this crate answers where the archive hands back what it cannot: it is an archive of another interface.
-    pub(crate) const STRANGE: Refusal = Refusal { kind: BadTable, place: 0 };
+    /// What this crate answers where the archive hands back what its interface cannot.
+    pub(crate) const STRANGE: Refusal = Refusal::other_archive(INTERFACE);
+
+    /// Of an archive that has this interface.
+    pub(crate) const fn other_archive(interface: u32) -> Refusal {
+        Refusal { kind: OtherArchive, place: interface as usize }
+    }
 
     /// A number and a place from the archive.
     pub(crate) fn told(number: u32, place: usize) -> Refusal {
-        match ErrorKind::ALL.into_iter().find(|kind| kind.number() == number) {
+        match ErrorKind::ALL.iter().find(|kind| kind.number() == number) {
             Some(NotStrict) if StrictRule::numbered(place).is_none() => Refusal::STRANGE,
-            Some(kind) => Refusal { kind, place },
+            Some(&kind) => Refusal { kind, place },
             None => Refusal::STRANGE,
         }
     }
@@ -190,13 +202,13 @@ impl Refusal {
         self.kind
     }
 
-    /// Its number, 1 to 16, or 20.
+    /// Its number: [`ErrorKind::number`].
     pub fn number(&self) -> u32 {
         self.kind.number()
     }
 
     /// Its place, as docs/RULES.md has it for each number: an offset of what was being read (the file, a section's payload, a
-    /// subsection), a line, a table's number, a kind's byte, bytes needed, or a rule of strict reading.
+    /// subsection), a line, a table's number, a kind's byte, bytes needed, or a rule of strict reading. Of another archive, its interface.
     pub fn place(&self) -> usize {
         self.place
     }
@@ -213,8 +225,13 @@ impl Refusal {
 impl fmt::Display for Refusal {
     fn fmt(&self, f: &mut fmt::Formatter<'_>) -> fmt::Result {
         let place = self.place;
-        write!(f, "refused {} at {place}: {}", self.number(), self.kind.words())?;
         match self.kind {
+            OtherArchive => write!(f, "{}: ", self.kind.words())?,
+            _ => write!(f, "refused {} at {place}: {}", self.number(), self.kind.words())?,
+        }
+        match self.kind {
+            OtherArchive if place == INTERFACE as usize => write!(f, "an answer that interface {place} does not have"),
+            OtherArchive => write!(f, "it has interface {place}, and {INTERFACE} is asked for"),
             UnexpectedEof | BadMagic | BadLeb128 | BadUtf8 => write!(f, " (offset {place})"),
             MalformedSection => write!(f, " (its byte is {place:#04x})"),
             Directive | BadDefault | BadDomain | PackageInWorld | NoName | Unmatched | Outside => write!(f, " (line {place})"),
@@ -237,5 +254,21 @@ fn table(number: usize) -> &'static str {
         5 => "worlds",
         6 => "references",
         _ => "rows",
+    }
+}
+
+#[cfg(test)]
+mod tests {
+    use super::*;
+
+    #[test]
+    fn another_archive_is_told_in_words() {
+        for (number, place) in [(99, 0), (20, 0), (20, 9), (u32::MAX, 7)] {
+            let refusal = Refusal::told(number, place);
+            assert_eq!((refusal.kind(), refusal.number()), (OtherArchive, 0));
+            assert_eq!(refusal.to_string(), "the archive is of another version: an answer that interface 1 does not have");
+        }
+        let words = "the archive is of another version: it has interface 2, and 1 is asked for";
+        assert_eq!(Refusal::other_archive(2).to_string(), words);
     }
 }

@@ -3,7 +3,12 @@
 //! What the interface asks of its caller holds by the types: a Rust slice is never at NULL, and `out`, lent for writing alone,
 //! overlaps no input. Marks (C's bool) are taken as bytes, so that no value of them is undefined.
 
+use std::sync::OnceLock;
+
 use crate::error::{Refusal, Result};
+
+mod layout;
+pub use layout::INTERFACE;
 
 /// Every answer begins with a number and a place: 0 and 0 where the call accepts.
 #[repr(C)]
@@ -113,6 +118,7 @@ pub struct Comparison {
 }
 
 extern "C" {
+    fn viscrombal_interface() -> u32;
     fn viscrombal_policy(text: *const u8, len: usize) -> Told<Policy>;
     fn viscrombal_tokens(text: *const u8, len: usize, domain: usize, out: *mut u8, room: usize) -> Told<Tokens>;
     fn viscrombal_rewrite(text: *const u8, len: usize, out: *mut u8, room: usize) -> Told<Written>;
@@ -130,37 +136,54 @@ extern "C" {
     ) -> Told<Comparison>;
 }
 
+/// Whether the archive has the interface of the header that this file was written from. It is asked once.
+pub fn interface() -> Result<()> {
+    static ITS: OnceLock<u32> = OnceLock::new();
+    // SAFETY: the call takes nothing and gives a number, in every version.
+    match *ITS.get_or_init(|| unsafe { viscrombal_interface() }) {
+        INTERFACE => Ok(()),
+        other => Err(Refusal::other_archive(other)),
+    }
+}
+
+/// What a call says, which is made only where the archive has this interface.
+fn told<T>(call: impl FnOnce() -> Told<T>) -> Result<T> {
+    interface()?;
+    call().accepted()
+}
+
 // SAFETY, of every call below: each pointer and length are those of a slice that is borrowed for the call.
 
 pub fn policy(text: &[u8]) -> Result<Policy> {
-    unsafe { viscrombal_policy(text.as_ptr(), text.len()) }.accepted()
+    told(|| unsafe { viscrombal_policy(text.as_ptr(), text.len()) })
 }
 
 pub fn tokens(text: &[u8], domain: usize, out: &mut [u8]) -> Result<Tokens> {
-    unsafe { viscrombal_tokens(text.as_ptr(), text.len(), domain, out.as_mut_ptr(), out.len()) }.accepted()
+    told(|| unsafe { viscrombal_tokens(text.as_ptr(), text.len(), domain, out.as_mut_ptr(), out.len()) })
 }
 
 pub fn rewrite(text: &[u8], out: &mut [u8]) -> Result<Written> {
-    unsafe { viscrombal_rewrite(text.as_ptr(), text.len(), out.as_mut_ptr(), out.len()) }.accepted()
+    told(|| unsafe { viscrombal_rewrite(text.as_ptr(), text.len(), out.as_mut_ptr(), out.len()) })
 }
 
 pub fn check(file: &[u8], text: &[u8]) -> Result<Evaluation> {
-    unsafe { viscrombal_check(file.as_ptr(), file.len(), text.as_ptr(), text.len()) }.accepted()
+    told(|| unsafe { viscrombal_check(file.as_ptr(), file.len(), text.as_ptr(), text.len()) })
 }
 
 pub fn strict(file: &[u8]) -> Result<()> {
+    interface()?;
     unsafe { viscrombal_strict(file.as_ptr(), file.len()) }.accepted()
 }
 
 pub fn module(file: &[u8], out: &mut [u8]) -> Result<Module> {
-    unsafe { viscrombal_module(file.as_ptr(), file.len(), out.as_mut_ptr(), out.len()) }.accepted()
+    told(|| unsafe { viscrombal_module(file.as_ptr(), file.len(), out.as_mut_ptr(), out.len()) })
 }
 
 pub fn manifest(text: &[u8], out: &mut [u8]) -> Result<Manifest> {
-    unsafe { viscrombal_manifest(text.as_ptr(), text.len(), out.as_mut_ptr(), out.len()) }.accepted()
+    told(|| unsafe { viscrombal_manifest(text.as_ptr(), text.len(), out.as_mut_ptr(), out.len()) })
 }
 
 pub fn compare(baseline: &[u8], candidate: &[u8], out: &mut [u8]) -> Result<Comparison> {
     let (b, c) = (baseline, candidate);
-    unsafe { viscrombal_compare(b.as_ptr(), b.len(), c.as_ptr(), c.len(), out.as_mut_ptr(), out.len()) }.accepted()
+    told(|| unsafe { viscrombal_compare(b.as_ptr(), b.len(), c.as_ptr(), c.len(), out.as_mut_ptr(), out.len()) })
 }

@@ -60,6 +60,15 @@ pub mod wit;
 pub use error::{Error, ErrorKind, Refusal, Result, StrictRule};
 pub use policy::{check, Verdict};
 
+/// The interface of the archive that this crate was written for: `VISCROMBAL_INTERFACE` of the header.
+pub const INTERFACE: u32 = ffi::INTERFACE;
+
+/// Whether the archive that was linked has that interface, which it is asked once. Every call asks this first, and is refused by
+/// [`ErrorKind::OtherArchive`] where it has not.
+pub fn interface() -> Result<()> {
+    ffi::interface()
+}
+
 /// The longest file of a module that is read, in bytes: a longer one is refused, 14.
 pub const LONGEST_MODULE: usize = 16_777_216;
 

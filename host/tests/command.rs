@@ -5,9 +5,11 @@ mod common;
 use std::env;
 use std::ffi::{OsStr, OsString};
 use std::fs::{self, File};
+use std::io::Write;
 use std::os::unix::ffi::OsStrExt;
+use std::os::unix::fs::symlink;
 use std::path::{Path, PathBuf};
-use std::process::{Command, Stdio};
+use std::process::{Command, Output, Stdio};
 
 use common::{bomb, bytes, damaged, folder, long, module, samples};
 use viscrombal::LONGEST_MODULE;
@@ -33,10 +35,21 @@ fn command() -> Command {
 }
 
 fn run(command: &mut Command) -> Ran {
-    let output = command.output().unwrap();
+    ran(command.output().unwrap())
+}
+
+fn ran(output: Output) -> Ran {
     let text = |bytes| String::from_utf8(bytes).expect("the command writes text");
     let status = output.status.code().expect("a signal ended it");
     Ran { status, out: text(output.stdout), err: text(output.stderr) }
+}
+
+/// The same with these bytes on standard input.
+fn run_with(command: &mut Command, input: &[u8]) -> Ran {
+    let mut child = command.stdin(Stdio::piped()).stdout(Stdio::piped()).stderr(Stdio::piped()).spawn().unwrap();
+    // a command that stops before it has read them closes the pipe
+    let _ = child.stdin.take().unwrap().write_all(input);
+    ran(child.wait_with_output().unwrap())
 }
 
 fn check(files: &[OsString], policy: &OsStr, options: &[&str]) -> Ran {
@@ -327,21 +340,21 @@ fn hostile_policies() {
 #[test]
 fn names_cannot_forge_a_line() {
     let place = place("names");
-    let evil = "x\nall.wasm can stand in\r\u{1b}[2K\u{202e}\u{2028}\u{7f}\u{85}\"\\";
+    let evil = "x\nall.wasm can stand in\r\u{1b}[2K\u{202e}\u{2028}\u{7f}\u{85}\"\\\u{5d0}\u{661}";
     let old = write(&place, OsStr::from_bytes(b"old\xff\n.wasm"), &module(&[("a", "b")], &[(evil, 0)], &[""; 0]));
     let new = write(&place, format!("{}.wasm", &evil[..20].replace('/', "")), &module(&[(evil, evil)], &[("e", 0)], &[""; 0]));
     let policy = write(&place, "p\n.policy", format!("policy {}", evil.replace('\n', " ")).as_bytes());
     let both = [old.clone(), new.clone()];
     for ran in [compare(&old, &new, &[]), check(&both, &policy, &[]), chain(&both, &policy, &[])] {
         assert_eq!(ran.status, 1);
-        assert!(is_plain(&ran.out) && !ran.out.contains(['\u{202e}', '\u{2028}']), "{}", ran.out);
+        assert!(is_plain(&ran.out) && !ran.out.contains(['\u{202e}', '\u{2028}', '\u{5d0}', '\u{661}']), "{}", ran.out);
         assert!(ran.out.lines().all(|line| !line.starts_with("all.wasm")), "{}", ran.out);
         assert!(ran.out.contains(r"\xff\n.wasm"), "{}", ran.out);
     }
     let lines = [compare(&old, &new, &["--json"]), check(&both, &policy, &["--json"]), chain(&both, &policy, &["--json"])];
     assert_eq!(lines.map(|ran| objects(&ran.out).len()), [1, 2, 2]);
     let told = compare(&old, &new, &["--json"]).out;
-    assert!(told.contains(r#""name":"x\u000aall.wasm can stand in\u000d\u001b[2K\u202e\u2028\u007f\u0085\"\\""#), "{told}");
+    assert!(told.contains(r#""name":"x\u000aall.wasm can stand in\u000d\u001b[2K\u202e\u2028\u007f\u0085\"\\\u05d0\u0661""#), "{told}");
     assert!(told.contains(r"old\ufffd\u000a.wasm") && told.contains("ff0a2e7761736d\""), "{told}");
 }
 
@@ -400,10 +413,98 @@ fn what_a_chain_gives() {
 fn wrong_words() {
     for words in [&[][..], &["check"], &["check", "a"], &["compare", "a"], &["chain", "a", "--policy", "p"], &["check", "--json=1"]] {
         let ran = run(command().args(words));
-        assert_eq!((ran.status, ran.out.as_str()), (2, ""), "{words:?}");
+        assert_eq!((ran.status, ran.out.as_str()), (64, ""), "{words:?}");
         assert!(ran.err.starts_with("viscrombal-host: ") && ran.err.contains("usage:"), "{}", ran.err);
     }
     assert_eq!(run(command().arg("--help")).status, 0);
+    assert_eq!(check(&[of_sample("no.wasm")], &of_sample("portal.policy"), &[]).status, 2, "a file is no word");
+}
+
+#[test]
+fn what_was_built() {
+    let ran = run(command().arg("--version"));
+    let lines: Vec<_> = ran.out.lines().collect();
+    let [name, interface, kit, archive] = lines[..] else { panic!("{}", ran.out) };
+    assert_eq!((ran.status, ran.err.as_str()), (0, ""));
+    assert_eq!(name, concat!("viscrombal-host ", env!("CARGO_PKG_VERSION")));
+    assert_eq!(interface, format!("interface {}", viscrombal::INTERFACE));
+    assert!(kit.len() > "kit ".len() && kit.starts_with("kit "), "{kit}");
+    // build.rs sums the archive that it links; that is held to sha256sum
+    let folder = env::var("VISCROMBAL_ARCHIVE").unwrap_or_else(|_| "../target/staticlib".into());
+    let file = Path::new(env!("CARGO_MANIFEST_DIR")).join(folder).join("libcapi.a");
+    let sum = Command::new("sha256sum").arg(file).output().unwrap().stdout;
+    assert_eq!(archive, format!("archive {}", String::from_utf8_lossy(&sum[..64])));
+}
+
+#[test]
+fn the_policy_is_named() {
+    let portal = of_sample("portal.policy");
+    let sum = "39a571d0eb909650abed8e2b15078782c4910cf0609b8543d86fc72d9e5f940a";
+    let named = format!(r#""policy":"{}","policy_name":"portal","policy_sum":"{sum}","#, portal.to_str().unwrap());
+    let files = [of_sample("tide.wasm"), of_sample("README.md"), of_sample("no.wasm")];
+    for line in objects(&check(&files, &portal, &["--json"]).out) {
+        assert!(line.contains(&named), "{line}");
+    }
+    let ran = chain(&[of_sample("contours-1.wasm"), of_sample("contours-3.wasm")], &portal, &["--json"]);
+    assert!(objects(&ran.out)[1].contains(&named), "{}", ran.out);
+    let text = fs::read(&portal).unwrap();
+    let ran = run_with(command().args(["check", "--json", "--policy", "-"]).arg(of_sample("tide.wasm")), &text);
+    assert!(ran.status == 0 && ran.out.contains(&format!(r#""policy":"-","policy_name":"portal","policy_sum":"{sum}","#)), "{}", ran.out);
+}
+
+#[test]
+fn standard_input() {
+    let portal = of_sample("portal.policy");
+    let (tide, feed) = (fs::read(of_sample("tide.wasm")).unwrap(), fs::read(of_sample("feed.wasm")).unwrap());
+    let check = |input: &[u8]| run_with(command().args(["check", "-", "--json", "--policy"]).arg(&portal), input);
+    for (input, status, told) in [
+        (&tide[..], 0, r#"{"file":"-","#),
+        (&feed, 1, r#""answer":"not compliant","bytes":568,"#),
+        (&[], 2, r#""answer":"refused","number":1,"place":0,"#),
+        (&tide[..9], 2, r#""answer":"refused","number":1,"place":9,"#),
+        (&long(LONGEST_MODULE + 1), 2, r#""answer":"refused","number":14,"#),
+    ] {
+        let ran = check(input);
+        assert!(ran.status == status && ran.out.contains(told), "{} {}", ran.status, ran.out);
+    }
+    let ran = run_with(command().arg("compare").arg("-").arg(of_sample("tide.wasm")), &tide);
+    assert!(ran.status == 0 && ran.out.contains("baseline   -  "), "{}", ran.out);
+    let ran = run_with(command().args(["chain", "-"]).args([of_sample("contours-3.wasm"), "--policy".into(), portal]), &tide);
+    assert!(ran.status == 1 && ran.out.contains(" cannot stand in for -: "), "{}", ran.out);
+    let place = place("dash");
+    write(&place, "-", &tide);
+    let words = [OsStr::new("check"), OsStr::new("--policy"), &of_sample("portal.policy"), OsStr::new("--"), OsStr::new("-")];
+    assert_eq!(run_with(command().current_dir(&place).args(words), &feed).status, 0, "after -- it is the file of that name");
+}
+
+#[test]
+fn a_folder_is_walked() {
+    let place = place("folder");
+    let (tide, feed) = (fs::read(of_sample("tide.wasm")).unwrap(), fs::read(of_sample("feed.wasm")).unwrap());
+    let below = place.join("b").join("c");
+    fs::create_dir_all(&below).unwrap();
+    fs::create_dir(place.join("empty")).unwrap();
+    for (folder, name) in [(&place, "z.wasm"), (&below, "a.wasm"), (&below, "b.wat"), (&place, "a.wasm"), (&place, "a.wasm.bak")] {
+        write(folder, name, &tide);
+    }
+    write(&place.join("b"), "x.wasm", &feed);
+    symlink(&place, place.join("round")).unwrap();
+    symlink("nowhere", place.join("lost.wasm")).unwrap();
+    symlink(place.join("b"), place.join("b.wasm")).unwrap();
+    let files = |ran: &Ran| {
+        let files = objects(&ran.out).into_iter().map(|line| line.split('"').nth(3).unwrap().to_string());
+        files.map(|file| file.strip_prefix(place.to_str().unwrap()).unwrap().to_string()).collect::<Vec<_>>()
+    };
+    let all = [place.clone().into(), place.join("empty").into()];
+    let ran = check(&all, &of_sample("portal.policy"), &["--recursive", "--json"]);
+    assert_eq!(files(&ran), ["/a.wasm", "/b/c/a.wasm", "/b/x.wasm", "/lost.wasm", "/z.wasm", "/empty"]);
+    let lines = objects(&ran.out);
+    assert!(ran.status == 2 && lines[3].contains(r#""os_error":2,"#) && lines[5].contains(r#""os_error":21,"#), "{}", ran.out);
+    assert!(lines[2].contains(r#""answer":"not compliant""#) && lines[4].contains(r#""answer":"compliant""#), "{}", ran.out);
+    let ran = check(&all[..1], &of_sample("portal.policy"), &["--json"]);
+    assert!(ran.status == 2 && ran.out.contains(r#""os_error":21,"#), "a folder is no file: {}", ran.out);
+    let file = [of_sample("tide.wasm")];
+    assert_eq!(check(&file, &of_sample("portal.policy"), &["--recursive"]).status, 0, "a file stands for itself");
 }
 
 #[test]

@@ -10,12 +10,12 @@ use std::path::{Path, PathBuf};
 
 use viscrombal::compat::{self, Compatibility};
 use viscrombal::policy::Policy;
-use viscrombal::{wasm, LONGEST_TEXT};
+use viscrombal::wasm;
 
 use crate::args::Options;
 use crate::check::{self, Checked};
 use crate::compare;
-use crate::files::{self, or_stop, Stop};
+use crate::files::{self, or_stop, Asked, Stop};
 use crate::json::Object;
 use crate::work::Progress;
 use crate::{json, show, Status};
@@ -56,7 +56,7 @@ struct Ends<'a> {
 
 /// Reads the policy, then build after build.
 pub fn run(out: &mut dyn Write, builds: &[PathBuf], path: &Path, options: Options) -> Result<Status, Stop> {
-    let text = or_stop("policy", path, files::read(path, LONGEST_TEXT))?;
+    let text = files::read_policy(path)?;
     let policy = or_stop("policy", path, Policy::parse(&text))?;
     let progress = Progress::new();
     let mut lines = Vec::new();
@@ -68,7 +68,7 @@ pub fn run(out: &mut dyn Write, builds: &[PathBuf], path: &Path, options: Option
     out.write_all(&lines)?;
     let ends = ends?;
     if options.json {
-        writeln!(out, "{}", ends.tell(Object::default().path("policy", path)).done())?;
+        writeln!(out, "{}", ends.tell(Asked::new(path, &policy).tell(Object::default())).done())?;
     } else {
         write!(out, "{}", ends.words(path))?;
     }

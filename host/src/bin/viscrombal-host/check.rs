@@ -4,10 +4,10 @@ use std::io::Write;
 use std::path::{Path, PathBuf};
 
 use viscrombal::policy::{self, Domain, DomainVerdict, Policy};
-use viscrombal::{wasm, Verdict, LONGEST_TEXT};
+use viscrombal::{wasm, Verdict};
 
 use crate::args::Options;
-use crate::files::{self, or_stop, Stop, Trouble};
+use crate::files::{self, or_stop, Asked, Stop, Trouble};
 use crate::json::{self, Object};
 use crate::work::{self, Progress};
 use crate::{show, Status};
@@ -47,8 +47,10 @@ fn judge(path: &Path, policy: &Policy, strict: bool) -> Result<Checked, Trouble>
 
 /// Reads the policy, then every module.
 pub fn run(out: &mut dyn Write, modules: &[PathBuf], path: &Path, options: Options) -> Result<Status, Stop> {
-    let text = or_stop("policy", path, files::read(path, LONGEST_TEXT))?;
+    let text = files::read_policy(path)?;
     let policy = or_stop("policy", path, Policy::parse(&text))?;
+    let asked = Asked::new(path, &policy);
+    let modules = &if options.recursive { modules.iter().flat_map(|path| files::walked(path)).collect() } else { modules.to_vec() };
     let progress = Progress::new();
     let mut status = Status::Pass;
     let mut answers = Vec::new();
@@ -59,7 +61,8 @@ pub fn run(out: &mut dyn Write, modules: &[PathBuf], path: &Path, options: Optio
             status = status.max(status_of(&answer));
             if options.json {
                 progress.clear();
-                writeln!(out, "{}", told(&modules[i], &answer, options.strict))?;
+                let object = asked.tell(Object::default().path("file", &modules[i]));
+                writeln!(out, "{}", told(object, &answer, options.strict))?;
             } else {
                 answers.push(answer);
             }
@@ -172,8 +175,7 @@ impl Checked {
     }
 }
 
-fn told(path: &Path, answer: &Result<Checked, Trouble>, strict: bool) -> String {
-    let object = Object::default().path("file", path);
+fn told(object: Object, answer: &Result<Checked, Trouble>, strict: bool) -> String {
     let object = match answer {
         Ok(checked) => checked.tell(object).raw("strict", strict),
         Err(trouble) => trouble.tell(object),

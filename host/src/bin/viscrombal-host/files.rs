@@ -1,14 +1,17 @@
 //! Reading files, and what can be wrong with one.
 
+use std::ffi::OsStr;
 use std::fmt;
-use std::fs::File;
+use std::fs::{self, File};
 use std::io::{self, Read, Write};
 use std::path::{Path, PathBuf};
 
-use viscrombal::{wasm, Refusal, LONGEST_MODULE};
+use viscrombal::policy::Policy;
+use viscrombal::{wasm, Refusal, LONGEST_MODULE, LONGEST_TEXT};
 
+use crate::args::INPUT;
 use crate::json::Object;
-use crate::show;
+use crate::{sha256, show};
 
 /// Why there is no answer on a file.
 pub enum Trouble {
@@ -89,11 +92,39 @@ pub fn report(out: &mut dyn Write, what: &str, path: &Path, trouble: &Trouble, j
     }
 }
 
-/// A file's bytes, of a longer one the first `longest` and one more: enough for the archive to refuse it.
-pub fn read(path: &Path, longest: usize) -> io::Result<Vec<u8>> {
+/// A file's bytes, or those of standard input; of a longer one the first `longest` and one more: enough for the archive to refuse it.
+fn read(path: &Path, longest: usize) -> io::Result<Vec<u8>> {
     let mut bytes = Vec::new();
-    File::open(path)?.take(longest as u64 + 1).read_to_end(&mut bytes)?;
+    let most = longest as u64 + 1;
+    if path == Path::new(INPUT) {
+        io::stdin().lock().take(most).read_to_end(&mut bytes)?;
+    } else {
+        File::open(path)?.take(most).read_to_end(&mut bytes)?;
+    }
     Ok(bytes)
+}
+
+/// A policy's text.
+pub fn read_policy(path: &Path) -> Result<Vec<u8>, Stop> {
+    or_stop("policy", path, read(path, LONGEST_TEXT))
+}
+
+/// Which policy was asked: where it was read from, its name, and the SHA-256 of its text.
+pub struct Asked<'a> {
+    path: &'a Path,
+    name: &'a str,
+    sum: String,
+}
+
+impl<'a> Asked<'a> {
+    pub fn new(path: &'a Path, policy: &Policy<'a>) -> Asked<'a> {
+        Asked { path, name: policy.name(), sum: sha256::sum(policy.text()) }
+    }
+
+    /// The same as fields of an object.
+    pub fn tell(&self, object: Object) -> Object {
+        object.path("policy", self.path).str("policy_name", self.name).str("policy_sum", &self.sum)
+    }
 }
 
 /// A module's bytes, which must be read strictly where that is asked for.
@@ -103,4 +134,34 @@ pub fn read_module(path: &Path, strict: bool) -> Result<Vec<u8>, Trouble> {
         wasm::test_strict(&file)?;
     }
     Ok(file)
+}
+
+/// The modules below a folder: plain files whose names end in `.wasm`, and links to such, by name, folder after folder. Links to folders are
+/// not followed. A folder that has none, or that cannot be listed, is left as it is, and then cannot be read. Any other path stands for
+/// itself.
+pub fn walked(path: &Path) -> Vec<PathBuf> {
+    let found = if path.is_dir() { below(path) } else { Ok(Vec::new()) };
+    match found {
+        Ok(files) if !files.is_empty() => files,
+        _ => vec![path.into()],
+    }
+}
+
+fn below(folder: &Path) -> io::Result<Vec<PathBuf>> {
+    let mut entries = fs::read_dir(folder)?.collect::<io::Result<Vec<_>>>()?;
+    entries.sort_by_key(|entry| entry.file_name());
+    let mut files = Vec::new();
+    for entry in entries {
+        let path = entry.path();
+        if entry.file_type()?.is_dir() {
+            match below(&path) {
+                Ok(more) => files.extend(more),
+                Err(_) => files.push(path),
+            }
+        } else if path.extension() == Some(OsStr::new("wasm")) && fs::metadata(&path).map_or(true, |target| target.is_file()) {
+            // a link that leads nowhere is kept, and told as a file that cannot be read
+            files.push(path);
+        }
+    }
+    Ok(files)
 }

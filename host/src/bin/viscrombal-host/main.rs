@@ -8,16 +8,19 @@ mod check;
 mod compare;
 mod files;
 mod json;
+mod sha256;
 mod show;
 mod work;
 
 use std::env;
+use std::ffi::OsString;
 use std::fmt::Display;
 use std::io::{self, Write};
 use std::process::ExitCode;
 
 use args::Command;
 use files::Stop;
+use viscrombal::INTERFACE;
 
 const USAGE: &str = "\
 usage: viscrombal-host [OPTIONS] check MODULE.. --policy FILE
@@ -27,12 +30,21 @@ usage: viscrombal-host [OPTIONS] check MODULE.. --policy FILE
   check     holds each module against the policy
   compare   whether the candidate can stand in for the baseline, and why not
   chain     whether each build can stand in for the one before it, and what the theorem then gives for the last
-  --strict  a module that is not clean in what is read is refused, by the first of eight rules that it breaks, before anything else is
-            said of it. It is no validation: sections that are not read may hold anything
-  --json    one object a line
+  --strict     a module that is not clean in what is read is refused, by the lowest of eight rules that it breaks, before anything else
+               is said of it. It is no validation: sections that are not read may hold anything
+  --recursive  a folder among the modules of check stands for the files below it whose names end in .wasm
+  --json       one object a line
+  --version    the version, the interface, and the archive by the kit that proved it and by its sum
 
-Exit status: 0 all pass; 1 not compliant, or cannot stand in; 2 refused, cannot be read, or wrong words.
+A file named - is standard input.
+Exit status: 0 all pass; 1 not compliant, or cannot stand in; 2 refused, or cannot be read; 64 wrong words.
 ";
+
+/// What was built; host/build.rs gives the kit, and the SHA-256 of the archive.
+fn version() -> String {
+    let (version, kit, archive) = (env!("CARGO_PKG_VERSION"), env!("VISCROMBAL_KIT"), env!("VISCROMBAL_SUM"));
+    format!("viscrombal-host {version}\ninterface {INTERFACE}\nkit {kit}\narchive {archive}\n")
+}
 
 /// The exit status; of several the worst is given.
 #[derive(Debug, Clone, Copy, PartialEq, Eq, PartialOrd, Ord)]
@@ -40,6 +52,7 @@ pub enum Status {
     Pass = 0,
     No = 1,
     Refused = 2,
+    Usage = 64,
 }
 
 impl Status {
@@ -57,6 +70,7 @@ impl Status {
 fn run(out: &mut dyn Write, command: &Command) -> io::Result<Status> {
     let (ended, json) = match command {
         Command::Help => return write!(out, "{USAGE}").map(|()| Status::Pass),
+        Command::Version => return write!(out, "{}", version()).map(|()| Status::Pass),
         Command::Check { modules, policy, options } => (check::run(out, modules, policy, *options), options.json),
         Command::Compare { baseline, candidate, options } => (compare::run(out, baseline, candidate, *options), options.json),
         Command::Chain { builds, policy, options } => (chain::run(out, builds, policy, *options), options.json),
@@ -69,19 +83,27 @@ fn run(out: &mut dyn Write, command: &Command) -> io::Result<Status> {
 }
 
 /// A fault of the command itself, on standard error; where that is closed too, the status alone tells.
-fn fault(words: impl Display) -> Status {
+fn fault(status: Status, words: impl Display) -> Status {
     let _ = writeln!(io::stderr(), "viscrombal-host: {words}");
-    Status::Refused
+    status
+}
+
+/// What the words ask for.
+fn answer(words: impl Iterator<Item = OsString>) -> Status {
+    let command = match args::parse(words) {
+        Ok(command) => command,
+        Err(wrong) => return fault(Status::Usage, format_args!("{wrong}\n{}", USAGE.trim_end())),
+    };
+    if let Err(other) = viscrombal::interface() {
+        return fault(Status::Refused, other);
+    }
+    let mut out = io::stdout().lock();
+    match run(&mut out, &command).and_then(|status| out.flush().map(|()| status)) {
+        Ok(status) => status,
+        Err(error) => fault(Status::Refused, format_args!("cannot write: {error}")),
+    }
 }
 
 fn main() -> ExitCode {
-    let mut out = io::stdout().lock();
-    let status = match args::parse(env::args_os().skip(1)) {
-        Err(words) => fault(format_args!("{words}\n{}", USAGE.trim_end())),
-        Ok(command) => match run(&mut out, &command).and_then(|status| out.flush().map(|()| status)) {
-            Ok(status) => status,
-            Err(error) => fault(format_args!("cannot write: {error}")),
-        },
-    };
-    ExitCode::from(status as u8)
+    ExitCode::from(answer(env::args_os().skip(1)) as u8)
 }

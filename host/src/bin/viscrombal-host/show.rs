@@ -1,13 +1,28 @@
 //! Words and tables for a person. Whatever came from a file or its name is shown so that it cannot break or reorder a line.
 
 use std::fmt::Write;
+use std::ops::RangeInclusive;
 use std::os::unix::ffi::OsStrExt;
 use std::path::Path;
 
 /// Names longer than this are cut where they are shown.
 const LONGEST: usize = 96;
 
-/// Bytes as they are where they are plain, else in quotes, and what is no printable character as an escape.
+/// Where all characters stand that are written from right to left, numbers of such scripts, and the marks and controls of direction: the
+/// blocks of Unicode's bidirectional classes R, AL and AN, LRM and RLM, embeddings, overrides and isolates. One of them would move what
+/// stands beside it on a line, numbers of a table too.
+const TURNING: [RangeInclusive<char>; 8] = [
+    '\u{590}'..='\u{8ff}',
+    '\u{200e}'..='\u{200f}',
+    '\u{202a}'..='\u{202e}',
+    '\u{2066}'..='\u{2069}',
+    '\u{fb1d}'..='\u{fdff}',
+    '\u{fe70}'..='\u{feff}',
+    '\u{10800}'..='\u{10fff}',
+    '\u{1e800}'..='\u{1efff}',
+];
+
+/// Bytes as they are where they are plain, else in quotes, and what is no printable character, or turns a line, as an escape.
 pub fn word(bytes: &[u8]) -> String {
     let plain = |byte: &u8| byte.is_ascii_alphanumeric() || b"-_./:@+=,~%$".contains(byte);
     if !bytes.is_empty() && bytes.iter().all(plain) {
@@ -15,7 +30,12 @@ pub fn word(bytes: &[u8]) -> String {
     }
     let mut out = String::from("\"");
     for chunk in bytes.utf8_chunks() {
-        let _ = write!(out, "{}", chunk.valid().escape_debug());
+        for c in chunk.valid().escape_debug() {
+            match TURNING.iter().any(|range| range.contains(&c)) {
+                true => out.extend(c.escape_unicode()),
+                false => out.push(c),
+            }
+        }
         for byte in chunk.invalid() {
             let _ = write!(out, "\\x{byte:02x}");
         }
@@ -85,6 +105,19 @@ mod tests {
         assert_eq!(word(b"a\ncompliant\r\x1b[2K\"\\"), r#""a\ncompliant\r\u{1b}[2K\"\\""#);
         assert_eq!(word("\u{202e}\u{2028}\u{85}\u{200b}".as_bytes()), r#""\u{202e}\u{2028}\u{85}\u{200b}""#);
         assert_eq!(word(b"a\xff\xfeb"), r#""a\xff\xfeb""#);
+    }
+
+    #[test]
+    fn no_word_turns_its_line() {
+        // a letter and a number of each script's block, and every mark and control of direction
+        assert_eq!(word("a\u{5d0}\u{627}\u{661}".as_bytes()), r#""a\u{5d0}\u{627}\u{661}""#);
+        for c in "\u{61c}\u{200e}\u{200f}\u{202a}\u{202b}\u{202c}\u{202d}\u{202e}\u{2066}\u{2067}\u{2068}\u{2069}".chars() {
+            assert_eq!(word(c.to_string().as_bytes()), format!("\"{}\"", c.escape_unicode()));
+        }
+        for c in "\u{590}\u{7c0}\u{8ff}\u{fb1d}\u{fdff}\u{fe70}\u{10800}\u{10fff}\u{1e800}\u{1e900}\u{1efff}".chars() {
+            assert_eq!(word(c.to_string().as_bytes()), format!("\"{}\"", c.escape_unicode()));
+        }
+        assert_eq!(word("жλ漢字 é".as_bytes()), "\"жλ漢字 é\"", "what goes from left to right stays");
     }
 
     #[test]
