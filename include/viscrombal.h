@@ -1,7 +1,7 @@
 /* The C interface of Viscrombal: crate capi, `rt staticlib capi`, x86-64.
  * Every call answers every input. A byte slice is a pointer and a length; a slice of no bytes may have any pointer but NULL.
  * Every answer begins with `number` and `place`: 0 and 0 where the call accepts, else a refusal of docs/RULES.md and its place,
- * and then everything else in the answer is zero. */
+ * and then everything else in the answer is zero. 3 is not given: a number that is bad is told apart as 17, 18 and 19. */
 #ifndef VISCROMBAL_H
 #define VISCROMBAL_H
 

@@ -8,36 +8,37 @@ pub type Result<T> = std::result::Result<T, Refusal>;
 /// The original's name of a [`Refusal`].
 pub type Error = Refusal;
 
-/// The sixteen refusals, by their numbers.
+/// The refusals, by their numbers. 3, the original's one kind of a bad number, is none of them: it is told apart as 17, 18 and 19.
 #[derive(Debug, Clone, Copy, PartialEq, Eq, PartialOrd, Ord, Hash)]
 #[allow(missing_docs)]
 pub enum ErrorKind {
     UnexpectedEof = 1,
-    BadMagic,
-    BadLeb128,
-    BadUtf8,
-    MalformedSection,
-    Directive,
-    BadDefault,
-    BadDomain,
-    PackageInWorld,
-    NoName,
-    Unmatched,
-    Outside,
-    Full,
-    TooLong,
-    BadTable,
-    NoRoom,
+    BadMagic = 2,
+    BadUtf8 = 4,
+    MalformedSection = 5,
+    Directive = 6,
+    BadDefault = 7,
+    BadDomain = 8,
+    PackageInWorld = 9,
+    NoName = 10,
+    Unmatched = 11,
+    Outside = 12,
+    Full = 13,
+    TooLong = 14,
+    BadTable = 15,
+    NoRoom = 16,
+    TooManyBytes = 17,
+    TenthByte = 18,
+    AboveU32 = 19,
 }
 
 use ErrorKind::*;
 
 impl ErrorKind {
-    /// Every kind, in the order of the numbers 1 to 16.
-    pub const ALL: [ErrorKind; 16] = [
+    /// Every kind, in the order of the numbers, 1 to 19 without 3.
+    pub const ALL: [ErrorKind; 18] = [
         UnexpectedEof,
         BadMagic,
-        BadLeb128,
         BadUtf8,
         MalformedSection,
         Directive,
@@ -51,11 +52,19 @@ impl ErrorKind {
         TooLong,
         BadTable,
         NoRoom,
+        TooManyBytes,
+        TenthByte,
+        AboveU32,
     ];
 
-    /// 1 to 16.
+    /// 1 to 19, never 3.
     pub fn number(self) -> u32 {
         self as u32
+    }
+
+    /// What the original tells as its kind `BadLeb128`: a number of too many bytes, with a tenth byte too large, or above u32.
+    pub fn is_bad_leb128(self) -> bool {
+        matches!(self, TooManyBytes | TenthByte | AboveU32)
     }
 
     /// The name in words.
@@ -63,7 +72,6 @@ impl ErrorKind {
         match self {
             UnexpectedEof => "the bytes end too soon",
             BadMagic => "not a WebAssembly module",
-            BadLeb128 => "a number that is too long or too big",
             BadUtf8 => "not well-formed UTF-8",
             MalformedSection => "an import of unknown kind",
             Directive => "a line that is no directive",
@@ -77,6 +85,9 @@ impl ErrorKind {
             TooLong => "longer than is read",
             BadTable => "a table that does not hold",
             NoRoom => "no room for the answer",
+            TooManyBytes => "a number of more than ten bytes",
+            TenthByte => "a number whose tenth byte is too large",
+            AboveU32 => "a number above 4,294,967,295",
         }
     }
 
@@ -85,7 +96,6 @@ impl ErrorKind {
         match self {
             UnexpectedEof => "unexpected-eof",
             BadMagic => "bad-magic",
-            BadLeb128 => "bad-leb128",
             BadUtf8 => "bad-utf8",
             MalformedSection => "malformed-section",
             Directive => "directive",
@@ -99,6 +109,9 @@ impl ErrorKind {
             TooLong => "too-long",
             BadTable => "bad-table",
             NoRoom => "no-room",
+            TooManyBytes => "too-many-bytes",
+            TenthByte => "tenth-byte",
+            AboveU32 => "above-u32",
         }
     }
 }
@@ -122,12 +135,12 @@ impl Refusal {
         }
     }
 
-    /// Which of the sixteen.
+    /// Which of them.
     pub fn kind(&self) -> ErrorKind {
         self.kind
     }
 
-    /// Its number, 1 to 16.
+    /// Its number, 1 to 19.
     pub fn number(&self) -> u32 {
         self.kind.number()
     }
@@ -144,7 +157,7 @@ impl fmt::Display for Refusal {
         let place = self.place;
         write!(f, "refused {} at {place}: {}", self.number(), self.kind.words())?;
         match self.kind {
-            UnexpectedEof | BadMagic | BadLeb128 | BadUtf8 => write!(f, " (offset {place})"),
+            UnexpectedEof | BadMagic | BadUtf8 | TooManyBytes | TenthByte | AboveU32 => write!(f, " (offset {place})"),
             MalformedSection => write!(f, " (its byte is {place:#04x})"),
             Directive | BadDefault | BadDomain | PackageInWorld | NoName | Unmatched | Outside => write!(f, " (line {place})"),
             Full => write!(f, " (table of {})", table(place)),
