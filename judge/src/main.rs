@@ -1,4 +1,5 @@
 //! The comparison of the port with the original: see docs/JUDGE.md.
+mod bad;
 mod case;
 mod cells;
 mod compare;
@@ -38,7 +39,7 @@ fn main() {
         ["mistakes", list] => mistakes(list),
         ["plant", list, number, crates] => plant_one(list, number, crates),
         ["strip"] => strip_input(),
-        ["apart"] => apart(|file| says::module_says(&says::parse(file))),
+        ["apart"] => apart(says::module_says),
         ["apart", "policy"] => apart(says::policy_alone),
         ["list"] => fixed_list(false),
         ["list", "comparisons"] => fixed_list(true),

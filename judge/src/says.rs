@@ -1,5 +1,6 @@
 //! What the original says of a case, and what the port's answer says, in the same words. Where the original has nothing to say (limits,
 //! lent memory, tables that are handed in), docs/RULES.md decides, and this file says what that is.
+use crate::bad::{in_module, which_bad};
 use crate::case::{hex, Answer, Call, Case};
 use crate::cells;
 use crate::compare;
@@ -27,7 +28,7 @@ pub fn original_says(case: &Case) -> String {
     match case.call {
         Call::Uleb128 => read(s(0), n[0], |r| r.uleb128().map(|v| v.to_string())),
         Call::Uleb128U32 => read(s(0), n[0], |r| r.uleb128_u32().map(|v| v.to_string())),
-        Call::Sleb128 => read(s(0), n[0], |r| r.sleb128().map(|v| v.to_string())),
+        Call::Sleb128 => read_number(s(0), n[0], true, |r| r.sleb128().map(|v| v.to_string())),
         Call::Name => read(s(0), n[0], |r| r.name().map(|v| hex(v.as_bytes()))),
         Call::Module => crate::limits::module(s(0), [n[0], n[1], n[2], n[3]]),
         Call::Functions => kinds(n, Module::imported_functions),
@@ -126,11 +127,15 @@ pub fn part(s: &[u8], from: u64, len: u64) -> String {
 
 // ---- cursor
 
-fn error_says(e: &Error) -> String {
+/// A refusal by the original; of a number that is bad, the judge's own rule says which of 17, 18 and 19 it is.
+fn error_says(e: &Error, bad: impl Fn() -> Option<u64>) -> String {
     let number = match e.kind() {
         ErrorKind::UnexpectedEof => 1,
         ErrorKind::BadMagic => 2,
-        ErrorKind::BadLeb128 => 3,
+        ErrorKind::BadLeb128 => match bad() {
+            Some(which) => which,
+            None => return format!("another error: {e}"),
+        },
         ErrorKind::BadUtf8 => 4,
         ErrorKind::MalformedSection => 5,
         _ => return format!("another error: {e}"),
@@ -145,6 +150,10 @@ fn error_says(e: &Error) -> String {
 }
 
 fn read(s: &[u8], at: u64, f: impl Fn(&mut Reader) -> original::error::Result<String>) -> String {
+    read_number(s, at, false, f)
+}
+
+fn read_number(s: &[u8], at: u64, signed: bool, f: impl Fn(&mut Reader) -> original::error::Result<String>) -> String {
     // the original's reader cannot stand past the end
     if at > s.len() as u64 {
         return refused(1, at);
@@ -153,7 +162,7 @@ fn read(s: &[u8], at: u64, f: impl Fn(&mut Reader) -> original::error::Result<St
     r.skip(at as usize).unwrap();
     match f(&mut r) {
         Ok(v) => format!("{v} next {}", r.position()),
-        Err(e) => error_says(&e),
+        Err(e) => error_says(&e, || Some(which_bad(&s[at as usize..], signed))),
     }
 }
 
@@ -188,10 +197,10 @@ fn kind_byte(kind: ExternalKind) -> u8 {
     }
 }
 
-pub fn module_says(read: &original::error::Result<Module>) -> String {
-    let m = match read {
+pub fn module_says(file: &[u8]) -> String {
+    let m = match parse(file) {
         Ok(m) => m,
-        Err(e) => return error_says(e),
+        Err(e) => return error_says(&e, || in_module(file)),
     };
     let mut out = format!("version {} length {} name ", m.version, m.byte_len);
     out += &m.module_name.as_ref().map_or("none".into(), |n| format!("={}", hex(n.as_bytes())));
