@@ -279,9 +279,11 @@ mod tests {
         for (number, place) in [(99, 0), (20, 0), (20, 9), (u32::MAX, 7)] {
             let refusal = Refusal::told(number, place);
             assert_eq!((refusal.kind(), refusal.number()), (OtherArchive, 0));
-            assert_eq!(refusal.to_string(), "the archive is of another version: an answer that interface 1 does not have");
+            let words = format!("the archive is of another version: an answer that interface {INTERFACE} does not have");
+            assert_eq!(refusal.to_string(), words);
         }
-        let words = "the archive is of another version: it has interface 2, and 1 is asked for";
-        assert_eq!(Refusal::other_archive(2).to_string(), words);
+        let other = INTERFACE + 1;
+        let words = format!("the archive is of another version: it has interface {other}, and {INTERFACE} is asked for");
+        assert_eq!(Refusal::other_archive(other).to_string(), words);
     }
 }
