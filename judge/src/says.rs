@@ -10,7 +10,7 @@ use original::error::{Error, ErrorKind};
 use original::leb::Reader;
 use original::policy::{self, Domain, DomainRule, Policy, Requirement};
 use original::wasm::{self, ExternalKind, Import, Module};
-use original::wit::{InterfaceRef, Manifest, World};
+use original::wit::{self, InterfaceRef, Manifest, World};
 
 pub const MARK: u8 = 0xa5;
 pub const LONGEST_MODULE: usize = 16_777_216;
@@ -67,6 +67,27 @@ pub fn original_says(case: &Case) -> String {
         Call::Section => hex(wasm::section_name(n[0] as u8).as_bytes()),
         Call::ChangeWord => hex([Change::Removed, Change::Added][(n[0] != 0) as usize].slug().as_bytes()),
     }
+}
+
+/// The original alone, without what docs/RULES.md adds: limits, whole texts, cursors past the end, places that it does not tell.
+pub fn alone(case: &Case) -> String {
+    let n = &case.numbers;
+    let s = |i: usize| &case.strings[i][..];
+    match case.call {
+        Call::Uleb128 => moved(s(0), n[0], |r| r.uleb128().map(|v| v.to_string())),
+        Call::Take if n[0] > s(0).len() as u64 => "cannot be asked: its reader does not stand past the end".into(),
+        Call::Module => match parse(s(0)) {
+            Err(e) if e.offset().is_none() => format!("refused without an offset: {e}"),
+            read => module_says(&read),
+        },
+        Call::Policy => policy_alone(s(0)),
+        Call::Manifest => of_text(s(0), |t| manifest_says(&wit::parse(t))),
+        _ => original_says(case),
+    }
+}
+
+fn of_text(s: &[u8], says: impl Fn(&str) -> String) -> String {
+    std::str::from_utf8(s).map_or("cannot be asked: it takes text that is UTF-8 already".into(), says)
 }
 
 pub fn port_says(case: &Case, a: &Answer) -> String {
@@ -163,6 +184,16 @@ fn read_number(s: &[u8], at: u64, signed: bool, f: impl Fn(&mut Reader) -> origi
     match f(&mut r) {
         Ok(v) => format!("{v} next {}", r.position()),
         Err(e) => error_says(&e, || Some(which_bad(&s[at as usize..], signed))),
+    }
+}
+
+/// The same, and where the reader stands after a refusal.
+fn moved(s: &[u8], at: u64, f: impl Fn(&mut Reader) -> original::error::Result<String>) -> String {
+    let mut r = Reader::new(s);
+    r.skip(at as usize).unwrap();
+    match f(&mut r) {
+        Ok(v) => format!("{v} next {}", r.position()),
+        Err(e) => format!("{}, and its reader stands at {}", error_says(&e), r.position()),
     }
 }
 
@@ -369,8 +400,7 @@ fn parsed(text: &[u8]) -> Result<Policy, String> {
 
 /// The original alone, whatever the text's length.
 pub fn policy_alone(text: &[u8]) -> String {
-    let text = std::str::from_utf8(text).expect("text");
-    Policy::parse(text).map_or_else(|e| line_error(&e), |p| policy_says(&p))
+    of_text(text, |t| Policy::parse(t).map_or_else(|e| line_error(&e), |p| policy_says(&p)))
 }
 
 fn policy_read(text: &[u8]) -> String {
