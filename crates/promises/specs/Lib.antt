@@ -30,3 +30,4 @@ pub mod OfRewritten
 pub mod Unclassified
 pub mod ListedTokens
 pub mod Manifests
+pub mod NoThree
