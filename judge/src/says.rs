@@ -75,10 +75,12 @@ pub fn alone(case: &Case) -> String {
     let s = |i: usize| &case.strings[i][..];
     match case.call {
         Call::Uleb128 => moved(s(0), n[0], |r| r.uleb128().map(|v| v.to_string())),
+        Call::Uleb128U32 => moved(s(0), n[0], |r| r.uleb128_u32().map(|v| v.to_string())),
         Call::Take if n[0] > s(0).len() as u64 => "cannot be asked: its reader does not stand past the end".into(),
         Call::Module => match parse(s(0)) {
             Err(e) if e.offset().is_none() => format!("refused without an offset: {e}"),
-            read => module_says(&read),
+            Err(e) => error_says(&e, one_kind),
+            Ok(_) => module_says(s(0)),
         },
         Call::Policy => policy_alone(s(0)),
         Call::Manifest => of_text(s(0), |t| manifest_says(&wit::parse(t))),
@@ -187,13 +189,18 @@ fn read_number(s: &[u8], at: u64, signed: bool, f: impl Fn(&mut Reader) -> origi
     }
 }
 
-/// The same, and where the reader stands after a refusal.
+/// The original's own kind of a bad number, which docs/RULES.md tells apart.
+fn one_kind() -> Option<u64> {
+    Some(3)
+}
+
+/// The same by the original alone, and where the reader stands after a refusal.
 fn moved(s: &[u8], at: u64, f: impl Fn(&mut Reader) -> original::error::Result<String>) -> String {
     let mut r = Reader::new(s);
     r.skip(at as usize).unwrap();
     match f(&mut r) {
         Ok(v) => format!("{v} next {}", r.position()),
-        Err(e) => format!("{}, and its reader stands at {}", error_says(&e), r.position()),
+        Err(e) => format!("{}, and its reader stands at {}", error_says(&e, one_kind), r.position()),
     }
 }
 
