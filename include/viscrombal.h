@@ -2,7 +2,7 @@
  * Every call answers every input. A byte slice is a pointer and a length; a slice of no bytes may have any pointer but NULL. So the room that
  * a call needs is asked for by lending none: a room of 0 at any byte of the caller's. It is refused, 16 at the bytes needed, or needs none.
  * Every answer begins with `number` and `place`: 0 and 0 where the call accepts, else a refusal of docs/RULES.md and its place,
- * and then everything else in the answer is zero. */
+ * and then everything else in the answer is zero. 3 is not given: a number that is bad is told apart as 17, 18 and 19. */
 #ifndef VISCROMBAL_H
 #define VISCROMBAL_H
 
@@ -149,7 +149,7 @@ struct viscrombal_comparison {
 };
 
 /* The number of this interface: a change of a struct, of a number or of a place raises it. */
-#define VISCROMBAL_INTERFACE 1
+#define VISCROMBAL_INTERFACE 2
 uint32_t viscrombal_interface(void);
 
 /* Reads at offset `at` of the bytes s[0] to s[len - 1]. */

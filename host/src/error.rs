@@ -10,7 +10,7 @@ pub type Result<T> = std::result::Result<T, Refusal>;
 /// The original's name of a [`Refusal`].
 pub type Error = Refusal;
 
-/// The refusals, by their numbers.
+/// The refusals, by their numbers. 3, the original's one kind of a bad number, is none of them: it is told apart as 17, 18 and 19.
 #[derive(Debug, Clone, Copy, PartialEq, Eq, PartialOrd, Ord, Hash)]
 #[non_exhaustive]
 #[allow(missing_docs)]
@@ -19,7 +19,6 @@ pub enum ErrorKind {
     OtherArchive = 0,
     UnexpectedEof = 1,
     BadMagic = 2,
-    BadLeb128 = 3,
     BadUtf8 = 4,
     MalformedSection = 5,
     Directive = 6,
@@ -33,17 +32,19 @@ pub enum ErrorKind {
     TooLong = 14,
     BadTable = 15,
     NoRoom = 16,
+    TooManyBytes = 17,
+    TenthByte = 18,
+    AboveU32 = 19,
     NotStrict = 20,
 }
 
 use ErrorKind::*;
 
 impl ErrorKind {
-    /// The refusals of the rules, in the order of their numbers.
+    /// The refusals of the rules, in the order of their numbers, 1 to 20 without 3.
     pub const ALL: &'static [ErrorKind] = &[
         UnexpectedEof,
         BadMagic,
-        BadLeb128,
         BadUtf8,
         MalformedSection,
         Directive,
@@ -57,12 +58,20 @@ impl ErrorKind {
         TooLong,
         BadTable,
         NoRoom,
+        TooManyBytes,
+        TenthByte,
+        AboveU32,
         NotStrict,
     ];
 
-    /// The number of the rules, 1 to 16 or 20; 0 where the archive is of another version.
+    /// The number of the rules, 1 to 20 and never 3; 0 where the archive is of another version.
     pub fn number(self) -> u32 {
         self as u32
+    }
+
+    /// What the original tells as its kind `BadLeb128`: a number of too many bytes, with a tenth byte too large, or above u32.
+    pub fn is_bad_leb128(self) -> bool {
+        matches!(self, TooManyBytes | TenthByte | AboveU32)
     }
 
     /// The name in words.
@@ -71,7 +80,6 @@ impl ErrorKind {
             OtherArchive => "the archive is of another version",
             UnexpectedEof => "the bytes end too soon",
             BadMagic => "not a WebAssembly module",
-            BadLeb128 => "a number that is too long or too big",
             BadUtf8 => "not well-formed UTF-8",
             MalformedSection => "an import of unknown kind",
             Directive => "a line that is no directive",
@@ -85,6 +93,9 @@ impl ErrorKind {
             TooLong => "longer than is read",
             BadTable => "a table that does not hold",
             NoRoom => "no room for the answer",
+            TooManyBytes => "a number of more than ten bytes",
+            TenthByte => "a number whose tenth byte is too large",
+            AboveU32 => "a number above 4,294,967,295",
             NotStrict => "not strict",
         }
     }
@@ -95,7 +106,6 @@ impl ErrorKind {
             OtherArchive => "other-archive",
             UnexpectedEof => "unexpected-eof",
             BadMagic => "bad-magic",
-            BadLeb128 => "bad-leb128",
             BadUtf8 => "bad-utf8",
             MalformedSection => "malformed-section",
             Directive => "directive",
@@ -109,6 +119,9 @@ impl ErrorKind {
             TooLong => "too-long",
             BadTable => "bad-table",
             NoRoom => "no-room",
+            TooManyBytes => "too-many-bytes",
+            TenthByte => "tenth-byte",
+            AboveU32 => "above-u32",
             NotStrict => "not-strict",
         }
     }
@@ -232,7 +245,7 @@ impl fmt::Display for Refusal {
         match self.kind {
             OtherArchive if place == INTERFACE as usize => write!(f, "an answer that interface {place} does not have"),
             OtherArchive => write!(f, "it has interface {place}, and {INTERFACE} is asked for"),
-            UnexpectedEof | BadMagic | BadLeb128 | BadUtf8 => write!(f, " (offset {place})"),
+            UnexpectedEof | BadMagic | BadUtf8 | TooManyBytes | TenthByte | AboveU32 => write!(f, " (offset {place})"),
             MalformedSection => write!(f, " (its byte is {place:#04x})"),
             Directive | BadDefault | BadDomain | PackageInWorld | NoName | Unmatched | Outside => write!(f, " (line {place})"),
             Full => write!(f, " (table of {})", table(place)),
@@ -266,9 +279,11 @@ mod tests {
         for (number, place) in [(99, 0), (20, 0), (20, 9), (u32::MAX, 7)] {
             let refusal = Refusal::told(number, place);
             assert_eq!((refusal.kind(), refusal.number()), (OtherArchive, 0));
-            assert_eq!(refusal.to_string(), "the archive is of another version: an answer that interface 1 does not have");
+            let words = format!("the archive is of another version: an answer that interface {INTERFACE} does not have");
+            assert_eq!(refusal.to_string(), words);
         }
-        let words = "the archive is of another version: it has interface 2, and 1 is asked for";
-        assert_eq!(Refusal::other_archive(2).to_string(), words);
+        let other = INTERFACE + 1;
+        let words = format!("the archive is of another version: it has interface {other}, and {INTERFACE} is asked for");
+        assert_eq!(Refusal::other_archive(other).to_string(), words);
     }
 }

@@ -152,7 +152,7 @@ fn damaged_copies_are_read_or_refused() {
             match (wasm::parse(&copy), check(&copy, &policy)) {
                 (Err(one), Err(other)) => {
                     assert_eq!((one, Err(one)), (other, wasm::test_strict(&copy)), "{name}");
-                    assert!((1..=16).contains(&one.number()) && !one.to_string().is_empty());
+                    assert!((1..=19).contains(&one.number()) && one.number() != 3 && !one.to_string().is_empty());
                     numbers.insert(one.number());
                 }
                 (Ok(module), Ok(_)) => {
@@ -460,12 +460,12 @@ fn threads_with_a_plain_stack() {
 #[test]
 fn refusals_have_words() {
     let numbers: Vec<_> = ErrorKind::ALL.iter().map(|kind| kind.number()).collect();
-    assert_eq!(numbers, (1..=16).chain([20]).collect::<Vec<_>>());
+    assert_eq!(numbers, (1..=20).filter(|n| *n != 3).collect::<Vec<_>>());
     assert_eq!((ErrorKind::NotStrict.number(), ErrorKind::NotStrict.slug()), (20, "not-strict"));
     for tell in [ErrorKind::words, ErrorKind::slug] {
-        assert_eq!(ErrorKind::ALL.iter().map(|kind| tell(*kind)).collect::<HashSet<_>>().len(), 17);
+        assert_eq!(ErrorKind::ALL.iter().map(|kind| tell(*kind)).collect::<HashSet<_>>().len(), 19);
     }
-    assert_eq!((viscrombal::interface(), viscrombal::INTERFACE), (Ok(()), 1));
+    assert_eq!((viscrombal::interface(), viscrombal::INTERFACE), (Ok(()), 2));
     assert_eq!(StrictRule::ALL.map(StrictRule::number), [1, 2, 3, 4, 5, 6, 7, 8]);
     assert_eq!(StrictRule::ALL.map(StrictRule::words).into_iter().collect::<HashSet<_>>().len(), 8);
     let said = |file: &[u8]| wasm::parse(file).unwrap_err().to_string();
@@ -475,6 +475,12 @@ fn refusals_have_words() {
     let unordered = wasm::parse_strict(&bytes("H 03 00 01 00")).unwrap_err();
     assert_eq!(unordered.to_string(), "refused 20 at 4: not strict (rule 4: a section twice, or out of order)");
     assert_eq!(wasm::parse_strict(b"").unwrap_err().rule(), None);
+    let size = |number: &[u8]| said(&[HEADER, b"\x02", number].concat());
+    assert_eq!(size(&[&[0x80; 10][..], b"\0"].concat()), "refused 17 at 9: a number of more than ten bytes (offset 9)");
+    assert_eq!(size(&[&[0xff; 9][..], b"\x02"].concat()), "refused 18 at 9: a number whose tenth byte is too large (offset 9)");
+    assert_eq!(size(b"\x80\x80\x80\x80\x10"), "refused 19 at 14: a number above 4,294,967,295 (offset 14)");
+    let bad: Vec<_> = ErrorKind::ALL.iter().filter(|kind| kind.is_bad_leb128()).map(|kind| kind.number()).collect();
+    assert_eq!(bad, [17, 18, 19]);
     assert_eq!(Policy::parse("x").unwrap_err().to_string(), "refused 6 at 1: a line that is no directive (line 1)");
     let refusal: Box<dyn std::error::Error> = Box::new(Policy::parse("x").unwrap_err());
     assert!(refusal.downcast_ref::<Refusal>().is_some_and(|refusal| refusal.kind() == ErrorKind::Directive));

@@ -6,7 +6,7 @@
 //! one entry more than there is room for: refused, that refusal comes first; accepted, the answer is 13. A shortened count is padded
 //! to as many bytes as it had, so that no offset moves. A count beyond the bytes that follow it is shortened too: an entry takes at
 //! least one byte, so both run out at the same place, and the original, which reserves memory for the count, would end its process.
-use crate::says::{manifest_says, module_says, parse, whole, zeros_to, LONGEST_MODULE};
+use crate::says::{manifest_says, module_says, whole, zeros_to, LONGEST_MODULE};
 use original::leb::Reader;
 use original::wit;
 
@@ -108,7 +108,7 @@ impl<'a> Walk<'a> {
     }
 
     fn ask(&self, file: &[u8]) -> String {
-        module_says(&parse(file))
+        module_says(file)
     }
 
     fn says(mut self) -> String {
@@ -133,7 +133,7 @@ impl<'a> Walk<'a> {
                 return said;
             }
             if sections >= self.room[0] {
-                let said = module_says(&parse(&self.file[..end]));
+                let said = module_says(&self.file[..end]);
                 return if said.starts_with("refused") { said } else { "refused 13 at 1".into() };
             }
             sections += 1;
@@ -155,7 +155,7 @@ impl<'a> Walk<'a> {
         if count <= self.room[t] {
             return None;
         }
-        let said = module_says(&parse(&self.file[..end]));
+        let said = module_says(&self.file[..end]);
         Some(if said.starts_with("refused") { said } else { format!("refused 13 at {}", t + 1) })
     }
 
@@ -183,7 +183,7 @@ impl<'a> Walk<'a> {
             let mut file = self.file[..from + r.position()].to_vec();
             padded((self.room[3] - self.symbols + 1).min(inner.len() as u64 + 1), &mut file[from + start..from + start + after]);
             padded(r.position() as u64, &mut file[size_at..from]);
-            let said = module_says(&parse(&file));
+            let said = module_says(&file);
             return Some(if said.starts_with("refused") { said } else { "refused 13 at 4".into() });
         }
         None

@@ -1,10 +1,12 @@
 //! The comparison of the port with the original: see docs/JUDGE.md.
+mod bad;
 mod case;
 mod cells;
 mod compare;
 mod limits;
 mod list;
 mod make;
+mod page;
 mod plant;
 mod port;
 mod random;
@@ -22,8 +24,10 @@ use std::time::{Duration, Instant};
 
 const USAGE: &str = "usage: judge run [--seed N] [--long SECONDS]     the fixed cases, then seeded ones for so long
        judge one CALL NUMBERS STRINGS             one case, as a disagreement prints it
+       judge page FILE..                          the inputs of pages of docs/, and what the pages say of the answers
        judge strip < FILE.rt                      a file of Rattle as Rust, unproved
        judge apart [policy] < FILE                the original alone on a module or a policy, in this process
+       judge alone < CASE                         the original alone on a case, in this process
        judge list [comparisons]                   the fixed list of answers, as records of records/
        judge vectors FOLDER                       the modules below a folder
        judge mistakes LIST; judge plant LIST N CRATES    for tools/teeth
@@ -37,9 +41,11 @@ fn main() {
         ["one", call, numbers, strings] => one(&format!("{call} {numbers} {strings}")),
         ["mistakes", list] => mistakes(list),
         ["plant", list, number, crates] => plant_one(list, number, crates),
+        ["page", ref files @ ..] if !files.is_empty() => page::held(files),
         ["strip"] => strip_input(),
-        ["apart"] => apart(|file| says::module_says(&says::parse(file))),
+        ["apart"] => apart(says::module_says),
         ["apart", "policy"] => apart(says::policy_alone),
+        ["alone"] => apart(|text| says::alone(&Case::parse(&String::from_utf8_lossy(text)).expect("CALL NUMBERS STRINGS"))),
         ["list"] => fixed_list(false),
         ["list", "comparisons"] => fixed_list(true),
         ["vectors", folder] => published(folder),
@@ -93,6 +99,24 @@ fn both(port: &mut Port, case: &Case) -> Option<(String, String)> {
     let answers = port.ask(std::slice::from_ref(case));
     let said = answers.first().map_or("the port's process ended".into(), |a| says::port_says(case, a));
     Some((original, said))
+}
+
+/// The original alone, with 4 GiB of memory, so that it ends on every machine where it asks for more.
+const ALONE: &str = "ulimit -v 4194304 && exec \"$0\" alone";
+
+/// What the original says alone, in a process of its own, and what the port says.
+fn both_sides(port: &mut Port, case: &Case) -> (String, String) {
+    let mut alone = Command::new("sh");
+    alone.args(["-c", ALONE]).arg(std::env::current_exe().expect("this program"));
+    let mut child = alone.stdin(Stdio::piped()).stdout(Stdio::piped()).stderr(Stdio::piped()).spawn().expect("a process");
+    child.stdin.take().unwrap().write_all(case.text().as_bytes()).expect("a pipe");
+    let out = child.wait_with_output().expect("an end");
+    let original = match out.status.success() {
+        true => String::from_utf8_lossy(&out.stdout).trim_end().to_string(),
+        false => format!("the process is ended: {}", String::from_utf8_lossy(&out.stderr).lines().next().unwrap_or("")),
+    };
+    let answers = port.ask(std::slice::from_ref(case));
+    (original, answers.first().map_or("the port's process ended".into(), |a| says::port_says(case, a)))
 }
 
 fn one(text: &str) -> bool {

@@ -1,5 +1,6 @@
 //! What the original says of a case, and what the port's answer says, in the same words. Where the original has nothing to say (limits,
 //! lent memory, tables that are handed in), docs/RULES.md decides, and this file says what that is.
+use crate::bad::{in_module, which_bad};
 use crate::case::{hex, Answer, Call, Case};
 use crate::cells;
 use crate::compare;
@@ -9,7 +10,7 @@ use original::error::{Error, ErrorKind};
 use original::leb::Reader;
 use original::policy::{self, Domain, DomainRule, Policy, Requirement};
 use original::wasm::{self, ExternalKind, Import, Module};
-use original::wit::{InterfaceRef, Manifest, World};
+use original::wit::{self, InterfaceRef, Manifest, World};
 
 pub const MARK: u8 = 0xa5;
 pub const LONGEST_MODULE: usize = 16_777_216;
@@ -27,7 +28,7 @@ pub fn original_says(case: &Case) -> String {
     match case.call {
         Call::Uleb128 => read(s(0), n[0], |r| r.uleb128().map(|v| v.to_string())),
         Call::Uleb128U32 => read(s(0), n[0], |r| r.uleb128_u32().map(|v| v.to_string())),
-        Call::Sleb128 => read(s(0), n[0], |r| r.sleb128().map(|v| v.to_string())),
+        Call::Sleb128 => read_number(s(0), n[0], true, |r| r.sleb128().map(|v| v.to_string())),
         Call::Name => read(s(0), n[0], |r| r.name().map(|v| hex(v.as_bytes()))),
         Call::Module => crate::limits::module(s(0), [n[0], n[1], n[2], n[3]]),
         Call::Functions => kinds(n, Module::imported_functions),
@@ -66,6 +67,29 @@ pub fn original_says(case: &Case) -> String {
         Call::Section => hex(wasm::section_name(n[0] as u8).as_bytes()),
         Call::ChangeWord => hex([Change::Removed, Change::Added][(n[0] != 0) as usize].slug().as_bytes()),
     }
+}
+
+/// The original alone, without what docs/RULES.md adds: limits, whole texts, cursors past the end, places that it does not tell.
+pub fn alone(case: &Case) -> String {
+    let n = &case.numbers;
+    let s = |i: usize| &case.strings[i][..];
+    match case.call {
+        Call::Uleb128 => moved(s(0), n[0], |r| r.uleb128().map(|v| v.to_string())),
+        Call::Uleb128U32 => moved(s(0), n[0], |r| r.uleb128_u32().map(|v| v.to_string())),
+        Call::Take if n[0] > s(0).len() as u64 => "cannot be asked: its reader does not stand past the end".into(),
+        Call::Module => match parse(s(0)) {
+            Err(e) if e.offset().is_none() => format!("refused without an offset: {e}"),
+            Err(e) => error_says(&e, one_kind),
+            Ok(_) => module_says(s(0)),
+        },
+        Call::Policy => policy_alone(s(0)),
+        Call::Manifest => of_text(s(0), |t| manifest_says(&wit::parse(t))),
+        _ => original_says(case),
+    }
+}
+
+fn of_text(s: &[u8], says: impl Fn(&str) -> String) -> String {
+    std::str::from_utf8(s).map_or("cannot be asked: it takes text that is UTF-8 already".into(), says)
 }
 
 pub fn port_says(case: &Case, a: &Answer) -> String {
@@ -126,11 +150,15 @@ pub fn part(s: &[u8], from: u64, len: u64) -> String {
 
 // ---- cursor
 
-fn error_says(e: &Error) -> String {
+/// A refusal by the original; of a number that is bad, the judge's own rule says which of 17, 18 and 19 it is.
+fn error_says(e: &Error, bad: impl Fn() -> Option<u64>) -> String {
     let number = match e.kind() {
         ErrorKind::UnexpectedEof => 1,
         ErrorKind::BadMagic => 2,
-        ErrorKind::BadLeb128 => 3,
+        ErrorKind::BadLeb128 => match bad() {
+            Some(which) => which,
+            None => return format!("another error: {e}"),
+        },
         ErrorKind::BadUtf8 => 4,
         ErrorKind::MalformedSection => 5,
         _ => return format!("another error: {e}"),
@@ -145,6 +173,10 @@ fn error_says(e: &Error) -> String {
 }
 
 fn read(s: &[u8], at: u64, f: impl Fn(&mut Reader) -> original::error::Result<String>) -> String {
+    read_number(s, at, false, f)
+}
+
+fn read_number(s: &[u8], at: u64, signed: bool, f: impl Fn(&mut Reader) -> original::error::Result<String>) -> String {
     // the original's reader cannot stand past the end
     if at > s.len() as u64 {
         return refused(1, at);
@@ -153,7 +185,22 @@ fn read(s: &[u8], at: u64, f: impl Fn(&mut Reader) -> original::error::Result<St
     r.skip(at as usize).unwrap();
     match f(&mut r) {
         Ok(v) => format!("{v} next {}", r.position()),
-        Err(e) => error_says(&e),
+        Err(e) => error_says(&e, || Some(which_bad(&s[at as usize..], signed))),
+    }
+}
+
+/// The original's own kind of a bad number, which docs/RULES.md tells apart.
+fn one_kind() -> Option<u64> {
+    Some(3)
+}
+
+/// The same by the original alone, and where the reader stands after a refusal.
+fn moved(s: &[u8], at: u64, f: impl Fn(&mut Reader) -> original::error::Result<String>) -> String {
+    let mut r = Reader::new(s);
+    r.skip(at as usize).unwrap();
+    match f(&mut r) {
+        Ok(v) => format!("{v} next {}", r.position()),
+        Err(e) => format!("{}, and its reader stands at {}", error_says(&e, one_kind), r.position()),
     }
 }
 
@@ -188,10 +235,10 @@ fn kind_byte(kind: ExternalKind) -> u8 {
     }
 }
 
-pub fn module_says(read: &original::error::Result<Module>) -> String {
-    let m = match read {
+pub fn module_says(file: &[u8]) -> String {
+    let m = match parse(file) {
         Ok(m) => m,
-        Err(e) => return error_says(e),
+        Err(e) => return error_says(&e, || in_module(file)),
     };
     let mut out = format!("version {} length {} name ", m.version, m.byte_len);
     out += &m.module_name.as_ref().map_or("none".into(), |n| format!("={}", hex(n.as_bytes())));
@@ -360,8 +407,7 @@ fn parsed(text: &[u8]) -> Result<Policy, String> {
 
 /// The original alone, whatever the text's length.
 pub fn policy_alone(text: &[u8]) -> String {
-    let text = std::str::from_utf8(text).expect("text");
-    Policy::parse(text).map_or_else(|e| line_error(&e), |p| policy_says(&p))
+    of_text(text, |t| Policy::parse(t).map_or_else(|e| line_error(&e), |p| policy_says(&p)))
 }
 
 fn policy_read(text: &[u8]) -> String {

@@ -14,7 +14,6 @@ use Rattle.refusal.specs.Said.{Said, accepted, refused, Got, got}
 use Rattle.refusal.specs.declared.Part.{Part}
 use Rattle.refusal.proofs.Following.{never, read-on}
 use Rattle.leb.specs.Grammar.{U, lastU, moreU}
-use Rattle.leb.specs.Groups.{Out, value, ends, bad, uN}
 use Rattle.leb.specs.Reads.{part, partBytes, toldAt, narrowed, ulebAt, u32At, byteAt, takeAt, countedAt, checked, nameAt}
 use Rattle.leb.proofs.Conform.{u64-only, narrow-only}
 

@@ -16,7 +16,7 @@ use Rattle.refusal.specs.Pick.{pick}
 use Rattle.refusal.specs.Said.{Said, accepted, refused, Got, got, onward}
 use Rattle.refusal.proofs.Following.{never, read-on}
 use Rattle.leb.specs.Grammar.{U, lastU, moreU, S, plusS, minusS, moreS}
-use Rattle.leb.specs.Groups.{Out, value, ends, bad, grown, spent, uN, sN, twos}
+use Rattle.leb.specs.Groups.{Out, value, ends, overlong, oversize, grown, spent, uN, sN, twos}
 use Rattle.leb.specs.Reads.{toldAt, narrowed, ulebAt, u32At, slebAt}
 
 pub accepts : {N v k : ℕ} {l : List ℕ} → U N l v k → uN N l ≡ value v k
@@ -27,8 +27,11 @@ accepts (moreU {N = N} {n = n} a b r) = simp (le-ltb n 128 a, lt-ltb 7 N b, acce
 pub never-ends : {X : Type 0} {v : X} (j k : ℕ) → ends j ≡ value v k → ⊥
 never-ends j k e = let z : _≡_ {A = ℕ} 0 1 = cc in omega arith
 
-never-bad : {X : Type 0} {v : X} (k : ℕ) → bad ≡ value v k → ⊥
-never-bad k e = let z : _≡_ {A = ℕ} 0 1 = cc in omega arith
+never-long : {X : Type 0} {v : X} (k : ℕ) → overlong ≡ value v k → ⊥
+never-long k e = let z : _≡_ {A = ℕ} 0 1 = cc in omega arith
+
+never-big : {X : Type 0} {v : X} (k : ℕ) → oversize ≡ value v k → ⊥
+never-big k e = let z : _≡_ {A = ℕ} 0 1 = cc in omega arith
 
 -- an outcome that has a value had one before it grew
 pub grown-value : {X : Type 0} (f : X → X) (i : ℕ) (o : Out X) (v : X) (k : ℕ) → grown f i o ≡ value v k
@@ -36,12 +39,13 @@ pub grown-value : {X : Type 0} (f : X → X) (i : ℕ) (o : Out X) (v : X) (k : 
 unfolding grown
 grown-value f i (value m j) v k e = (m, j, refl, cc, cc)
 grown-value f i (ends j) v k e = absurd (never-ends (i + j) k e)
-grown-value f i bad v k e = absurd (never-bad k e)
+grown-value f i overlong v k e = absurd (never-long k e)
+grown-value f i oversize v k e = absurd (never-big k e)
 
 pub spent-none : {X : Type 0} (l : List ℕ) (v : X) (k : ℕ) → spent l ≡ value v k → ⊥
 unfolding spent
 spent-none [] v k e = never-ends 0 k e
-spent-none (n ∷ l) v k e = never-bad k e
+spent-none (n ∷ l) v k e = never-long k e
 
 module _ (N n : ℕ) (l : List ℕ) (v k : ℕ) (rest : (m j : ℕ) → uN (N - 7) l ≡ value m j → U (N - 7) l m j)
     (e : uN N (n ∷ l) ≡ value v k) where
@@ -52,14 +56,14 @@ module _ (N n : ℕ) (l : List ℕ) (v k : ℕ) (rest : (m j : ℕ) → uN (N - 
       let a : n ≡ v = cc in
       let b : 1 ≡ k = cc in
       subst₂ (λ x y. U N (n ∷ l) x y) a b (lastU h (ltb-true n (2 ^ N) t))
-  short h false t = absurd (never-bad k (simp (lt-ltb n 128 h, t) at e))
+  short h false t = absurd (never-big k (simp (lt-ltb n 128 h, t) at e))
 
   over : 128 ≤ n → ltb 7 N ≡ false → (f : Bool) → ltb (n - 128) (2 ^ N) ≡ f → ⊥
   unfolding uN
   over h t true f =
       let g = grown-value (λ m. 128 * m + (n - 128)) 1 (spent l) v k (simp (le-ltb n 128 h, t, f) at e) in
       spent-none l (g .0) (g .1) (g .2)
-  over h t false f = never-bad k (simp (le-ltb n 128 h, t, f) at e)
+  over h t false f = never-big k (simp (le-ltb n 128 h, t, f) at e)
 
   long : 128 ≤ n → (t : Bool) → ltb 7 N ≡ t → U N (n ∷ l) v k
   unfolding uN
@@ -88,7 +92,8 @@ pub told-value : {X : Type 0} (at : ℕ) (o : Out X) {v : X} {d : ℕ} → toldA
 unfolding toldAt
 told-value at (value w k) e = (k, cc, cc)
 told-value at (ends k) e = absurd (never e)
-told-value at bad e = absurd (never e)
+told-value at overlong e = absurd (never e)
+told-value at oversize e = absurd (never e)
 
 pub u64-only : (s : List ℕ) (at v d : ℕ) → ulebAt s at ≡ accepted (got v d) → (k : ℕ) × U 64 (drop at s) v k × (d ≡ at + k)
 unfolding ulebAt
@@ -98,7 +103,7 @@ u64-only s at v d e = let t = told-value at (uN 64 (drop at s)) e in (t .0, only
 pub narrow-only : (w e v d : ℕ) → narrowed w e ≡ accepted (got v d) → (w ≡ v) × (e ≡ d) × (w ≤ 4294967295)
 unfolding narrowed
 narrow-only w e v d h = go (leb w 4294967295) refl h where
-  go : (b : Bool) → leb w 4294967295 ≡ b → pick b (accepted (got w e)) (refused 3 e) ≡ accepted (got v d) → (w ≡ v) × (e ≡ d) ×
+  go : (b : Bool) → leb w 4294967295 ≡ b → pick b (accepted (got w e)) (refused 19 e) ≡ accepted (got v d) → (w ≡ v) × (e ≡ d) ×
       (w ≤ 4294967295)
   go true t f = (cc, cc, leb-true w 4294967295 t)
   go false t f = absurd (never f)

@@ -20,7 +20,7 @@ use mir.Val.{toZ}
 use mir.ValLaws.{toZ-pos}
 use Rattle.refusal.specs.Pick.{pick}
 use Rattle.refusal.specs.Said.{accepted, refused, got}
-use Rattle.leb.specs.Groups.{Out, value, ends, bad, grown, spent, sN, twos}
+use Rattle.leb.specs.Groups.{value, grown, spent, sN, twos}
 use Rattle.leb.specs.Reads.{toldAt, slebAt}
 use Rattle.bits.proofs.Masks.{or-place, or-fits, or-ones, place-lt, top-clear, top-set, low-small, low-large, low-lt}
 use Rattle.bits.proofs.Integers.{diff-neg, lin, as-diff, toZ-upper, extended}
@@ -143,7 +143,7 @@ module _ (s : List ℕ) (begin i shift acc : ℕ) (r : SReading s begin i shift 
       rw (r .sofar, drop-of-length-le s h, left-none sN (λ N. refl) shift, e)
 
   -- no bits are left, and there is a byte more
-  pub too-long : 64 ≤ shift → i < length s → refused 3 begin ≡ slebAt s begin
+  pub too-long : 64 ≤ shift → i < length s → refused 17 begin ≡ slebAt s begin
   unfolding slebAt toldAt grown
   too-long h l = rw (r .sofar, drop-cons s i 0 l, left-over sN shift (getD s i 0) (drop (suc i) s) h)
 

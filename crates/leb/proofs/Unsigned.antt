@@ -13,16 +13,16 @@ use lib.Pow.{pow-mono}
 use lib.ListN.{length, getD, drop, drop-of-length-le}
 use lib.Seq.{drop-cons}
 use Rattle.refusal.specs.Said.{accepted, refused, got}
-use Rattle.leb.specs.Groups.{Out, value, ends, bad, grown, spent, uN}
+use Rattle.leb.specs.Groups.{oversize, grown, uN}
 use Rattle.leb.specs.Reads.{toldAt, ulebAt}
 use Rattle.bits.proofs.Masks.{or-fits, place-lt, top-clear, top-set, low-small, low-large, low-lt}
 use Rattle.leb.proofs.Groups.{above, above-group, left, grown-none, grown-twice, grown-same, left-none, left-over, left-last}
 use Rattle.leb.proofs.Groups.{left-big, left-big', left-more}
 
-big : (b : ℕ) (l : List ℕ) → b < 256 → 1 < bitAnd b 127 → left uN 63 (b ∷ l) ≡ bad
+big : (b : ℕ) (l : List ℕ) → b < 256 → 1 < bitAnd b 127 → left uN 63 (b ∷ l) ≡ oversize
 big b l h g = go (ltb b 128) refl
   where
-    go : (t : Bool) → ltb b 128 ≡ t → left uN 63 (b ∷ l) ≡ bad
+    go : (t : Bool) → ltb b 128 ≡ t → left uN 63 (b ∷ l) ≡ oversize
     go true e =
         let hb = ltb-true b 128 e in
         left-big b l (omega (arith, low-small b hb)) hb
@@ -59,13 +59,13 @@ module _ (s : List ℕ) (begin i shift acc : ℕ) (r : Reading s begin i shift a
       rw (r .sofar, drop-of-length-le s h, left-none uN (λ N. refl) shift, e)
 
   -- no bits are left, and there is a byte more
-  pub too-long : 64 ≤ shift → i < length s → refused 3 begin ≡ ulebAt s begin
+  pub too-long : 64 ≤ shift → i < length s → refused 17 begin ≡ ulebAt s begin
   unfolding ulebAt toldAt grown
   too-long h l = rw (r .sofar, drop-cons s i 0 l, left-over uN shift (getD s i 0) (drop (suc i) s) h)
 
   module _ (h : shift < 64) (l : i < length s) (byte : getD s i 0 < 256) where
     -- the tenth group is too big
-    pub too-big : shift ≡ 63 → 1 < bitAnd (getD s i 0) 127 → refused 3 begin ≡ ulebAt s begin
+    pub too-big : shift ≡ 63 → 1 < bitAnd (getD s i 0) 127 → refused 18 begin ≡ ulebAt s begin
     unfolding ulebAt toldAt grown
     too-big e g =
         rw (r .sofar, drop-cons s i 0 l, e, big (getD s i 0) (drop (suc i) s) byte g)

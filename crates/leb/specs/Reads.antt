@@ -9,7 +9,7 @@ use Rattle.refusal.specs.Pick.{pick}
 use Rattle.refusal.specs.Said.{Said, accepted, refused, Got, got, onward}
 use Rattle.refusal.specs.declared.Part.{Part}
 use Rattle.text.specs.Utf8.{upTo}
-use Rattle.leb.specs.Groups.{Out, value, ends, bad, uN, sN}
+use Rattle.leb.specs.Groups.{Out, value, ends, overlong, oversize, uN, sN}
 
 abbrev pub part : ℕ → ℕ → Part
 part a n = record { from = a; len = n }
@@ -38,11 +38,12 @@ takeAt s at n =
 unfoldable pub skipAt : List ℕ → ℕ → ℕ → Said (Got (Unit {0}))
 skipAt s at n = onward (takeAt s at n) (λ p next. accepted (got tt next))
 
--- a number at `at`: bytes that end are told where they end, a bad number where it starts
+-- a number at `at`: bytes that end are told where they end, a number that is too long or whose tenth byte is too large where it starts
 unfoldable pub toldAt : {X : Type 0} → ℕ → Out X → Said (Got X)
 toldAt at (value v k) = accepted (got v (at + k))
 toldAt at (ends k) = refused 1 (at + k)
-toldAt at bad = refused 3 at
+toldAt at overlong = refused 17 at
+toldAt at oversize = refused 18 at
 
 unfoldable pub ulebAt : List ℕ → ℕ → Said (Got ℕ)
 ulebAt s at = toldAt at (uN 64 (drop at s))
@@ -52,7 +53,7 @@ slebAt s at = toldAt at (sN 64 (drop at s))
 
 -- a number that is too big for a u32 is told where it ends
 unfoldable pub narrowed : ℕ → ℕ → Said (Got ℕ)
-narrowed v next = pick (leb v 4294967295) (accepted (got v next)) (refused 3 next)
+narrowed v next = pick (leb v 4294967295) (accepted (got v next)) (refused 19 next)
 
 unfoldable pub u32At : List ℕ → ℕ → Said (Got ℕ)
 u32At s at = onward (ulebAt s at) narrowed

@@ -192,7 +192,7 @@ impl Cursor {
             let b = s[i];
             let low = (b & 0x7f) as u64;
             if shift == 63 && low > 1 {
-                return U64Read::Refused(Refusal::BadLeb128(start), self);
+                return U64Read::Refused(Refusal::TenthByte(start), self);
             }
             acc |= low << shift;
             i += 1;
@@ -202,7 +202,7 @@ impl Cursor {
             shift += 7;
         }
         if i < s.len() {
-            U64Read::Refused(Refusal::BadLeb128(start), self)
+            U64Read::Refused(Refusal::TooManyBytes(start), self)
         } else {
             U64Read::Refused(Refusal::UnexpectedEof(i), self)
         }
@@ -219,7 +219,7 @@ impl Cursor {
         if v <= 0xffff_ffff {
             U32Read::Read(v as u32, next)
         } else {
-            U32Read::Refused(Refusal::BadLeb128(next.at), self)
+            U32Read::Refused(Refusal::AboveU32(next.at), self)
         }
     }
 
@@ -248,7 +248,7 @@ impl Cursor {
             }
         }
         if i < s.len() {
-            I64Read::Refused(Refusal::BadLeb128(start), self)
+            I64Read::Refused(Refusal::TooManyBytes(start), self)
         } else {
             I64Read::Refused(Refusal::UnexpectedEof(i), self)
         }

@@ -26,6 +26,8 @@ pub mod OfCapi
 pub mod OfJudged
 pub mod OfListed
 pub mod OfReport
+pub mod OfRewritten
 pub mod Unclassified
 pub mod ListedTokens
 pub mod Manifests
+pub mod NoThree

@@ -6,8 +6,8 @@ use denote.Triple.Clauses.{AtExit}
 use denote.Ref.{now}
 use Rattle.output.proofs.Known.{one-answer, one-output}
 use Rattle.promises.specs.Decides.{Decides}
-use Rattle.report.proofs.refusal_line.Kinds as refusal-line-kinds
-use Rattle.report.proofs.refusal_line.Reads as refusal-line
+use Rattle.report.proofs.refused_line.Kinds as refused-line-kinds
+use Rattle.report.proofs.refused_line.Reads as refused-line
 use Rattle.report.proofs.counts_line.Kinds as counts-line-kinds
 use Rattle.report.proofs.counts_line.Reads as counts-line
 use Rattle.report.proofs.domain_line.Kinds as domain-line-kinds
@@ -27,8 +27,8 @@ use Rattle.report.proofs.removed_line.Reads as removed-line
 use Rattle.report.proofs.added_line.Kinds as added-line-kinds
 use Rattle.report.proofs.added_line.Reads as added-line
 
-pub refusal-line-decides : Decides refusal-line-kinds.ps refusal-line-kinds.r refusal-line.Post
-refusal-line-decides κs a x y s t p q = p ∙ sym q
+pub refused-line-decides : Decides refused-line-kinds.ps refused-line-kinds.r refused-line.Post
+refused-line-decides κs a x y s t p q = p ∙ sym q
 
 pub counts-line-decides : Decides counts-line-kinds.ps counts-line-kinds.r counts-line.Post
 counts-line-decides κs a x y s t p q = p ∙ sym q

@@ -1,5 +1,6 @@
 -- A refusal is known by its number and place, so `refusedBy` loses nothing. Assumes nothing.
 use Prim.Native.Nat.{ℕ}
+use native.Mathlib.Omega.{arith}
 use mathlib.Core.Path.{_≡_, refl, sym, _∙_, ap}
 use lib.Dec.{eqb}
 use Rattle.refusal.specs.Pick.{pick}
@@ -8,16 +9,15 @@ use Rattle.refusal.specs.declared.Answer.{Answer}
 use Rattle.refusal.specs.declared.Count.{Count}
 use Rattle.refusal.specs.declared.Written.{Written}
 use Rattle.refusal.specs.declared.Refusal.{Refusal}
-use Rattle.refusal.specs.declared.Refusal.the-variants.{UnexpectedEof, BadMagic, BadLeb128, BadUtf8, MalformedSection, Directive}
+use Rattle.refusal.specs.declared.Refusal.the-variants.{UnexpectedEof, BadMagic, BadUtf8, MalformedSection, Directive}
 use Rattle.refusal.specs.declared.Refusal.the-variants.{BadDefault, BadDomain, PackageInWorld, NoName, Unmatched, Outside}
-use Rattle.refusal.specs.declared.Refusal.the-variants.{Full, TooLong, BadTable, NoRoom, NotStrict}
+use Rattle.refusal.specs.declared.Refusal.the-variants.{Full, TooLong, BadTable, NoRoom, TooManyBytes, TenthByte, AboveU32, NotStrict}
 
 -- the refusal that has a number and a place
 abbrev pub refusalOf : ℕ → ℕ → Refusal
 refusalOf n p =
     pick (eqb n 1) (UnexpectedEof p)
     (pick (eqb n 2) (BadMagic p)
-    (pick (eqb n 3) (BadLeb128 p)
     (pick (eqb n 4) (BadUtf8 p)
     (pick (eqb n 5) (MalformedSection p)
     (pick (eqb n 6) (Directive p)
@@ -31,12 +31,14 @@ refusalOf n p =
     (pick (eqb n 14) TooLong
     (pick (eqb n 15) (BadTable p)
     (pick (eqb n 16) (NoRoom p)
-    (NotStrict p))))))))))))))))
+    (pick (eqb n 17) (TooManyBytes p)
+    (pick (eqb n 18) (TenthByte p)
+    (pick (eqb n 19) (AboveU32 p)
+    (NotStrict p))))))))))))))))))
 
 pub known : (w : Refusal) → refusalOf (numberOf w) (placeOf w) ≡ w
 known (UnexpectedEof p) = refl
 known (BadMagic p) = refl
-known (BadLeb128 p) = refl
 known (BadUtf8 p) = refl
 known (MalformedSection p) = refl
 known (Directive p) = refl
@@ -50,10 +52,19 @@ known (Full p) = refl
 known TooLong = refl
 known (BadTable p) = refl
 known (NoRoom p) = refl
+known (TooManyBytes p) = refl
+known (TenthByte p) = refl
+known (AboveU32 p) = refl
 known (NotStrict p) = refl
 
 pub same-refusal : (v w : Refusal) → numberOf v ≡ numberOf w → placeOf v ≡ placeOf w → v ≡ w
 same-refusal v w n p = sym (known v) ∙ ap (λ (k : ℕ). refusalOf k (placeOf v)) n ∙ ap (refusalOf (numberOf w)) p ∙ known w
+
+-- 3 is no refusal's number
+pub never-three : (w : Refusal) → numberOf w ≡ 3 → ⊥
+never-three w e =
+    let last : 20 ≡ numberOf w = ap numberOf (ap (λ (n : ℕ). refusalOf n (placeOf w)) (sym e) ∙ known w) in
+    omega (arith, last, e)
 
 -- what can be taken back is known, so `said` loses nothing
 pub taken-back : {A O : Type 0} {said : A → O} (back : O → A) → ((a : A) → back (said a) ≡ a) → (a b : A) → said a ≡ said b → a ≡ b

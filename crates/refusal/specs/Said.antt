@@ -4,9 +4,9 @@ use Rattle.refusal.specs.declared.Answer.{Answer}
 use Rattle.refusal.specs.declared.Count.{Count}
 use Rattle.refusal.specs.declared.Written.{Written}
 use Rattle.refusal.specs.declared.Refusal.{Refusal}
-use Rattle.refusal.specs.declared.Refusal.the-variants.{UnexpectedEof, BadMagic, BadLeb128, BadUtf8, MalformedSection, Directive}
+use Rattle.refusal.specs.declared.Refusal.the-variants.{UnexpectedEof, BadMagic, BadUtf8, MalformedSection, Directive}
 use Rattle.refusal.specs.declared.Refusal.the-variants.{BadDefault, BadDomain, PackageInWorld, NoName, Unmatched, Outside}
-use Rattle.refusal.specs.declared.Refusal.the-variants.{Full, TooLong, BadTable, NoRoom, NotStrict}
+use Rattle.refusal.specs.declared.Refusal.the-variants.{Full, TooLong, BadTable, NoRoom, TooManyBytes, TenthByte, AboveU32, NotStrict}
 
 -- accepted with a value; or refused, with a number of the table and a place
 pub data Said (X : Type 0) : Type 0 where
@@ -17,7 +17,6 @@ pub data Said (X : Type 0) : Type 0 where
 abbrev pub numberOf : Refusal → ℕ
 numberOf (UnexpectedEof p) = 1
 numberOf (BadMagic p) = 2
-numberOf (BadLeb128 p) = 3
 numberOf (BadUtf8 p) = 4
 numberOf (MalformedSection p) = 5
 numberOf (Directive p) = 6
@@ -31,13 +30,15 @@ numberOf (Full p) = 13
 numberOf TooLong = 14
 numberOf (BadTable p) = 15
 numberOf (NoRoom p) = 16
+numberOf (TooManyBytes p) = 17
+numberOf (TenthByte p) = 18
+numberOf (AboveU32 p) = 19
 numberOf (NotStrict p) = 20
 
 -- its place: the number that it holds, and 0 for 14
 abbrev pub placeOf : Refusal → ℕ
 placeOf (UnexpectedEof p) = p
 placeOf (BadMagic p) = p
-placeOf (BadLeb128 p) = p
 placeOf (BadUtf8 p) = p
 placeOf (MalformedSection p) = p
 placeOf (Directive p) = p
@@ -51,6 +52,9 @@ placeOf (Full p) = p
 placeOf TooLong = 0
 placeOf (BadTable p) = p
 placeOf (NoRoom p) = p
+placeOf (TooManyBytes p) = p
+placeOf (TenthByte p) = p
+placeOf (AboveU32 p) = p
 placeOf (NotStrict p) = p
 
 abbrev pub refusedBy : {X : Type 0} → Refusal → Said X

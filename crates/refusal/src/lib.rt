@@ -9,11 +9,10 @@ pub const MAX_FILE: usize = 16777216;
 
 pub const MAX_TEXT: usize = 65536;
 
-// Why a call gave no answer, and where: a case for each number, 1 to 16 in this order, then 20.
+// Why a call gave no answer, and where: a case for each number, 1 to 20 in this order. 3 is no refusal's number.
 pub enum Refusal {
     UnexpectedEof(usize),
     BadMagic(usize),
-    BadLeb128(usize),
     BadUtf8(usize),
     MalformedSection(usize),
     Directive(usize),
@@ -27,6 +26,9 @@ pub enum Refusal {
     TooLong,
     BadTable(usize),
     NoRoom(usize),
+    TooManyBytes(usize),
+    TenthByte(usize),
+    AboveU32(usize),
     NotStrict(usize),
 }
 
@@ -74,7 +76,6 @@ pub fn number(r: Refusal) -> u32
     match r {
         Refusal::UnexpectedEof(_) => 1,
         Refusal::BadMagic(_) => 2,
-        Refusal::BadLeb128(_) => 3,
         Refusal::BadUtf8(_) => 4,
         Refusal::MalformedSection(_) => 5,
         Refusal::Directive(_) => 6,
@@ -88,6 +89,9 @@ pub fn number(r: Refusal) -> u32
         Refusal::TooLong => 14,
         Refusal::BadTable(_) => 15,
         Refusal::NoRoom(_) => 16,
+        Refusal::TooManyBytes(_) => 17,
+        Refusal::TenthByte(_) => 18,
+        Refusal::AboveU32(_) => 19,
         Refusal::NotStrict(_) => 20,
     }
 }
@@ -98,7 +102,6 @@ pub fn place(r: Refusal) -> usize
     match r {
         Refusal::UnexpectedEof(at) => at,
         Refusal::BadMagic(at) => at,
-        Refusal::BadLeb128(at) => at,
         Refusal::BadUtf8(at) => at,
         Refusal::MalformedSection(at) => at,
         Refusal::Directive(line) => line,
@@ -112,6 +115,9 @@ pub fn place(r: Refusal) -> usize
         Refusal::TooLong => 0,
         Refusal::BadTable(row) => row,
         Refusal::NoRoom(needed) => needed,
+        Refusal::TooManyBytes(at) => at,
+        Refusal::TenthByte(at) => at,
+        Refusal::AboveU32(at) => at,
         Refusal::NotStrict(rule) => rule,
     }
 }

@@ -1,10 +1,9 @@
 -- Worked examples of the definitions. Assumes nothing.
 use mathlib.Core.Path.{_≡_, refl}
 use mathlib.Core.List.{List, [], _∷_}
-use Rattle.refusal.specs.declared.Refusal.the-variants.{Full, TooLong}
 use Rattle.report.specs.Decimal.{digits, decimalOf}
 use Rattle.report.specs.Escape.{shownPlain, shown, escaped}
-use Rattle.report.specs.Texts.{refusalText}
+use Rattle.report.specs.Texts.{refusedText}
 
 zero-is : decimalOf 0 ≡ 48 ∷ []
 unfolding decimalOf digits
@@ -21,6 +20,6 @@ unfolding shownPlain shown escaped
 name-is = refl
 
 -- refused 14 at 0
-too-long-is : refusalText TooLong ≡ 114 ∷ 101 ∷ 102 ∷ 117 ∷ 115 ∷ 101 ∷ 100 ∷ 32 ∷ 49 ∷ 52 ∷ 32 ∷ 97 ∷ 116 ∷ 32 ∷ 48 ∷ 10 ∷ []
-unfolding refusalText decimalOf digits
+too-long-is : refusedText 14 0 ≡ 114 ∷ 101 ∷ 102 ∷ 117 ∷ 115 ∷ 101 ∷ 100 ∷ 32 ∷ 49 ∷ 52 ∷ 32 ∷ 97 ∷ 116 ∷ 32 ∷ 48 ∷ 10 ∷ []
+unfolding refusedText decimalOf digits
 too-long-is = refl

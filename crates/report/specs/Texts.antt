@@ -4,8 +4,7 @@ use mathlib.Core.List.{List, [], _∷_, _++_}
 use Prim.Native.Nat.{ℕ}
 use lib.ListN.{getD}
 use Rattle.refusal.specs.Pick.{pick}
-use Rattle.refusal.specs.Said.{Said, refused, numberOf, placeOf}
-use Rattle.refusal.specs.declared.Refusal.{Refusal}
+use Rattle.refusal.specs.Said.{Said, refused}
 use Rattle.kinds.specs.Kinds.{kindWord}
 use Rattle.kinds.specs.declared.ExternalKind.{ExternalKind}
 use Rattle.domains.specs.Domain.{slug}
@@ -23,8 +22,8 @@ abbrev pub lf : List ℕ
 lf = 10 ∷ []
 
 -- `refused N at P`
-unfoldable pub refusalText : Refusal → List ℕ
-refusalText why = refusedW ++ (decimalOf (numberOf why) ++ (atW ++ (decimalOf (placeOf why) ++ lf)))
+unfoldable pub refusedText : ℕ → ℕ → List ℕ
+refusedText number place = refusedW ++ (decimalOf number ++ (atW ++ (decimalOf place ++ lf)))
 
 -- how long a file is, and how many sections, imports and exports it has
 unfoldable pub countsText : ℕ → ℕ → ℕ → ℕ → List ℕ

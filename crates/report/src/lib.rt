@@ -12,7 +12,6 @@ use domains::Domain;
 use domains::domain_slug;
 use kinds::ExternalKind;
 use kinds::kind_slug;
-use refusal::Refusal;
 use refusal::Written;
 use verdicts::Evaluation;
 use verdicts::Verdict;
@@ -23,18 +22,18 @@ ghost use lib.ListN.{length};
 ghost use Rattle.domains.specs.Domain.{domainNumber};
 ghost use Rattle.output.specs.Bytes.{WriterTells};
 ghost use Rattle.report.specs.Line.{lineOf, added};
-ghost use Rattle.report.specs.Texts.{refusalText, countsText, whether, verdictMark, domainText, named, violationsText};
+ghost use Rattle.report.specs.Texts.{refusedText, countsText, whether, verdictMark, domainText, named, violationsText};
 ghost use Rattle.report.specs.Texts.{complianceText};
 ghost use Rattle.report.specs.Texts.{standText, verdictText, tailText, headText, removedIn, addedIn};
 
 // `refused N at P`
-pub fn refusal_line(why: Refusal) -> Line
-    ensures { λ r. ⌜ r ≡ lineOf (refusalText why) ⌝ }
+pub fn refused_line(number: usize, place: usize) -> Line
+    ensures { λ r. ⌜ r ≡ lineOf (refusedText number place) ⌝ }
 {
     let a = begin(b"refused ");
-    let b = add_number(a, refusal::number(why) as usize);
+    let b = add_number(a, number);
     let c = add(b, b" at ");
-    let d = add_number(c, refusal::place(why));
+    let d = add_number(c, place);
     add(d, b"\n")
 }
 

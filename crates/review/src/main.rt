@@ -11,7 +11,6 @@ use refusal::Answer;
 use refusal::Count;
 use refusal::MAX_TEXT;
 use refusal::Refusal;
-use report::refusal_line;
 use report::stand_line;
 use report::verdict_line;
 use requirements::module::requirements_from_module;
@@ -25,6 +24,7 @@ use table::shape::SECTION_WIDTH;
 use tell::name_policy;
 use tell::print_counts;
 use tell::print_line;
+use tell::print_refusal;
 use tell::tell_added;
 use tell::tell_domains;
 use tell::tell_removed;
@@ -76,7 +76,7 @@ fn with_text(text: &[u8]) {
     let read = policy::read_policy(text);
     let answer = read.answer;
     match answer {
-        Answer::Refused(why) => print_line(refusal_line(why)),
+        Answer::Refused(why) => print_refusal(why),
         Answer::Accepted => {
             let p = read.policy;
             name_policy(text, p);
@@ -100,7 +100,7 @@ fn with_baseline(p: Policy, baseline: &[u8]) {
     let mut exports = [0usize; EXPORTS];
     name_file(b"baseline: ", 2);
     match read_build(baseline, &mut imports, &mut exports) {
-        ModuleRead::Refused(why) => print_line(refusal_line(why)),
+        ModuleRead::Refused(why) => print_refusal(why),
         ModuleRead::Module(m) => {
             print_counts(m);
             review_all(p, baseline, &imports, m.imports, &exports, m.exports);
@@ -156,7 +156,7 @@ fn with_candidate<'a>(
     let mut exports = [0usize; EXPORTS];
     name_file(b"candidate: ", i);
     match read_build(candidate, &mut imports, &mut exports) {
-        ModuleRead::Refused(why) => print_line(refusal_line(why)),
+        ModuleRead::Refused(why) => print_refusal(why),
         ModuleRead::Module(m) => {
             print_counts(m);
             let e = evaluate(p, candidate, &imports, m.imports);
@@ -221,7 +221,7 @@ fn compare<'a>(
     ) {
         Compared::Refused(why) => {
             name_file(b"compared: ", i);
-            print_line(refusal_line(why));
+            print_refusal(why);
         }
         Compared::Lists {
             exports,

@@ -9,6 +9,7 @@ use kinds::ExternalKind;
 use kinds::kind_of;
 use libc::STDOUT_FILENO;
 use policy::Policy;
+use refusal::Refusal;
 use refusal::Written;
 use report::added_line;
 use report::compliance_line;
@@ -16,7 +17,7 @@ use report::counts_line;
 use report::domain_line;
 use report::escape::frame;
 use report::line::Line;
-use report::refusal_line;
+use report::refused_line;
 use report::removed_line;
 use table::cell;
 use table::range;
@@ -37,10 +38,14 @@ pub(crate) fn print_line(l: Line) {
     print_text(range(&bytes, 0, l.len));
 }
 
+pub(crate) fn print_refusal(why: Refusal) {
+    print_line(refused_line(refusal::number(why) as usize, refusal::place(why)));
+}
+
 pub(crate) fn print_written(w: Written, out: &[u8]) {
     match w {
         Written::Bytes(n) => print_text(range(out, 0, n)),
-        Written::Refused(why) => print_line(refusal_line(why)),
+        Written::Refused(why) => print_refusal(why),
     }
 }
 

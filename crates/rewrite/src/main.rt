@@ -1,15 +1,14 @@
-// Reads a policy from standard input and writes its text, in the one form that the writer gives it, to standard output.
+// Reads a policy from standard input and prints its text in the one form that the writer gives it, or `refused N at P`.
 use libc::STDIN_FILENO;
 use libc::STDOUT_FILENO;
-use policy::Policy;
-use refusal::Answer;
 use refusal::MAX_TEXT;
-use refusal::Refusal;
-use refusal::Written;
+use rewritten::rewrite_text;
+ghost use mathlib.Core.Path.{_≡_};
 ghost use Prim.Native.Nat.{_≤_};
 ghost use lib.ListN.{length};
+ghost use Rattle.rewritten.specs.Printed.{printedOf};
 
-// One byte more than a text may have, so that 14 is seen; and room for what is written.
+// One byte more than a text may have, so that 14 is seen; and room for all that is printed.
 const BUFFER: usize = MAX_TEXT + 1;
 
 const ROOM: usize = MAX_TEXT * 2;
@@ -58,36 +57,17 @@ fn read_input(buffer: &mut [u8]) -> Input
     }
 }
 
-fn rewrite(s: &[u8]) {
-    let read = policy::read_policy(s);
-    let answer = read.answer;
-    match answer {
-        Answer::Refused(why) => print_refusal(why),
-        Answer::Accepted => {
-            let p = read.policy;
-            write(s, p);
-        }
-    }
-}
-
-fn write(s: &[u8], p: Policy) {
+fn rewrite(text: &[u8]) {
     let mut out = [0u8; ROOM];
-    match policy_text::write_policy(s, p, &mut out) {
-        Written::Refused(why) => print_refusal(why),
-        Written::Bytes(n) => print_text(&out[..n]),
-    }
+    let n = rewrite_text(text, &mut out);
+    print(text, &out[..n]);
 }
 
-fn print_text(bytes: &[u8]) {
+// Nothing else is printed: the bytes are what `printedOf` says of the text.
+fn print(text: &[u8], bytes: &[u8])
+    requires { ⌜ now bytes ≡ printedOf (now text) ⌝ }
+{
     if !io::write_all(STDOUT_FILENO, bytes) {
         os::fail(b"standard output");
     }
-}
-
-fn print_refusal(why: Refusal) {
-    io::write_all(STDOUT_FILENO, b"refused ");
-    io::print_decimal(STDOUT_FILENO, refusal::number(why) as u64);
-    io::write_all(STDOUT_FILENO, b" at ");
-    io::print_decimal(STDOUT_FILENO, refusal::place(why) as u64);
-    io::write_all(STDOUT_FILENO, b"\n");
 }

@@ -1,17 +1,32 @@
--- Laws of the second walk: a run of entries, a frame, a custom section. Assumes nothing.
-use Prim.Native.Nat.{ℕ, suc, _-_, _≤_, _<_}
+-- Laws of the second walk: a number of one byte, a run of entries, a frame, a custom section. Assumes nothing.
+use Prim.Native.Nat.{ℕ, suc, _+_, _-_, _≤_, _<_}
 use native.Mathlib.Omega.{arith}
 use mathlib.Core.Path.{_≡_, sym, _∙_, ap}
 use mathlib.Core.Bool.{true, false}
 use mathlib.Core.List.{List}
+use lib.ListN.{length, getD, drop}
+use lib.Seq.{drop-cons}
+use borrow.Author.Tests.{lt-ltb, le-leb}
 use Rattle.refusal.specs.Said.{Said, accepted, refused, Got, got, onward}
 use Rattle.refusal.specs.declared.Part.{Part}
 use Rattle.text.specs.Find.{same}
 use Rattle.table.specs.Walking.{walkFrom}
-use Rattle.leb.specs.Reads.{partBytes, byteAt, countedAt}
+use Rattle.leb.specs.Groups.{uN}
+use Rattle.leb.specs.Reads.{partBytes, toldAt, narrowed, ulebAt, u32At, byteAt, countedAt}
 use Rattle.wasm.specs.Custom.{nameWord}
 use Rattle.strict.specs.declared.again.Marks.{Marks}
 use Rattle.strict.specs.Again.{withNumber, runFrom, framedMarks, subsectionMarks, customMarks}
+
+-- ---- a number of one byte
+pub one-byte : (s : List ℕ) (at : ℕ) → at < length s → getD s at 0 < 128 → accepted (got (getD s at 0) (at + 1)) ≡ u32At s at
+unfolding u32At ulebAt toldAt uN onward narrowed
+one-byte s at h b =
+    rw (
+      drop-cons s at 0 h,
+      lt-ltb (getD s at 0) 128 b,
+      lt-ltb (getD s at 0) 18446744073709551616 (omega arith),
+      le-leb (getD s at 0) 4294967295 (omega arith),
+    )
 
 -- ---- entries
 module _ (read : ℕ → Marks → Said (Got Marks)) (left at : ℕ) (m : Marks) where

@@ -1,51 +1,32 @@
--- No plain read is refused with a number above 16, so 20 is the rules' own. A law for each way in which outcomes are made, then one for
--- each definition. Assumes nothing.
-use Prim.Native.Nat.{ℕ, zero, suc, _+_, _-_, _%_, _≤_}
-use native.Mathlib.Omega.{arith}
-use mathlib.Core.Path.{_≡_, refl, sym}
-use mathlib.Core.Bool.{Bool, true, false}
+-- The numbers with which a plain read is refused: 20 is not among them, which is the rules' own. A law for each definition. Assumes
+-- nothing.
+use Prim.Native.Nat.{ℕ, zero, suc, _+_, _-_, _%_}
+use mathlib.Core.Path.{_≡_, refl}
+use mathlib.Core.Bool.{true}
 use mathlib.Core.List.{List, [], _∷_, _++_}
 use lib.ListN.{length, drop}
 use lib.Dec.{eqb, ltb, leb}
 use Rattle.refusal.specs.Pick.{pick}
 use Rattle.refusal.specs.Sizes.{fileLimit}
-use Rattle.refusal.specs.Said.{Said, accepted, refused, Got, got, onward}
-use Rattle.refusal.proofs.Following.{never}
+use Rattle.refusal.specs.Said.{Said, accepted, Got, got}
 use Rattle.text.specs.Find.{same}
 use Rattle.text.specs.Utf8.{upTo}
-use Rattle.text.specs.Walk.{stop, go, walk}
 use Rattle.table.specs.Shape.{capacityIn}
 use Rattle.table.specs.Entries.{entriesFrom}
-use Rattle.table.specs.Walking.{turnOf, walkFrom}
-use Rattle.leb.specs.Groups.{Out, value, ends, bad, uN}
+use Rattle.table.specs.Walking.{walkFrom}
+use Rattle.table.proofs.Numbers.{Numbers, fine, off, choice, chain, walks-from}
+use Rattle.leb.specs.Groups.{Out, value, ends, overlong, oversize, uN}
 use Rattle.leb.specs.Reads.{partBytes, toldAt, narrowed, ulebAt, byteAt, u32At, fixedAt, takeAt, countedAt, checked, nameAt}
 use Rattle.wasm.specs.Shapes.{Symbol}
 use Rattle.wasm.specs.Entry.{limitsAt, funcAt, tableAt, memoryAt, globalAt, descAt, importAt, exportAt, symbolAt}
 use Rattle.wasm.specs.Rows.{importsOf, exportsOf, symbolsOf}
 use Rattle.wasm.specs.Custom.{Names, nameWord, labelAt, toldBy, subsectionAt, customAt}
 use Rattle.wasm.specs.Module.{Tables, Sizes, noTables, contentsAt, addSection, sectionAt, magic, headerAt, moduleAt}
-use Rattle.strict.specs.Claims.{PlainNumbers}
+use Rattle.strict.specs.Claims.{oneOf, plainRefusals, PlainNumbers}
 
--- ---- a refusal has a number of the plain table
-pub record Plain {X : Type 0} (x : Said X) : Type 0 where
-  pub number : (n p : ℕ) → x ≡ refused n p → n ≤ 16
-
-fine : {X : Type 0} (v : X) → Plain (accepted v)
-fine v = record { number = λ n p e. absurd (never (sym e)) }
-
-off : {X : Type 0} (n p : ℕ) → n ≤ 16 → Plain {X = X} (refused n p)
-off {X} n p h = record { number = λ m q e. by e } where
-  by : {m q : ℕ} → _≡_ {A = Said X} (refused n p) (refused m q) → m ≤ 16
-  by {m} e = let k : n ≡ m = cc in omega (arith, h, k)
-
-choice : {X : Type 0} (t : Bool) {x y : Said X} → Plain x → Plain y → Plain (pick t x y)
-choice true a b = a
-choice false a b = b
-
-chain : {X Y : Type 0} (x : Said (Got X)) (f : X → ℕ → Said Y) → Plain x → ((v : X) (d : ℕ) → Plain (f v d)) → Plain (onward x f)
-unfolding onward
-chain (accepted (got v d)) f a b = b v d
-chain (refused n p) f a b = off n p (a .number n p refl)
+-- a refusal's number is one of those of a plain read
+abbrev Plain : {X : Type 0} → Said X → Type 0
+Plain x = Numbers (λ n. oneOf n plainRefusals ≡ true) x
 
 entries : {R : Type 0} (read : ℕ → Said (Got R)) (tn room : ℕ) → ((at : ℕ) → Plain (read at)) → (n at : ℕ) (rows : List R)
     → Plain (entriesFrom read tn room n at rows)
@@ -53,53 +34,36 @@ unfolding entriesFrom
 entries read tn room h zero at rows = fine _
 entries read tn room h (suc n) at rows =
     chain (read at) _ (h at)
-    (λ row next. choice (ltb (length rows) room) (entries read tn room h n next (rows ++ (row ∷ []))) (off 13 tn (omega arith)))
-
-module _ {T : Type 0} (step : ℕ → T → Said (Got T)) (h : (at : ℕ) (t : T) → Plain (step at t)) where
-  abbrev walked : T → ℕ → ℕ → List ℕ → Said (Got T)
-  walked = walk (λ st i rest. turnOf i (step i st)) (λ st i. accepted (got st i))
-
-  walks : (t : T) (at k : ℕ) (l : List ℕ) → Plain (walked t at k l)
-  unfolding walk turnOf
-  walks t at k [] = fine _
-  walks t at (suc k) (x ∷ l) = walks t (suc at) k l
-  walks t at zero (x ∷ l) = by (λ v k. walks v (suc at) k l) (step at t) (h at t) where
-    by : ((v : T) (k : ℕ) → Plain (walked v (suc at) k l)) → (y : Said (Got T)) → Plain y
-        → Plain {X = Got T} (elim (turnOf at y) [ stop r ↦ r | go st k ↦ walked st (suc at) k l ])
-    by ih (accepted (got v c)) a = ih v (c - suc at)
-    by ih (refused n p) a = a
-
-  walks-from : (b : List ℕ) (at : ℕ) (t : T) → Plain (walkFrom step b at t)
-  unfolding walkFrom
-  walks-from b at t = walks t at 0 (drop at b)
+    (λ row next. choice (ltb (length rows) room) (entries read tn room h n next (rows ++ (row ∷ []))) (off 13 tn refl))
 
 -- ---- numbers and names
 byte : (s : List ℕ) (at : ℕ) → Plain (byteAt s at)
 unfolding byteAt
-byte s at = choice (ltb at (length s)) (fine _) (off 1 at (omega arith))
+byte s at = choice (ltb at (length s)) (fine _) (off 1 at refl)
 
 fixed : (s : List ℕ) (at : ℕ) → Plain (fixedAt s at)
 unfolding fixedAt
-fixed s at = choice (leb (at + 4) (length s)) (fine _) (off 1 at (omega arith))
+fixed s at = choice (leb (at + 4) (length s)) (fine _) (off 1 at refl)
 
 taken : (s : List ℕ) (at n : ℕ) → Plain (takeAt s at n)
 unfolding takeAt
 taken s at n =
-    choice (ltb (length s) at) (off 1 at (omega arith))
-    (choice (ltb (18446744073709551615 - at) n) (off 5 at (omega arith))
-    (choice (leb (at + n) (length s)) (fine _) (off 1 at (omega arith))))
+    choice (ltb (length s) at) (off 1 at refl)
+    (choice (ltb (18446744073709551615 - at) n) (off 5 at refl)
+    (choice (leb (at + n) (length s)) (fine _) (off 1 at refl)))
 
 telling : (at : ℕ) (o : Out ℕ) → Plain (toldAt at o)
 unfolding toldAt
 telling at (value v k) = fine _
-telling at (ends k) = off 1 (at + k) (omega arith)
-telling at bad = off 3 at (omega arith)
+telling at (ends k) = off 1 (at + k) refl
+telling at overlong = off 17 at refl
+telling at oversize = off 18 at refl
 
 number : (s : List ℕ) (at : ℕ) → Plain (u32At s at)
 unfolding u32At ulebAt narrowed
 number s at =
     chain (toldAt at (uN 64 (drop at s))) _ (telling at (uN 64 (drop at s)))
-    (λ v next. choice (leb v 4294967295) (fine _) (off 3 next (omega arith)))
+    (λ v next. choice (leb v 4294967295) (fine _) (off 19 next refl))
 
 counted : (s : List ℕ) (at : ℕ) → Plain (countedAt s at)
 unfolding countedAt
@@ -109,7 +73,7 @@ name : (s : List ℕ) (at : ℕ) → Plain (nameAt s at)
 unfolding nameAt checked
 name s at =
     chain (countedAt s at) _ (counted s at)
-    (λ p next. choice (eqb (upTo (partBytes s p)) (p .len)) (fine _) (off 4 (p .from) (omega arith)))
+    (λ p next. choice (eqb (upTo (partBytes s p)) (p .len)) (fine _) (off 4 (p .from) refl))
 
 -- ---- entries
 limits : (s : List ℕ) (at : ℕ) → Plain (limitsAt s at)
@@ -126,7 +90,7 @@ desc s kind at =
     (choice (eqb kind 1) (chain (byteAt s at) _ (byte s at) (λ v a. chain (limitsAt s a) _ (limits s a) (λ l b. fine _)))
     (choice (eqb kind 2) (chain (limitsAt s at) _ (limits s at) (λ l b. fine _))
     (choice (eqb kind 3) (chain (byteAt s at) _ (byte s at) (λ v a. chain (byteAt s a) _ (byte s a) (λ w b. fine _)))
-    (off 5 kind (omega arith)))))
+    (off 5 kind refl))))
 
 import' : (s : List ℕ) (base at : ℕ) → Plain (importAt s base at)
 unfolding importAt
@@ -191,19 +155,19 @@ section b z at t =
     chain (byteAt b at) _ (byte b at) (λ id a.
     chain (countedAt b a) _ (counted b a) (λ p next.
     chain (contentsAt id (partBytes b p) (p .from) z t) _ (contents id (partBytes b p) (p .from) z t) (λ u e.
-    choice (ltb (length (u .tables .sections)) (capacityIn 1 (z .sections))) (fine _) (off 13 1 (omega arith)))))
+    choice (ltb (length (u .tables .sections)) (capacityIn 1 (z .sections))) (fine _) (off 13 1 refl))))
 
 header : (b : List ℕ) → Plain (headerAt b)
 unfolding headerAt
 header b =
     chain (takeAt b 0 4) _ (taken b 0 4) (λ p c.
     choice (same magic (partBytes b p))
-    (chain (fixedAt b c) _ (fixed b c) (λ v d. choice (eqb v 0) (off 2 4 (omega arith)) (fine _))) (off 2 0 (omega arith)))
+    (chain (fixedAt b c) _ (fixed b c) (λ v d. choice (eqb v 0) (off 2 4 refl) (fine _))) (off 2 0 refl))
 
 module-plain : (b : List ℕ) (z : Sizes) → Plain (moduleAt b z)
 unfolding moduleAt
 module-plain b z =
-    choice (ltb fileLimit (length b)) (off 14 0 (omega arith))
+    choice (ltb fileLimit (length b)) (off 14 0 refl)
     (chain (headerAt b) _ (header b) (λ v c.
     chain (walkFrom (sectionAt b z) b c noTables) _ (walks-from (sectionAt b z) (section b z) b c noTables) (λ t d. fine _)))
 

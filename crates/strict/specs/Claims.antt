@@ -1,8 +1,11 @@
 -- docs/PROMISES.md, "strict, clean": what is claimed of a strict read beside the plain one. Assumes nothing.
 use Prim.Native.Nat.{ℕ, _≤_}
 use mathlib.Core.Path.{_≡_}
+use mathlib.Core.Bool.{Bool, true, false}
 use mathlib.Core.Logic.{_⊎_}
-use mathlib.Core.List.{List}
+use mathlib.Core.List.{List, [], _∷_}
+use lib.Dec.{eqb}
+use Rattle.refusal.specs.Pick.{pick}
 use Rattle.refusal.specs.Said.{accepted, refused, got}
 use Rattle.wasm.specs.Module.{Parsed, Sizes, moduleAt}
 use Rattle.strict.specs.declared.again.Marks.{Marks}
@@ -66,6 +69,13 @@ abbrev pub TestedRead : Type 0
 TestedRead =
     (b : List ℕ) → testedAt b limits ≡ accepted tt → (m : Parsed) × (strictAt b limits ≡ accepted m) × (moduleAt b limits ≡ accepted m)
 
--- no plain refusal is 20
+-- a plain read is refused with these numbers alone: never with 20, which is the rules', and never with 3
+abbrev pub plainRefusals : List ℕ
+plainRefusals = 1 ∷ 2 ∷ 4 ∷ 5 ∷ 13 ∷ 14 ∷ 17 ∷ 18 ∷ 19 ∷ []
+
+abbrev pub oneOf : ℕ → List ℕ → Bool
+oneOf n [] = false
+oneOf n (m ∷ l) = pick (eqb n m) true (oneOf n l)
+
 abbrev pub PlainNumbers : Type 0
-PlainNumbers = (b : List ℕ) (z : Sizes) (n p : ℕ) → moduleAt b z ≡ refused n p → n ≤ 16
+PlainNumbers = (b : List ℕ) (z : Sizes) (n p : ℕ) → moduleAt b z ≡ refused n p → oneOf n plainRefusals ≡ true

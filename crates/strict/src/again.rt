@@ -6,6 +6,8 @@ use leb::U32Read;
 use refusal::Refusal;
 ghost use mathlib.Core.Path.{_≡_};
 ghost use lib.ListN.{length};
+ghost use Rattle.leb.specs.Reads.{u32At, countedAt};
+ghost use Rattle.leb.specs.Answers.{answerFrom, saidU32, saidPart};
 ghost use Rattle.table.specs.Told.{Passed};
 ghost use Rattle.table.specs.Walking.{walkFrom};
 ghost use Rattle.strict.specs.Again.{saidMarked, whyMarked, withNumber, withEntries, withFlag};
@@ -17,6 +19,9 @@ ghost use Rattle.strict.specs.Again.{subsectionMarks, customMarks, listM
 const MOST_BYTES: usize = 5;
 
 const LAST_FLAG: u8 = 1;
+
+// From here on a byte of a number is followed by another.
+const MORE: u8 = 128;
 
 // Where the sections start: after the magic and the version.
 const HEADER: usize = 8;
@@ -84,10 +89,39 @@ impl Marks {
     }
 }
 
+// As `uleb128_u32`; a number of one byte, as nearly every one is, is told at once.
+fn read_number(s: &[u8], c: Cursor) -> U32Read
+    ensures { λ r. ⌜ saidU32 r ≡ answerFrom (c .at) (u32At (now (s .entry)) (c .at)) ⌝ }
+{
+    let at = c.at;
+    if at < s.len() {
+        let byte = s[at];
+        if byte < MORE {
+            return U32Read::Read(byte as u32, Cursor { at: at + 1 });
+        }
+    }
+    c.uleb128_u32(s)
+}
+
+// As `counted`.
+fn read_part(s: &[u8], c: Cursor) -> PartRead
+    ensures { λ r. ⌜ saidPart r ≡ answerFrom (c .at) (countedAt (now (s .entry)) (c .at)) ⌝ }
+{
+    let number = read_number(s, c);
+    let U32Read::Read(len, next) = number else {
+        return PartRead::Refused(number.why(), c);
+    };
+    let part = next.take(s, len as usize);
+    let PartRead::Read(bytes, past) = part else {
+        return PartRead::Refused(part.why(), c);
+    };
+    PartRead::Read(bytes, past)
+}
+
 fn mark_number(s: &[u8], c: Cursor, m: Marks) -> Marked
     ensures { λ r. ⌜ saidMarked r ≡ numberMarks (now (s .entry)) (c .at) m ⌝ }
 {
-    let one = c.uleb128_u32(s);
+    let one = read_number(s, c);
     let U32Read::Read(_, next) = one else {
         return Marked::Refused(one.why());
     };
@@ -98,7 +132,7 @@ fn mark_number(s: &[u8], c: Cursor, m: Marks) -> Marked
 fn mark_part(s: &[u8], c: Cursor, m: Marks) -> Marked
     ensures { λ r. ⌜ saidMarked r ≡ partMarks (now (s .entry)) (c .at) m ⌝ }
 {
-    let one = c.counted(s);
+    let one = read_part(s, c);
     let PartRead::Read(p, next) = one else {
         return Marked::Refused(one.why());
     };
@@ -238,7 +272,7 @@ fn mark_run(which: u8, s: &[u8], m: Marks) -> Marked
     ensures { λ r. ⌜ saidMarked r ≡ runMarks which (now (s .entry)) m ⌝ }
 {
     let start = Cursor { at: 0 };
-    let one = start.uleb128_u32(s);
+    let one = read_number(s, start);
     let U32Read::Read(count, first) = one else {
         return Marked::Refused(one.why());
     };
@@ -265,7 +299,7 @@ fn mark_subsection(s: &[u8], c: Cursor, m: Marks) -> Marked
     let ByteRead::Read(id, after_id) = one else {
         return Marked::Refused(one.why());
     };
-    let two = after_id.counted(s);
+    let two = read_part(s, after_id);
     let PartRead::Read(p, next) = two else {
         return Marked::Refused(two.why());
     };
@@ -302,7 +336,7 @@ fn mark_custom(s: &[u8], m: Marks) -> Marked
     ensures { λ r. ⌜ saidMarked r ≡ customMarks (now (s .entry)) m ⌝ }
 {
     let start = Cursor { at: 0 };
-    let one = start.counted(s);
+    let one = read_part(s, start);
     let PartRead::Read(p, c) = one else {
         return Marked::Refused(one.why());
     };
@@ -347,7 +381,7 @@ fn mark_section(file: &[u8], c: Cursor, m: Marks) -> Marked
     let ByteRead::Read(id, after_id) = one else {
         return Marked::Refused(one.why());
     };
-    let two = after_id.counted(file);
+    let two = read_part(file, after_id);
     let PartRead::Read(p, next) = two else {
         return Marked::Refused(two.why());
     };

@@ -5,3 +5,4 @@ pub mod Answer
 pub mod Larger
 pub mod Parts
 pub mod Sound
+pub mod Numbers

@@ -17,7 +17,7 @@ macro_rules! as_in_c {
     };
 }
 
-pub const INTERFACE: u32 = 1;
+pub const INTERFACE: u32 = 2;
 
 as_in_c! {
     Answer, 16;

@@ -1,4 +1,5 @@
 //! The inputs: exhaustive short ones, good ones made by a grammar, damaged copies. A round of seeded ones is the same for the same seed.
+mod bad;
 mod contrasts;
 mod manifests;
 mod modules;
@@ -15,6 +16,7 @@ pub use modules::{hear, reserving};
 
 pub fn fixed(court: &mut Court) {
     numbers::fixed(court);
+    bad::fixed(court);
     policies::fixed(court);
     manifests::fixed(court);
     modules::fixed(court);

@@ -23,7 +23,7 @@ use Rattle.strict.proofs.again.mark_custom.Tie as tie
 named : (c : tie.After-known-told)
     → countedAt (now (c .before .before .before .before .before .args .s)) 0
     ≡ accepted (got (c .before .one .given .0 .0) (c .before .one .given .0 .1 .0 .at))
-named c = hear saidPart _ _ (c .before .before .before .counted .ensures) (c .before .one .given .1)
+named c = hear saidPart _ _ (c .before .before .before .read-part .ensures) (c .before .one .given .1)
 
 cutting : (c : tie.After-known-told)
     → let p = c .before .one .given .0 .0 in
@@ -35,7 +35,7 @@ returns : tie.Need-returns
 unfolding customMarks
 returns c =
     let e = c .before .enum-told .given .1 in
-    stops _ (hear saidPart _ _ (c .before .before .before .counted .ensures) e) (c .why .ensures ∙ ap whyPart e)
+    stops _ (hear saidPart _ _ (c .before .before .before .read-part .ensures) e) (c .why .ensures ∙ ap whyPart e)
 
 add-end : tie.Need-add-end
 add-end c =

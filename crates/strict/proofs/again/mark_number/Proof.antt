@@ -14,19 +14,19 @@ returns : tie.Need-returns
 unfolding numberMarks
 returns c =
     let e = c .before .enum-told .given .1 in
-    stops _ (hear saidU32 _ _ (c .before .before .before .uleb128-u32 .ensures) e) (c .why .ensures ∙ ap whyU32 e)
+    stops _ (hear saidU32 _ _ (c .before .before .before .read-number .ensures) e) (c .why .ensures ∙ ap whyU32 e)
 
 sub-with-number : tie.Need-sub-with-number
 sub-with-number c =
     let k1 = c .before .before in
-    let w = u32-in _ _ _ _ (hear saidU32 _ _ (k1 .before .before .before .uleb128-u32 .ensures) (k1 .before .one .given .1)) in
+    let w = u32-in _ _ _ _ (hear saidU32 _ _ (k1 .before .before .before .read-number .ensures) (k1 .before .one .given .1)) in
     omega (arith, w .0 .past)
 
 returns-2 : tie.Need-returns-2
 unfolding numberMarks
 returns-2 c =
     let k1 = c .before .before .before in
-    goes _ (hear saidU32 _ _ (k1 .before .before .before .uleb128-u32 .ensures) (k1 .before .one .given .1))
+    goes _ (hear saidU32 _ _ (k1 .before .before .before .read-number .ensures) (k1 .before .one .given .1))
     (simp (c .with-number .ensures))
 
 pub mark-number-spec : {M : Type 1} → statement M

@@ -14,19 +14,19 @@ returns : tie.Need-returns
 unfolding partMarks
 returns c =
     let e = c .before .enum-told .given .1 in
-    stops _ (hear saidPart _ _ (c .before .before .before .counted .ensures) e) (c .why .ensures ∙ ap whyPart e)
+    stops _ (hear saidPart _ _ (c .before .before .before .read-part .ensures) e) (c .why .ensures ∙ ap whyPart e)
 
 sub-with-number : tie.Need-sub-with-number
 sub-with-number c =
     let k1 = c .before .before in
-    let w = counted-in _ _ _ _ (hear saidPart _ _ (k1 .before .before .before .counted .ensures) (k1 .before .one .given .1)) in
+    let w = counted-in _ _ _ _ (hear saidPart _ _ (k1 .before .before .before .read-part .ensures) (k1 .before .one .given .1)) in
     omega (arith, w .past)
 
 returns-2 : tie.Need-returns-2
 unfolding partMarks
 returns-2 c =
     let k1 = c .before .before .before in
-    goes _ (hear saidPart _ _ (k1 .before .before .before .counted .ensures) (k1 .before .one .given .1))
+    goes _ (hear saidPart _ _ (k1 .before .before .before .read-part .ensures) (k1 .before .one .given .1))
     (simp (c .with-number .ensures))
 
 pub mark-part-spec : {M : Type 1} → statement M

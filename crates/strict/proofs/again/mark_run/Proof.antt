@@ -12,13 +12,13 @@ returns : tie.Need-returns
 unfolding runMarks
 returns c =
     let e = c .before .enum-told .given .1 in
-    stops _ (hear saidU32 _ _ (c .before .before .before .uleb128-u32 .ensures) e) (c .why .ensures ∙ ap whyU32 e)
+    stops _ (hear saidU32 _ _ (c .before .before .before .read-number .ensures) e) (c .why .ensures ∙ ap whyU32 e)
 
 returns-2 : tie.Need-returns-2
 unfolding runMarks
 returns-2 c =
     let k1 = c .before .before in
-    goes _ (hear saidU32 _ _ (k1 .before .before .before .uleb128-u32 .ensures) (k1 .before .one .given .1))
+    goes _ (hear saidU32 _ _ (k1 .before .before .before .read-number .ensures) (k1 .before .one .given .1))
     (c .mark-entries .ensures ∙ ap (runFrom _ _ _) (c .before .with-number .ensures))
 
 pub mark-run-spec : {M : Type 1} → statement M
