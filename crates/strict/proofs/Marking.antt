@@ -21,8 +21,12 @@ use Rattle.strict.specs.Again.{withNumber, runFrom, framedMarks, subsect
 pub one-byte : (s : List ℕ) (at : ℕ) → at < length s → getD s at 0 < 128 → accepted (got (getD s at 0) (at + 1)) ≡ u32At s at
 unfolding u32At ulebAt toldAt uN onward narrowed
 one-byte s at h b =
-    rw (drop-cons s at 0 h, lt-ltb (getD s at 0) 128 b, lt-ltb (getD s at 0) 18446744073709551616 (omega arith),
-    le-leb (getD s at 0) 4294967295 (omega arith))
+    rw (
+      drop-cons s at 0 h,
+      lt-ltb (getD s at 0) 128 b,
+      lt-ltb (getD s at 0) 18446744073709551616 (omega arith),
+      le-leb (getD s at 0) 4294967295 (omega arith),
+    )
 
 -- ---- entries
 module _ (read : ℕ → Marks → Said (Got Marks)) (left at : ℕ) (m : Marks) where
