@@ -4,7 +4,7 @@
 use std::sync::atomic::{AtomicUsize, Ordering};
 
 use viscrombal::policy::Policy;
-use viscrombal::{wasm, wit, ErrorKind, Refusal};
+use viscrombal::{wasm, wit, ErrorKind, Refusal, INTERFACE};
 
 static ASKED: AtomicUsize = AtomicUsize::new(0);
 
@@ -38,9 +38,10 @@ fn it_is_told_in_words_and_nothing_is_called() {
         wasm::parse_strict(b"\0asm\x01\0\0\0").unwrap_err(),
         wit::parse("world w").unwrap_err(),
     ];
+    let words = format!("the archive is of another version: it has interface 7, and {INTERFACE} is asked for");
     for refusal in told {
         assert_eq!((refusal.kind(), refusal.number(), refusal.place(), refusal.rule()), (ErrorKind::OtherArchive, 0, 7, None));
-        assert_eq!(refusal.to_string(), "the archive is of another version: it has interface 7, and 1 is asked for");
+        assert_eq!(refusal.to_string(), words);
     }
     assert_eq!(ASKED.load(Ordering::Relaxed), 1, "asked once");
 }

@@ -65,15 +65,16 @@ fn refusals_of_modules() {
     let with = |id, payload: &[u8]| [HEADER.to_vec(), section(id, payload.to_vec())].concat();
     let sections = |n| [HEADER.to_vec(), [1, 0].repeat(n)].concat();
     let many = |n: usize| vec![("", ""); n];
-    let cases: [(&str, Vec<u8>, (u32, usize)); 17] = [
+    let cases: [(&str, Vec<u8>, (u32, usize)); 18] = [
         ("empty", vec![], (1, 0)),
         ("no version", b"\0asm".to_vec(), (1, 4)),
         ("text", b"text".to_vec(), (2, 0)),
         ("version 0", b"\0asm\0\0\0\0".to_vec(), (2, 4)),
         ("an empty import section", with(2, b""), (1, 0)),
         ("a section that is cut", [HEADER, &[1, 5]].concat(), (1, 10)),
-        ("a size that is too big", [HEADER, &[1], &[0x80; 4], &[0x10]].concat(), (3, 14)),
-        ("a number that is too long", [HEADER, &[1], &[0x80; 10], &[0]].concat(), (3, 9)),
+        ("a size that is too big", [HEADER, &[1], &[0x80; 4], &[0x10]].concat(), (19, 14)),
+        ("a number that is too long", [HEADER, &[1], &[0x80; 10], &[0]].concat(), (17, 9)),
+        ("a tenth byte that is too large", [HEADER, &[1], &[0x80; 9], &[2]].concat(), (18, 9)),
         ("a name that is no text", with(7, b"\x01\x01\xff\0\0"), (4, 2)),
         ("an import of kind 9", with(2, b"\x01\0\0\x09"), (5, 9)),
         ("a bomb", bomb(), (1, 5)),

@@ -40,11 +40,13 @@ use Rattle.output.specs.Bytes.{writtenCount}
 use Rattle.told.specs.Reading.{unsignedTold, rangeTold}
 use Rattle.told.specs.Policies.{numberIn, tokenTold, writtenTold}
 use Rattle.told.specs.Check.{evaluationTold}
+use Rattle.told.specs.Answers.{answerTold}
 use Rattle.told.specs.declared.cursor.Unsigned.{Unsigned}
 use Rattle.told.specs.declared.cursor.Range.{Range}
 use Rattle.told.specs.declared.policies.TokenTold.{TokenTold}
 use Rattle.told.specs.declared.policies.WrittenTold.{WrittenTold}
 use Rattle.told.specs.declared.check.EvaluationTold.{EvaluationTold}
+use Rattle.told.specs.declared.answers.AnswerTold.{AnswerTold}
 use Rattle.listed.specs.Modules.{moduleBytes, moduleTold}
 use Rattle.listed.specs.Manifests.{ManifestListing, manifestBytes, manifestTold, manifestListed}
 use Rattle.listed.specs.Comparisons.{Comparison, comparisonBytes, comparisonTold, comparison}
@@ -58,7 +60,7 @@ use Rattle.capi.specs.Policies.{policyTold}
 use Rattle.capi.specs.declared.cursor.Signed.{Signed}
 use Rattle.capi.specs.declared.policies.PolicyTold.{PolicyTold}
 use Rattle.promises.specs.NoThree.{NotThree, NoThreeSaid, NoThreeTold}
-use Rattle.promises.proofs.Refusals.{Spares, uleb, sleb, narrow, named, read, policy, next, all, rewrite, checking}
+use Rattle.promises.proofs.Refusals.{Spares, uleb, sleb, narrow, named, read, tested-strictly, policy, next, all, rewrite, checking}
 use Rattle.promises.proofs.RefusalsListed.{listing, comparing, delivered}
 
 -- ---- by type
@@ -213,6 +215,8 @@ no-three-told = record {
       (rewrite (now (a .0)) (length (now (a .1 .0)))) x (p .answer-is);
   no-three-check-call = λ κs a x s p.
       told-by (λ (r : EvaluationTold). r .number) evaluationTold in-evaluation _ (checking (now (a .0)) (now (a .1 .0))) x p;
+  no-three-strict-call = λ κs a x s p.
+      told-by (λ (r : AnswerTold). r .number) answerTold (λ y. refl) _ (tested-strictly (now (a .0))) x p;
   no-three-module-call = λ κs a x s p.
       told-by (λ (r : ModuleTold). r .number) (moduleTold (length (now (a .0)))) (in-module (length (now (a .0)))) _
       (delivered moduleBytes (length (now (a .1 .0))) (moduleAt (now (a .0)) limits) (read (now (a .0)) limits)) x (p .answer-is);

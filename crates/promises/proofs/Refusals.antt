@@ -1,6 +1,7 @@
 -- No definition that a call tells says 3, a law for each: numbers, modules, tables, policies, the check. Assumes nothing.
 use Prim.Native.Nat.{ℕ, zero, suc, _+_, _-_, min}
-use mathlib.Core.Path.{_≡_, refl, sym, subst}
+use mathlib.Core.Path.{_≡_, refl, sym, subst, ap}
+use mathlib.Core.Logic.{_⊎_, inl, inr}
 use mathlib.Core.Bool.{Bool, true, false, true≢false}
 use mathlib.Core.List.{List, [], _∷_}
 use borrow.Author.Tests.{eqb-true}
@@ -21,8 +22,10 @@ use Rattle.leb.specs.Groups.{Out, value, ends, overlong, oversize}
 use Rattle.leb.specs.Reads.{partBytes, toldAt, narrowed, ulebAt, u32At, slebAt, takeAt, countedAt, checked, nameAt}
 use Rattle.wasm.specs.Module.{Sizes, moduleAt}
 use Rattle.conform.specs.Sound.{limits}
-use Rattle.strict.specs.Claims.{oneOf, plainRefusals}
+use Rattle.strict.specs.Rules.{strictAt, testedAt}
+use Rattle.strict.specs.Claims.{oneOf, plainRefusals, Ruled}
 use Rattle.strict.proofs.Numbered.{plain-numbers}
+use Rattle.strict.proofs.Strictly.{strict-refuses}
 use Rattle.domains.specs.Domain.{Perhaps, nothing, just, domainOf}
 use Rattle.policy.specs.Piece.{until, pastByte, linesOf}
 use Rattle.policy.specs.Directive.{policyW, defaultW, allowW, denyW, allow, deny, Directive, defaulted, plainBy, listedBy, ruleDirective}
@@ -85,6 +88,17 @@ read b z = record { number = λ n p e. by n (eqb n 3) refl (plain-numbers b z n 
   by n true t h =
       let z : false ≡ true = subst (λ (k : ℕ). oneOf k plainRefusals ≡ true) (eqb-true n 3 t) h in
       absurd (true≢false (sym z))
+
+-- a strict read has the plain one's numbers, and 20
+strictly : (b : List ℕ) (z : Sizes) → Spares (strictAt b z)
+strictly b z = record { number = λ n p e. by n p (strict-refuses b z n p e) } where
+  by : (n p : ℕ) → (moduleAt b z ≡ refused n p) ⊎ Ruled b z n p → eqb n 3 ≡ false
+  by n p (inl h) = read b z .number n p h
+  by n p (inr r) = ap (λ (k : ℕ). eqb k 3) (r .number-is)
+
+pub tested-strictly : (b : List ℕ) → Spares (testedAt b limits)
+unfolding testedAt
+tested-strictly b = follows (strictAt b limits) _ (strictly b limits) (λ m. fine _)
 
 -- ---- tables
 first-bad : (bad : ℕ → Bool) (i k : ℕ) → Spares (firstFrom bad i k)

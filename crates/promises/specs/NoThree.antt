@@ -46,6 +46,8 @@ use Rattle.capi.proofs.policies.viscrombal_rewrite.Kinds as rewrite-kinds
 use Rattle.capi.proofs.policies.viscrombal_rewrite.Reads as rewrite
 use Rattle.capi.proofs.check.viscrombal_check.Kinds as check-kinds
 use Rattle.capi.proofs.check.viscrombal_check.Reads as check
+use Rattle.capi.proofs.strictly.viscrombal_strict.Kinds as strict-kinds
+use Rattle.capi.proofs.strictly.viscrombal_strict.Reads as strict
 use Rattle.capi.proofs.lists.viscrombal_module.Kinds as module-kinds
 use Rattle.capi.proofs.lists.viscrombal_module.Reads as modules
 use Rattle.capi.proofs.lists.viscrombal_manifest.Kinds as manifest-kinds
@@ -92,6 +94,7 @@ pub record NoThreeTold : Type 0 where
   pub no-three-token-call : NeverTells token-kinds.ps token-kinds.r token.Post (λ κs x. x .number)
   pub no-three-rewrite-call : NeverTells rewrite-kinds.ps rewrite-kinds.r rewrite.Post (λ κs x. x .number)
   pub no-three-check-call : NeverTells check-kinds.ps check-kinds.r check.Post (λ κs x. x .number)
+  pub no-three-strict-call : NeverTells strict-kinds.ps strict-kinds.r strict.Post (λ κs x. x .number)
   pub no-three-module-call : NeverTells module-kinds.ps module-kinds.r modules.Post (λ κs x. x .number)
   pub no-three-manifest-call : NeverTells manifest-kinds.ps manifest-kinds.r manifest.Post (λ κs x. x .number)
   pub no-three-compare-call : NeverTells compare-kinds.ps compare-kinds.r compare.Post (λ κs x. x .number)

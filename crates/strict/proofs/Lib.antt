@@ -1,5 +1,6 @@
 -- Laws of the second walk and of the rules.
 pub mod Differing
+pub mod Newness
 pub mod Ruling
 pub mod Marking
 pub mod Judging

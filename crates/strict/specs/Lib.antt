@@ -1,5 +1,6 @@
 -- What the promises of strict are written in: the second walk, and the eight rules.
 pub mod Again
+pub mod Quick
 pub mod Rules
 pub mod Cases
 pub mod Claims

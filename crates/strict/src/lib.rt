@@ -1,5 +1,6 @@
 // The plain reader, and then the eight rules of strict reading.
 mod again;
+mod quick;
 mod rules;
 
 use again::Marked;

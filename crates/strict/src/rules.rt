@@ -1,5 +1,6 @@
 // The eight rules, of the rows that a plain read leaves and of the marks of the second walk.
 use crate::again::Marks;
+use crate::quick::surely_differ;
 use sorting::Sorted;
 use table::shape::EXPORT_WIDTH;
 use table::shape::MAX_EXPORTS;
@@ -80,11 +81,17 @@ fn in_order(sections: &[usize], n: usize) -> bool
     rank.good
 }
 
-// The first n export names are all different: as many are left when repeats are dropped.
+// The first n export names are all different. Where a quick look does not tell, as many are left when repeats are dropped.
 fn names_differ(file: &[u8], exports: &[usize], n: usize) -> bool
     requires { ⌜ n ≤ limit 3 ⌝ }
     ensures { λ r. ⌜ r ≡ different (namesOf (now (file .entry)) (now (exports .entry)) n) ⌝ }
 {
+    if n < 2 {
+        return true;
+    }
+    if surely_differ(file, exports, n) {
+        return true;
+    }
     let mut sorted = [0usize; MAX_EXPORTS];
     match sorting::sort(
         file,

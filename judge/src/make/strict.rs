@@ -17,6 +17,7 @@ pub fn fixed(court: &mut Court) {
     order(court);
     unused(court);
     names(court);
+    looked(court);
     full_tables(court);
     flags(court);
     unread(court);
@@ -362,6 +363,22 @@ fn full_tables(court: &mut Court) {
             let symbols = [plain(n), b"\x00\x01g".repeat(n - 1), last.to_vec()].concat();
             let name = [b"\x04name".to_vec(), w.section(1, &symbols)].concat();
             hear(court, &file(&[w.section(0, &name)]), FULL);
+        }
+    }
+}
+
+/// Lists of names around the sizes of the quick look's marks, which a long name enters with both ends: names that differ at one end, or in
+/// the middle alone; all different, and two of them equal.
+fn looked(court: &mut Court) {
+    for n in [2, 3, 15, 16, 17, 127, 128, 129, 1024] {
+        for (before, after) in [("", ""), ("before--before--", ""), ("", "--behind--behind"), ("before--", "--behind")] {
+            let list: Vec<(Vec<u8>, u8)> = (0..n).map(|i| (format!("{before}{i:04}{after}").into_bytes(), 0)).collect();
+            hear(court, &exported(&list), FULL);
+            for (i, j) in [(0, 1), (0, n - 1), (n - 2, n - 1)] {
+                let mut equal = list.clone();
+                equal[j].0 = equal[i].0.clone();
+                hear(court, &exported(&equal), FULL);
+            }
         }
     }
 }
