@@ -1,8 +1,12 @@
 /* The C interface of Viscrombal: crate capi, `rt staticlib capi`, x86-64.
- * Every call answers every input. A byte slice is a pointer and a length; a slice of no bytes may have any pointer but NULL. So the room that
- * a call needs is asked for by lending none: a room of 0 at any byte of the caller's. It is refused, 16 at the bytes needed, or needs none.
+ * Every call answers every input. A byte slice is a pointer and a length; a slice of no bytes may have any pointer but NULL. So the room
+ * that a call needs is asked for by lending none: a room of 0 at any byte of the caller's. It is refused, 16 at the bytes needed, or needs
+ * none.
  * Every answer begins with `number` and `place`: 0 and 0 where the call accepts, else a refusal of docs/RULES.md and its place,
- * and then everything else in the answer is zero. 3 is not given: a number that is bad is told apart as 17, 18 and 19. */
+ * and then everything else in the answer is zero. 3 is not given: a number that is bad is told apart as 17, 18 and 19.
+ * A place that is an offset in a module's file (1, 2, 4, 17, 18, 19) counts from byte 0 of the file, as a hex viewer shows it. The place
+ * of 5 is the import's kind byte; where a call reads a module, the byte's own offset comes beside it, in `offset`, which is 0 for any
+ * other number. */
 #ifndef VISCROMBAL_H
 #define VISCROMBAL_H
 
@@ -18,6 +22,7 @@ extern "C" {
 struct viscrombal_answer {
     uint32_t number;
     size_t place;
+    size_t offset;
 };
 
 /* An unsigned number that was read, and the offset after it. */
@@ -99,6 +104,7 @@ struct viscrombal_verdict {
 struct viscrombal_evaluation {
     uint32_t number;
     size_t place;
+    size_t offset;
     struct viscrombal_verdict verdicts[7];
     uint32_t set;
     size_t count;
@@ -110,6 +116,7 @@ struct viscrombal_evaluation {
 struct viscrombal_module_read {
     uint32_t number;
     size_t place;
+    size_t offset;
     uint32_t version;
     size_t length;
     bool named;
@@ -141,6 +148,7 @@ struct viscrombal_manifest_read {
 struct viscrombal_comparison {
     uint32_t number;
     size_t place;
+    size_t offset;
     size_t exports;
     size_t capabilities;
     bool compatible;
@@ -149,8 +157,26 @@ struct viscrombal_comparison {
 };
 
 /* The number of this interface: a change of a struct, of a number or of a place raises it. */
-#define VISCROMBAL_INTERFACE 2
+#define VISCROMBAL_INTERFACE 3
 uint32_t viscrombal_interface(void);
+
+/* The stack that a call needs, with its caller's frame: no file needs more. Calls keep their tables there, so that how deep one goes
+ * depends on the file: viscrombal_module needs 2 KB for eight sections, and all that is stated for nine. On a smaller stack it ends in the
+ * guard page, by a signal, and overwrites nothing: large frames are touched page by page. Each number is the deepest chain of frames of the
+ * proved archive, which the worst files are measured to reach, with 512 bytes for the caller, rounded up to pages of 4,096 bytes
+ * (include/stack). memcpy and memset of the C library are called besides: a program that binds them at their first call, and not when it
+ * starts (-z now), needs what that takes, some KB, on top. NUMBER is for the interface's number, numbers and names. Wider rows of imports,
+ * 12 cells for 5, would add 57,344 to CHECK, STRICT and MODULE, 114,688 to COMPARE, and nothing to the others. */
+#define VISCROMBAL_STACK_NUMBER 4096
+#define VISCROMBAL_STACK_POLICY 4096
+#define VISCROMBAL_STACK_TOKEN 4096
+#define VISCROMBAL_STACK_TOKENS 4096
+#define VISCROMBAL_STACK_REWRITE 4096
+#define VISCROMBAL_STACK_CHECK 196608
+#define VISCROMBAL_STACK_STRICT 335872
+#define VISCROMBAL_STACK_MODULE 188416
+#define VISCROMBAL_STACK_MANIFEST 77824
+#define VISCROMBAL_STACK_COMPARE 712704
 
 /* Reads at offset `at` of the bytes s[0] to s[len - 1]. */
 struct viscrombal_unsigned viscrombal_uleb128(const uint8_t *s, size_t len, size_t at);

@@ -18,7 +18,8 @@ enum { LENT_CELL = 7, LENT_BYTE = 0xaa };
 static const size_t limits[TABLES] = {0, 1280, 5120, 4096, 12288, 128, 7168, 1024, 4096, 6144, 0, 0, 5120, 4096, 0, 1024, 0, 1024};
 
 struct said {
-    size_t value[VALUES];                /* N of an input; of an answer its refusal's number and place, then its values */
+    size_t refused[3];                   /* of an answer, its refusal's number and place, and the offset beside 5 of a module */
+    size_t value[VALUES];                /* N of an input; of an answer, from the third on, its values */
     size_t policy[POLICY];               /* P, then R0 to R6: a policy, or verdicts in the place of its rules */
     size_t lent[TABLES], count[TABLES];  /* L and C of an input */
     size_t cell[CELLS];                  /* T: the tables, one after another */
@@ -59,7 +60,9 @@ static bool cannot(const char *why, const char *word) {
 #define B b.at, b.length
 #define GIVEN(n) table(&given, n), given.lent[n]
 #define LENT(n) lend(n), given.lent[n]
-#define ANSWER(r, ...) answer((r).number, (r).place, (const size_t[]){__VA_ARGS__}, sizeof(size_t[]){__VA_ARGS__} / sizeof(size_t))
+#define VALUES_OF(...) (const size_t[]){__VA_ARGS__}, sizeof(size_t[]){__VA_ARGS__} / sizeof(size_t)
+#define ANSWER(r, ...) answer((r).number, (r).place, 0, VALUES_OF(__VA_ARGS__))
+#define MODULE_ANSWER(r, ...) answer((r).number, (r).place, (r).offset, VALUES_OF(__VA_ARGS__))
 
 static size_t *lend(size_t n) {
     for (size_t i = 0; i < given.lent[n]; i++)
@@ -72,8 +75,8 @@ static uint8_t *lend_output(void) {
     return memset(got.output, LENT_BYTE, given.lent[0]);
 }
 
-static void answer(size_t number, size_t place, const size_t *values, size_t n) {
-    got.value[0] = number, got.value[1] = place;
+static void answer(size_t number, size_t place, size_t offset, const size_t *values, size_t n) {
+    got.refused[0] = number, got.refused[1] = place, got.refused[2] = offset;
     memcpy(got.value + 2, values, n * sizeof *values);
 }
 
@@ -103,7 +106,7 @@ static void utf8(void) {
 static void counted(struct judged_count_told r) { ANSWER(r, r.count); }
 
 static void module_read(struct judged_module_told r) {
-    ANSWER(r, r.version, r.length, r.named, r.start, r.size, r.sections, r.imports, r.exports, r.symbols);
+    MODULE_ANSWER(r, r.version, r.length, r.named, r.start, r.size, r.sections, r.imports, r.exports, r.symbols);
 }
 
 static void module(void) { module_read(judged_module(A, LENT(1), LENT(2), LENT(3), LENT(4))); }
@@ -111,7 +114,7 @@ static void strict(void) { module_read(judged_strict(A, LENT(1), LENT(2), LENT(3
 
 static void c_strict(void) {
     struct viscrombal_answer r = viscrombal_strict(A);
-    ANSWER(r, 0);
+    MODULE_ANSWER(r, 0);
 }
 
 static void functions(void) { counted(judged_functions(GIVEN(2), given.count[2])); }
@@ -173,7 +176,7 @@ static void lay_policy(struct viscrombal_policy_read r, size_t *cells) {
 
 static void policy(void) {
     struct viscrombal_policy_read r = viscrombal_policy(A);
-    got.value[0] = r.number, got.value[1] = r.place;
+    got.refused[0] = r.number, got.refused[1] = r.place;
     lay_policy(r, got.policy);
 }
 
@@ -193,7 +196,7 @@ static void write_policy(void) {
 }
 
 static void evaluation(struct viscrombal_evaluation r) {
-    ANSWER(r, r.set, r.count, r.compliant);
+    MODULE_ANSWER(r, r.set, r.count, r.compliant);
     for (int d = 0; d < 7; d++) {
         size_t *cells = got.policy + 4 + 3 * d;
         cells[0] = r.verdicts[d].required, cells[1] = r.verdicts[d].allowed, cells[2] = r.verdicts[d].many;
@@ -452,7 +455,7 @@ static bool answer_word(const char *w) {
         return is(w, "SAYS") ? to_string(&says) : item(w, &wanted);
     refusal = is(w, "refused");
     if (refusal)
-        return to_cells(wanted.value, 2, 2);
+        return to_cells(wanted.refused, 2, 3);
     return is(w, "ok") ? to_cells(wanted.value + 2, 0, VALUES - 2) : cannot("neither ok nor refused", w);
 }
 
@@ -515,7 +518,7 @@ static bool read_record(char *line, const struct call **call) {
     }
     if (part != 3 || !*call || (!to.cells && !to.string))
         return cannot("no record", "it has not its four parts");
-    if (refusal && !wanted.value[0])
+    if (refusal && !wanted.refused[0])
         return cannot("no number", "refused");
     return to_string(NULL) && want_output();
 }
@@ -533,9 +536,10 @@ static bool same(const char *what, const size_t *came, const size_t *want, size_
 }
 
 static bool same_answer(void) {
-    const size_t *came = got.value, *want = wanted.value;
-    snprintf(why, sizeof why, "refused %zu %zu, not %zu %zu (0 0 is accepted)", came[0], came[1], want[0], want[1]);
-    return came[0] == want[0] && came[1] == want[1] && same("value", came + 2, want + 2, VALUES - 2);
+    const size_t *came = got.refused, *want = wanted.refused;
+    snprintf(why, sizeof why, "refused %zu %zu %zu, not %zu %zu %zu (0 0 0 is accepted)", came[0], came[1], came[2], want[0], want[1],
+             want[2]);
+    return !memcmp(came, want, sizeof got.refused) && same("value", got.value + 2, wanted.value + 2, VALUES - 2);
 }
 
 static bool same_tables(void) {

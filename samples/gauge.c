@@ -1,4 +1,4 @@
-// A survey layer that reads a tide gauge over the network, and then the clock. The imports are declared here, so that they stand in this order.
+// A survey layer that reads a tide gauge over the network, and then the clock: its imports are declared here, to stand in this order.
 #define WASI(name) __attribute__((import_module("wasi_snapshot_preview1"), import_name(name)))
 
 WASI("sock_recv") int sock_recv(int socket, const void *into, int parts, int flags, int *n, int *told);

@@ -190,6 +190,7 @@ impl fmt::Display for StrictRule {
 pub struct Refusal {
     kind: ErrorKind,
     place: usize,
+    offset: Option<usize>,
 }
 
 impl Refusal {
@@ -198,16 +199,27 @@ impl Refusal {
 
     /// Of an archive that has this interface.
     pub(crate) const fn other_archive(interface: u32) -> Refusal {
-        Refusal { kind: OtherArchive, place: interface as usize }
+        Refusal { kind: OtherArchive, place: interface as usize, offset: None }
     }
 
     /// A number and a place from the archive.
     pub(crate) fn told(number: u32, place: usize) -> Refusal {
         match ErrorKind::ALL.iter().find(|kind| kind.number() == number) {
             Some(NotStrict) if StrictRule::numbered(place).is_none() => Refusal::STRANGE,
-            Some(&kind) => Refusal { kind, place },
+            Some(&kind) => Refusal { kind, place, offset: None },
             None => Refusal::STRANGE,
         }
+    }
+
+    /// The same for a module's file, with the offset that comes beside 5.
+    pub(crate) fn of_module(number: u32, place: usize, beside: usize) -> Refusal {
+        let told = Refusal::told(number, place);
+        let offset = match told.kind {
+            UnexpectedEof | BadMagic | BadUtf8 | TooManyBytes | TenthByte | AboveU32 => Some(place),
+            MalformedSection => Some(beside),
+            _ => None,
+        };
+        Refusal { offset, ..told }
     }
 
     /// Which of them.
@@ -220,10 +232,16 @@ impl Refusal {
         self.kind.number()
     }
 
-    /// Its place, as docs/RULES.md has it for each number: an offset of what was being read (the file, a section's payload, a
-    /// subsection), a line, a table's number, a kind's byte, bytes needed, or a rule of strict reading. Of another archive, its interface.
+    /// Its place, as docs/RULES.md has it for each number: an offset of the file or the text, a line, a table's number, a kind's byte,
+    /// bytes needed, or a rule of strict reading. Of another archive, its interface.
     pub fn place(&self) -> usize {
         self.place
+    }
+
+    /// Where in a module's file it is, counted from byte 0, as a hex viewer shows it: the place of 1, 2, 4, 17, 18 and 19, and of 5 the
+    /// offset of the kind's byte. It is at most the file's length. No other refusal has one, nor has one of a text.
+    pub fn offset(&self) -> Option<usize> {
+        self.offset
     }
 
     /// The rule of strict reading that is broken, the lowest one: of 20 alone.
@@ -245,8 +263,11 @@ impl fmt::Display for Refusal {
         match self.kind {
             OtherArchive if place == INTERFACE as usize => write!(f, "an answer that interface {place} does not have"),
             OtherArchive => write!(f, "it has interface {place}, and {INTERFACE} is asked for"),
-            UnexpectedEof | BadMagic | BadUtf8 | TooManyBytes | TenthByte | AboveU32 => write!(f, " (offset {place})"),
-            MalformedSection => write!(f, " (its byte is {place:#04x})"),
+            UnexpectedEof | BadMagic | BadUtf8 | MalformedSection | TooManyBytes | TenthByte | AboveU32 => match (self.kind, self.offset) {
+                (MalformedSection, Some(offset)) => write!(f, " (its byte is {place:#04x}, offset {offset}, {offset:#x})"),
+                (_, Some(offset)) => write!(f, " (offset {offset}, {offset:#x})"),
+                (_, None) => write!(f, " (offset {place})"),
+            },
             Directive | BadDefault | BadDomain | PackageInWorld | NoName | Unmatched | Outside => write!(f, " (line {place})"),
             Full => write!(f, " (table of {})", table(place)),
             TooLong | BadTable => Ok(()),

@@ -8,7 +8,7 @@ use std::sync::OnceLock;
 use crate::error::{Refusal, Result};
 
 mod layout;
-pub use layout::INTERFACE;
+pub use layout::{stack, INTERFACE};
 
 /// Every answer begins with a number and a place: 0 and 0 where the call accepts.
 #[repr(C)]
@@ -18,25 +18,53 @@ struct Told<T> {
     answer: T,
 }
 
-/// An answer that says nothing else.
+/// And one that answers for a module, with the offset that comes beside 5.
+#[repr(C)]
+struct ToldOf<T> {
+    number: u32,
+    place: usize,
+    offset: usize,
+    answer: T,
+}
+
+/// An answer for a module that says nothing else.
 #[repr(C)]
 struct Answer {
     number: u32,
     place: usize,
+    offset: usize,
 }
 
-impl Answer {
-    fn accepted(self) -> Result<()> {
+/// What a call says: an answer, or a refusal.
+trait Says {
+    type Answer;
+    fn accepted(self) -> Result<Self::Answer>;
+}
+
+impl<T> Says for Told<T> {
+    type Answer = T;
+    fn accepted(self) -> Result<T> {
         match self.number {
-            0 => Ok(()),
+            0 => Ok(self.answer),
             number => Err(Refusal::told(number, self.place)),
         }
     }
 }
 
-impl<T> Told<T> {
+impl Says for Answer {
+    type Answer = ();
+    fn accepted(self) -> Result<()> {
+        match self.number {
+            0 => Ok(()),
+            number => Err(Refusal::of_module(number, self.place, self.offset)),
+        }
+    }
+}
+
+impl<T> Says for ToldOf<T> {
+    type Answer = T;
     fn accepted(self) -> Result<T> {
-        Answer { number: self.number, place: self.place }.accepted().map(|()| self.answer)
+        Answer { number: self.number, place: self.place, offset: self.offset }.accepted().map(|()| self.answer)
     }
 }
 
@@ -122,9 +150,9 @@ extern "C" {
     fn viscrombal_policy(text: *const u8, len: usize) -> Told<Policy>;
     fn viscrombal_tokens(text: *const u8, len: usize, domain: usize, out: *mut u8, room: usize) -> Told<Tokens>;
     fn viscrombal_rewrite(text: *const u8, len: usize, out: *mut u8, room: usize) -> Told<Written>;
-    fn viscrombal_check(file: *const u8, len: usize, text: *const u8, text_len: usize) -> Told<Evaluation>;
+    fn viscrombal_check(file: *const u8, len: usize, text: *const u8, text_len: usize) -> ToldOf<Evaluation>;
     fn viscrombal_strict(file: *const u8, len: usize) -> Answer;
-    fn viscrombal_module(file: *const u8, len: usize, out: *mut u8, room: usize) -> Told<Module>;
+    fn viscrombal_module(file: *const u8, len: usize, out: *mut u8, room: usize) -> ToldOf<Module>;
     fn viscrombal_manifest(text: *const u8, len: usize, out: *mut u8, room: usize) -> Told<Manifest>;
     fn viscrombal_compare(
         baseline: *const u8,
@@ -133,7 +161,7 @@ extern "C" {
         candidate_len: usize,
         out: *mut u8,
         room: usize,
-    ) -> Told<Comparison>;
+    ) -> ToldOf<Comparison>;
 }
 
 /// Whether the archive has the interface of the header that this file was written from. It is asked once.
@@ -147,7 +175,7 @@ pub fn interface() -> Result<()> {
 }
 
 /// What a call says, which is made only where the archive has this interface.
-fn told<T>(call: impl FnOnce() -> Told<T>) -> Result<T> {
+fn told<S: Says>(call: impl FnOnce() -> S) -> Result<S::Answer> {
     interface()?;
     call().accepted()
 }
@@ -171,8 +199,7 @@ pub fn check(file: &[u8], text: &[u8]) -> Result<Evaluation> {
 }
 
 pub fn strict(file: &[u8]) -> Result<()> {
-    interface()?;
-    unsafe { viscrombal_strict(file.as_ptr(), file.len()) }.accepted()
+    told(|| unsafe { viscrombal_strict(file.as_ptr(), file.len()) })
 }
 
 pub fn module(file: &[u8], out: &mut [u8]) -> Result<Module> {

@@ -43,7 +43,7 @@
 //! println!("{:?}", exports);
 //! ```
 //!
-//! The archive keeps its tables on the stack: a thread that calls it needs the 2 MiB that std gives (README.md has how much is used).
+//! The archive keeps its tables on the stack, as deep as [`stack`] says: the 2 MiB that std gives a thread are enough for every call.
 
 #![deny(unsafe_code)]
 #![warn(missing_docs)]
@@ -59,6 +59,12 @@ pub mod wit;
 
 pub use error::{Error, ErrorKind, Refusal, Result, StrictRule};
 pub use policy::{check, Verdict};
+
+/// The stack that a call needs of its thread, in bytes, whatever the file: `VISCROMBAL_STACK_..` of the header, by the names of the calls
+/// of the C interface. What the thread itself and this crate need comes on top; README.md says how much.
+pub mod stack {
+    pub use crate::ffi::stack::*;
+}
 
 /// The interface of the archive that this crate was written for: `VISCROMBAL_INTERFACE` of the header.
 pub const INTERFACE: u32 = ffi::INTERFACE;

@@ -11,7 +11,8 @@ use std::os::unix::fs::symlink;
 use std::path::{Path, PathBuf};
 use std::process::{Command, Output, Stdio};
 
-use common::{bomb, bytes, damaged, folder, long, module, samples};
+use common::{bomb, bytes, damaged, every, folder, long, module, samples};
+use viscrombal::policy::{Domain, Policy};
 use viscrombal::LONGEST_MODULE;
 
 /// What a run left.
@@ -228,7 +229,7 @@ fn every_rule_is_told() {
     }
     let cut = write(&place, "cut.wasm", &bytes("H 0d"));
     let ran = check(&[cut], &of_sample("open.policy"), &["--strict", "--json"]);
-    assert!(ran.out.contains(r#""number":1,"place":9,"refusal":"#) && !ran.out.contains("\"rule\":"), "{}", ran.out);
+    assert!(ran.out.contains(r#""number":1,"place":9,"offset":9,"refusal":"#) && !ran.out.contains("\"rule\":"), "{}", ran.out);
 }
 
 #[test]
@@ -251,6 +252,34 @@ fn strict_comparisons_and_chains() {
         let ran = chain(&builds, &portal, &["--strict"]);
         assert!(ran.status == 2 && ran.out.ends_with(&format!("build {}: {words}\n", apart.to_str().unwrap())), "{}", ran.out);
     }
+}
+
+#[test]
+fn bytes_are_located() {
+    let place = place("located");
+    let file = write(&place, "kind.wasm", &bytes("H 02 06 01 01 6d 01 66 04"));
+    let locate = |offset: &str, options: &[&str]| run(command().arg("locate").arg(&file).arg(offset).args(options));
+    let words = "offset 15, 0xf, byte 0x04: section 1 (import), import 1 of 1, its kind";
+    for offset in ["15", "0xf"] {
+        let ran = locate(offset, &[]);
+        assert_eq!((ran.status, ran.out), (0, format!("{}: {words}\n", file.to_str().unwrap())));
+    }
+    let ran = locate("0", &["--json"]);
+    let told = r#","answer":"located","offset":0,"byte":0,"where":["the magic"]}"#;
+    assert!(ran.status == 0 && ran.out.trim_end().ends_with(told), "{}", ran.out);
+    assert!(locate("16", &[]).out.contains("offset 16, 0x10, the end of the file: past the first fault, which is at offset 15, 0xf"));
+    assert_eq!((locate("17", &[]).status, locate("x", &[]).status), (1, 64));
+    // under a refusal, where it is asked for
+    let policy = of_sample("open.policy");
+    let ran = check(&[file.clone()], &policy, &["--explain"]);
+    assert!(ran.status == 2 && ran.out.contains(&format!("kind.wasm: {words}\n")), "{}", ran.out);
+    let ran = check(&[file.clone()], &policy, &["--explain", "--json"]);
+    let told = r#""number":5,"place":4,"offset":15,"refusal":"malformed-section""#;
+    assert!(ran.out.contains(told), "{}", ran.out);
+    assert!(ran.out.contains(r#","byte":4,"where":["section 1 (import)","import 1 of 1","its kind"]}"#), "{}", ran.out);
+    assert!(!check(&[file.clone()], &policy, &[]).out.contains("import 1 of 1"));
+    let ran = compare(&file, &file, &["--explain"]);
+    assert!(ran.status == 2 && ran.out.ends_with(&format!("kind.wasm: {words}\n")), "{}", ran.out);
 }
 
 /// Every sample, and copies of each that are cut or changed: an answer with a number, or a verdict.
@@ -285,7 +314,7 @@ fn hostile_files() {
         (write(&place, "long.wasm", &long(LONGEST_MODULE + 1)), r#""answer":"refused","number":14,"place":0"#),
         (write(&place, "longest.wasm", &long(LONGEST_MODULE)), r#""answer":"compliant","bytes":16777216"#),
         (sparse.into(), r#""answer":"refused","number":14,"place":0"#),
-        (write(&place, "bomb.wasm", &bomb()), r#""answer":"refused","number":1,"place":5"#),
+        (write(&place, "bomb.wasm", &bomb()), r#""answer":"refused","number":1,"place":15,"offset":15"#),
         ("/dev/zero".into(), r#""answer":"refused","number":14,"place":0"#),
         ("/dev/null".into(), r#""answer":"refused","number":1,"place":0"#),
         (place.clone().into(), r#""answer":"cannot be read","os_error":21"#),
@@ -406,7 +435,7 @@ fn what_a_chain_gives() {
     let last = r#""first_compliant":true,"last_compliant":true,"strict":false}"#;
     assert!(lines[1].contains(end) && lines[1].ends_with(last), "{}", lines[1]);
     let refused = chain(&[builds(&[1]), vec![of_sample("README.md")]].concat(), &portal, &[]);
-    assert!(refused.status == 2 && refused.out.ends_with("README.md: refused 2 at 0: not a WebAssembly module (offset 0)\n"));
+    assert!(refused.status == 2 && refused.out.ends_with("README.md: refused 2 at 0: not a WebAssembly module (offset 0, 0x0)\n"));
 }
 
 #[test]
@@ -484,8 +513,8 @@ fn a_folder_is_walked() {
     let below = place.join("b").join("c");
     fs::create_dir_all(&below).unwrap();
     fs::create_dir(place.join("empty")).unwrap();
-    for (folder, name) in [(&place, "z.wasm"), (&below, "a.wasm"), (&below, "b.wat"), (&place, "a.wasm"), (&place, "a.wasm.bak")] {
-        write(folder, name, &tide);
+    for name in ["z.wasm", "a.wasm", "a.wasm.bak", "wasm", "b/c/a.wasm", "b/c/.wasm", "b/c/b.wat"] {
+        write(&place, name, &tide);
     }
     write(&place.join("b"), "x.wasm", &feed);
     symlink(&place, place.join("round")).unwrap();
@@ -497,10 +526,10 @@ fn a_folder_is_walked() {
     };
     let all = [place.clone().into(), place.join("empty").into()];
     let ran = check(&all, &of_sample("portal.policy"), &["--recursive", "--json"]);
-    assert_eq!(files(&ran), ["/a.wasm", "/b/c/a.wasm", "/b/x.wasm", "/lost.wasm", "/z.wasm", "/empty"]);
+    assert_eq!(files(&ran), ["/a.wasm", "/b/c/.wasm", "/b/c/a.wasm", "/b/x.wasm", "/lost.wasm", "/z.wasm", "/empty"]);
     let lines = objects(&ran.out);
-    assert!(ran.status == 2 && lines[3].contains(r#""os_error":2,"#) && lines[5].contains(r#""os_error":21,"#), "{}", ran.out);
-    assert!(lines[2].contains(r#""answer":"not compliant""#) && lines[4].contains(r#""answer":"compliant""#), "{}", ran.out);
+    assert!(ran.status == 2 && lines[4].contains(r#""os_error":2,"#) && lines[6].contains(r#""os_error":21,"#), "{}", ran.out);
+    assert!(lines[3].contains(r#""answer":"not compliant""#) && lines[5].contains(r#""answer":"compliant""#), "{}", ran.out);
     let ran = check(&all[..1], &of_sample("portal.policy"), &["--json"]);
     assert!(ran.status == 2 && ran.out.contains(r#""os_error":21,"#), "a folder is no file: {}", ran.out);
     let file = [of_sample("tide.wasm")];
@@ -517,6 +546,192 @@ fn a_closed_pipe_is_told() {
     let output = child.wait_with_output().unwrap();
     assert_eq!(output.status.code(), Some(2));
     assert_eq!(String::from_utf8_lossy(&output.stderr), "viscrombal-host: cannot write: Broken pipe (os error 32)\n");
+}
+
+/// What a chain says of its ends, a line each, with single blanks.
+fn between(ran: &Ran) -> Vec<String> {
+    let lines = ran.out.lines().filter(|line| line.starts_with("  lost ") || line.starts_with("  gained "));
+    lines.map(|line| line.split_whitespace().collect::<Vec<_>>().join(" ")).collect()
+}
+
+/// The series of four builds in samples/series, in this order.
+fn series(numbers: &[usize]) -> Vec<OsString> {
+    numbers.iter().map(|n| of_sample(&format!("series/harbour-{n}.wasm"))).collect()
+}
+
+#[test]
+fn which_step_it_was() {
+    let portal = of_sample("portal.policy");
+    let ran = chain(&series(&[1, 2, 3, 4]), &portal, &[]);
+    let want = [
+        "lost export depth (func) step 2",
+        "lost export scale (func) steps 1, 3",
+        "gained export units (func) step 1",
+        "lost need of fs via wasi_snapshot_preview1 step 2",
+        "gained need of clock via wasi_snapshot_preview1 step 2",
+    ];
+    assert_eq!((ran.status, between(&ran)), (1, want.map(Into::into).to_vec()), "{}", ran.out);
+    assert!(ran.out.contains("added    need of network via"), "it came and went, and is no difference: {}", ran.out);
+    let told = chain(&series(&[1, 2, 3, 4]), &portal, &["--json"]);
+    let want = [
+        r#","lost":[{"what":"export","name":"depth","kind":"func","steps":[2]},"#,
+        r#"{"what":"export","name":"scale","kind":"func","steps":[1,3]},"#,
+        r#"{"what":"need","domain":"fs","source":"wasi_snapshot_preview1","steps":[2]}],"#,
+        r#""gained":[{"what":"export","name":"units","kind":"func","steps":[1]},"#,
+        r#"{"what":"need","domain":"clock","source":"wasi_snapshot_preview1","steps":[2]}],"#,
+    ];
+    assert!(objects(&told.out)[3].contains(&want.concat()), "{}", told.out);
+    let back = chain(&series(&[4, 3, 2, 1]), &portal, &[]);
+    let want = [
+        "gained export depth (func) step 2",
+        "gained export scale (func) steps 1, 3",
+        "lost export units (func) step 3",
+        "gained need of fs via wasi_snapshot_preview1 step 2",
+        "lost need of clock via wasi_snapshot_preview1 step 2",
+    ];
+    assert_eq!(between(&back), want, "{}", back.out);
+    for same in [[1, 1].as_slice(), &[1, 2, 1], &[2, 4, 3, 2]] {
+        let ran = chain(&series(same), &portal, &[]);
+        let words = "harbour-N.wasm: nothing lost and nothing gained, each can stand in for the other\n";
+        assert!(between(&ran).is_empty() && ran.out.contains(&words.replace('N', &same[0].to_string())), "{}", ran.out);
+        assert!(chain(&series(same), &portal, &["--json"]).out.contains(r#","lost":[],"gained":[],"#));
+    }
+}
+
+/// Series of the four builds in any order, with repeats: each difference of the ends is told, with the steps that made it, and none else.
+#[test]
+fn every_difference_has_a_step() {
+    let export = |name| format!(r#"{{"what":"export","name":"{name}","kind":"func""#);
+    let need = |domain| format!(r#"{{"what":"need","domain":"{domain}","source":"wasi_snapshot_preview1""#);
+    // each with the builds that have it, as samples/README.md lists them
+    let things = [
+        (export("depth"), [1, 2].as_slice()),
+        (export("scale"), &[1, 3]),
+        (export("units"), &[2, 3, 4]),
+        (need("fs"), &[1, 2]),
+        (need("clock"), &[3, 4]),
+        (need("network"), &[2]),
+    ];
+    let orders = (0..256).map(|n| [n / 64 % 4 + 1, n / 16 % 4 + 1, n / 4 % 4 + 1, n % 4 + 1]);
+    for order in orders.step_by(every()) {
+        let list = |lost: bool| {
+            let mut told = Vec::new();
+            for (thing, builds) in &things {
+                let changes = |from: usize, to: usize| builds.contains(&order[from]) == lost && builds.contains(&order[to]) != lost;
+                if changes(0, 3) {
+                    let steps: Vec<_> = (1..4).filter(|&step| changes(step - 1, step)).map(|step| step.to_string()).collect();
+                    told.push(format!(r#"{thing},"steps":[{}]}}"#, steps.join(",")));
+                }
+            }
+            told.join(",")
+        };
+        let ran = chain(&series(&order), &of_sample("portal.policy"), &["--json"]);
+        let want = format!(r#","lost":[{}],"gained":[{}],"first_compliant":"#, list(true), list(false));
+        assert!(objects(&ran.out)[3].contains(&want), "{order:?}: not {want} in {}", ran.out);
+    }
+}
+
+/// Series and pairs of builds made here: what an export's kind, a repeat and another function of an old pair come to.
+#[test]
+fn what_counts_in_a_series() {
+    let place = place("series");
+    let read = ("wasi_unstable", "fd_read");
+    let builds = [
+        module(&[read], &[("run", 0), ("scale", 0)], &[""; 0]),
+        module(&[read], &[("run", 0)], &[""; 0]),
+        module(&[read], &[("run", 0), ("scale", 0)], &[""; 0]),
+        module(&[("wasi_unstable", "sock_recv")], &[("run", 0)], &[""; 0]),
+        module(&[("", ""); 0], &[("run", 2)], &[""; 0]),
+        module(&[read, ("wasi_unstable", "path_open")], &[("scale", 0), ("run", 0), ("run", 0)], &[""; 0]),
+        module(&[read], &[("run", 0), ("twice", 0), ("twice", 0)], &[""; 0]),
+    ];
+    let files: Vec<_> = builds.iter().enumerate().map(|(n, file)| write(&place, format!("b{n}.wasm"), file)).collect();
+    let told = |numbers: &[usize]| {
+        let files: Vec<_> = numbers.iter().map(|&n| files[n].clone()).collect();
+        between(&chain(&files, &of_sample("portal.policy"), &[]))
+    };
+    let fs = "need of fs via wasi_unstable";
+    assert_eq!(told(&[0, 1, 3])[0], "lost export scale (func) step 1");
+    let ends = ["lost export run (func) step 2", "gained export run (memory) step 2", "lost export scale (func) step 1"];
+    let ends = [ends.map(String::from).as_slice(), &[format!("lost {fs} step 1")]].concat();
+    assert_eq!(told(&[0, 3, 4]), ends, "what the second needs was never in the first");
+    assert_eq!(told(&[1, 2]), ["gained export scale (func) step 1"], "of two builds the step is the whole");
+    let kinds = ["lost export run (func) step 1", "gained export run (memory) step 1", "lost export scale (func) step 1"];
+    assert_eq!(told(&[0, 4])[..3], kinds);
+    assert_eq!(told(&[0, 1, 2, 1]), ["lost export scale (func) steps 1, 3"]);
+    assert_eq!(told(&[1, 6, 6]), ["gained export twice (func) step 1"], "of two rows one line");
+    assert!(told(&[0, 5]).is_empty() && told(&[5, 0]).is_empty(), "order, repeats and another function of an old pair");
+}
+
+fn order(policy: &OsStr, stricter: &OsStr, options: &[&str]) -> Ran {
+    run(command().arg("chain").arg("--policy").arg(policy).arg("--stricter").arg(stricter).args(options))
+}
+
+#[test]
+fn one_policy_after_another() {
+    let (portal, open, guarded) = (of_sample("portal.policy"), of_sample("open.policy"), of_sample("guarded.policy"));
+    let name = |path: &OsString| path.to_str().unwrap().to_string();
+    let ran = order(&portal, &guarded, &[]);
+    assert_eq!((ran.status, ran.err.as_str()), (0, ""));
+    let want = format!("\n\n{} allows every domain that {} allows\n", name(&guarded), name(&portal));
+    assert!(ran.out.starts_with("policy portal (") && ran.out.contains("\npolicy guarded (") && ran.out.contains(&want), "{}", ran.out);
+    let theorem = format!("\n  theorem  texts  whoever passes under {} passes under {}\n", name(&portal), name(&guarded));
+    assert!(ran.out.ends_with(&theorem), "{}", ran.out);
+    let ran = order(&open, &portal, &[]);
+    let want = format!("\n\n{} does not allow env, network, stdio, unknown, which {} allows\n", name(&portal), name(&open));
+    assert!(ran.status == 1 && ran.out.contains(&want), "{}", ran.out);
+    let theorem = format!("  theorem  apart  a build that needs env alone passes under {}, and not under {}\n", name(&open), name(&portal));
+    assert!(ran.out.ends_with(&theorem), "{}", ran.out);
+    let told = order(&open, &guarded, &["--json"]);
+    assert_eq!((told.status, objects(&told.out).len()), (1, 1));
+    let want = r#","answer":"does not follow","follows":false,"denied":["unknown"]}"#;
+    assert!(told.out.starts_with(r#"{"policy":"#) && told.out.trim_end().ends_with(want), "{}", told.out);
+    assert!(told.out.contains(r#","policy_name":"open","policy_sum":""#), "{}", told.out);
+    assert!(told.out.contains(r#","stricter_name":"guarded","stricter_sum":""#), "{}", told.out);
+    let told = order(&guarded, &open, &["--json"]).out;
+    assert!(told.trim_end().ends_with(r#","answer":"follows","follows":true,"denied":[]}"#), "{told}");
+    let ran = run_with(command().args(["chain", "--stricter", "-", "--policy"]).arg(&open), &fs::read(&guarded).unwrap());
+    assert!(ran.status == 1 && ran.out.contains("\n- does not allow unknown, which "), "{}", ran.out);
+    let missing = of_sample("no.policy");
+    for (policy, stricter) in [(&missing, &open), (&open, &missing), (&of_sample("tide.wasm"), &open), (&open, &of_sample("tide.wasm"))] {
+        let ran = order(policy, stricter, &[]);
+        assert!(ran.status == 2 && ran.out.starts_with("policy ") && ran.out.lines().count() == 1, "{}", ran.out);
+        assert_eq!(objects(&order(policy, stricter, &["--json"]).out).len(), 1);
+    }
+}
+
+/// What is said of two policies, held to checks: of every sample where it follows; where it does not, of a module that needs one domain.
+#[test]
+fn policies_and_checks_agree() {
+    let place = place("order");
+    let policies = [
+        ("", ""),
+        ("default allow", "fs env clock network random stdio unknown"),
+        ("allow fs", "fs"),
+        ("allow fs\nallow net", "fs network"),
+        ("allow fs: a", "fs"),
+        ("default allow\ndeny fs", "env clock network random stdio unknown"),
+        ("allow env\nallow unknown", "env unknown"),
+    ];
+    let sources = ["wasi:filesystem", "wasi:cli", "wasi:clocks", "wasi:sockets", "wasi:random", "wasi:io", "wasi:"];
+    let files = policies.iter().enumerate().map(|(n, (text, _))| write(&place, n.to_string(), text.as_bytes()));
+    let policies: Vec<_> = policies.iter().zip(files).collect();
+    let passes = |file: &[u8], text: &str| viscrombal::check(file, &Policy::parse(text).unwrap()).unwrap().is_compliant();
+    for ((first, allowed), policy) in &policies {
+        for ((second, wider), stricter) in &policies {
+            let denied: Vec<_> = allowed.split_whitespace().filter(|domain| !wider.contains(domain)).collect();
+            let ran = order(policy, stricter, &["--json"]);
+            let list: Vec<_> = denied.iter().map(|domain| format!("\"{domain}\"")).collect();
+            assert!(ran.out.contains(&format!(r#""denied":[{}]"#, list.join(","))), "{first} {second}: {}", ran.out);
+            assert_eq!(ran.status, i32::from(!denied.is_empty()));
+            let apart = |file: &[u8]| passes(file, first) && !passes(file, second);
+            assert!(!denied.is_empty() || !samples(".wasm").iter().any(|(_, file)| apart(file)), "{first} {second}");
+            for (domain, source) in Domain::EVERY.into_iter().zip(sources) {
+                let file = module(&[(source, "f")], &[("", 0); 0], &[""; 0]);
+                assert_eq!(apart(&file), denied.contains(&domain.slug()), "{first} {second} {domain}");
+            }
+        }
+    }
 }
 
 #[test]

@@ -3,6 +3,8 @@
 mod common;
 
 use std::collections::HashSet;
+#[cfg(target_arch = "x86_64")]
+use std::sync::Mutex;
 use std::thread;
 
 use common::{bomb, bytes, damaged, every, full, long, module, sample, samples, section, HEADER};
@@ -70,14 +72,14 @@ fn refusals_of_modules() {
         ("no version", b"\0asm".to_vec(), (1, 4)),
         ("text", b"text".to_vec(), (2, 0)),
         ("version 0", b"\0asm\0\0\0\0".to_vec(), (2, 4)),
-        ("an empty import section", with(2, b""), (1, 0)),
+        ("an empty import section", with(2, b""), (1, 10)),
         ("a section that is cut", [HEADER, &[1, 5]].concat(), (1, 10)),
         ("a size that is too big", [HEADER, &[1], &[0x80; 4], &[0x10]].concat(), (19, 14)),
         ("a number that is too long", [HEADER, &[1], &[0x80; 10], &[0]].concat(), (17, 9)),
         ("a tenth byte that is too large", [HEADER, &[1], &[0x80; 9], &[2]].concat(), (18, 9)),
-        ("a name that is no text", with(7, b"\x01\x01\xff\0\0"), (4, 2)),
+        ("a name that is no text", with(7, b"\x01\x01\xff\0\0"), (4, 12)),
         ("an import of kind 9", with(2, b"\x01\0\0\x09"), (5, 9)),
-        ("a bomb", bomb(), (1, 5)),
+        ("a bomb", bomb(), (1, 15)),
         ("257 sections", sections(257), (13, 1)),
         ("1,025 imports", module(&many(1025), &[("", 0); 0], &[""; 0]), (13, 2)),
         ("1,025 exports", module(&NONE, &[("", 0); 1025], &[""; 0]), (13, 3)),
@@ -155,6 +157,10 @@ fn damaged_copies_are_read_or_refused() {
                     assert_eq!((one, Err(one)), (other, wasm::test_strict(&copy)), "{name}");
                     assert!((1..=19).contains(&one.number()) && one.number() != 3 && !one.to_string().is_empty());
                     numbers.insert(one.number());
+                    // an offset is one of the file or its end; the byte beside 5 is the place
+                    let offset = one.offset();
+                    assert!(offset.is_some() == (one.number() != 13) && offset <= Some(copy.len()), "{name}: {one}");
+                    assert!(one.number() != 5 || offset.map(|at| usize::from(copy[at])) == Some(one.place()), "{name}: {one}");
                 }
                 (Ok(module), Ok(_)) => {
                     read += 1;
@@ -174,7 +180,9 @@ fn damaged_copies_are_read_or_refused() {
 fn read_strictly(module: &Module) -> Option<StrictRule> {
     match wasm::parse_strict(module.file()) {
         Ok(strict) => {
-            assert_eq!(format!("{strict:?}"), format!("{module:?}"));
+            assert_eq!((strict.version(), strict.module_name()), (module.version(), module.module_name()));
+            assert!(strict.sections() == module.sections() && strict.function_names() == module.function_names());
+            assert!(strict.imports() == module.imports() && strict.exports() == module.exports());
             None
         }
         Err(refusal) => {
@@ -212,7 +220,7 @@ fn strict_reading() {
         ("H 00 0f N 01 08 01 80 80 80 80 00 01 66", Ok(())),
         ("H 00 0e N 02 07 80 80 80 80 80 80 00", Ok(())),
         ("H 00 0b N 00 04 01 6d 00 00", Ok(())),
-        ("H 00 06 N 00", Err((1, 6))),
+        ("H 00 06 N 00", Err((1, 16))),
         ("H 02 0e 01 01 6d 01 66 02 01 00 80 80 80 80 80 00", Err((20, 2))),
         ("H 00 02 01 78 01 01 00 00 02 01 78 02 01 00 00 02 01 78", Ok(())),
         ("H 07 07 02 00 00 00 00 00 00", Err((20, 6))),
@@ -458,6 +466,39 @@ fn threads_with_a_plain_stack() {
     });
 }
 
+/// What a thread needs besides a call of the archive: the C library's and std's own, the closure, and this crate.
+#[cfg(target_arch = "x86_64")]
+const THREAD: usize = 16 << 10;
+
+/// Every call, with full tables, on a thread with the stack that the header states and no more; the constants are the x86-64 archive's.
+#[cfg(target_arch = "x86_64")]
+#[test]
+fn threads_with_the_stack_that_is_stated() {
+    use viscrombal::stack;
+
+    fn on_a_thread(stack: usize, call: impl FnOnce() + Send) {
+        thread::scope(|scope| thread::Builder::new().stack_size(stack + THREAD).spawn_scoped(scope, call).unwrap().join().unwrap());
+    }
+    let (one, other) = (full("a"), full("b"));
+    let list: String = (0..1024).map(|n| format!("import p{n}\n")).collect();
+    let manifest = format!("world w\n{list}");
+    let text = "allow fs: \u{e9}".to_string() + &", \u{1f600}\u{3000}".repeat(7000);
+    let policy = Policy::parse(&text).unwrap();
+    let (old, new) = (wasm::parse(&one).unwrap(), wasm::parse(&other).unwrap());
+    let told = Mutex::new(Vec::new());
+    let tell = |number: usize| told.lock().unwrap().push(number);
+    on_a_thread(stack::POLICY, || tell(Policy::parse(&text).unwrap().rules().count()));
+    on_a_thread(stack::TOKENS, || tell(policy.effective(Domain::Filesystem).allow_list.count()));
+    on_a_thread(stack::REWRITE, || tell(policy.rewrite().unwrap().len()));
+    on_a_thread(stack::CHECK, || tell(check(&one, &policy).unwrap().verdicts()[6].many));
+    on_a_thread(stack::STRICT, || tell(usize::from(wasm::test_strict(&one).is_ok())));
+    on_a_thread(stack::MODULE, || tell(wasm::parse(&one).unwrap().function_names().len()));
+    on_a_thread(stack::MANIFEST, || tell(wit::parse(&manifest).unwrap().all_imports().len()));
+    on_a_thread(stack::COMPARE, || tell(compare_modules(&old, &new).unwrap().export_diffs().len()));
+    let written = policy.rewrite().unwrap().len();
+    assert_eq!(told.into_inner().unwrap(), [1, 7001, written, 1024, 1, 4096, 1024, 2048]);
+}
+
 #[test]
 fn refusals_have_words() {
     let numbers: Vec<_> = ErrorKind::ALL.iter().map(|kind| kind.number()).collect();
@@ -466,20 +507,22 @@ fn refusals_have_words() {
     for tell in [ErrorKind::words, ErrorKind::slug] {
         assert_eq!(ErrorKind::ALL.iter().map(|kind| tell(*kind)).collect::<HashSet<_>>().len(), 19);
     }
-    assert_eq!((viscrombal::interface(), viscrombal::INTERFACE), (Ok(()), 2));
+    assert_eq!((viscrombal::interface(), viscrombal::INTERFACE), (Ok(()), 3));
     assert_eq!(StrictRule::ALL.map(StrictRule::number), [1, 2, 3, 4, 5, 6, 7, 8]);
     assert_eq!(StrictRule::ALL.map(StrictRule::words).into_iter().collect::<HashSet<_>>().len(), 8);
     let said = |file: &[u8]| wasm::parse(file).unwrap_err().to_string();
-    assert_eq!(said(&bomb()), "refused 1 at 5: the bytes end too soon (offset 5)");
-    assert_eq!(said(&[HEADER, b"\x02\x04\x01\0\0\x04"].concat()), "refused 5 at 4: an import of unknown kind (its byte is 0x04)");
+    assert_eq!(said(&bomb()), "refused 1 at 15: the bytes end too soon (offset 15, 0xf)");
+    let kind = [HEADER, b"\x02\x04\x01\0\0\x04"].concat();
+    assert_eq!(said(&kind), "refused 5 at 4: an import of unknown kind (its byte is 0x04, offset 13, 0xd)");
+    assert_eq!(wasm::parse(&kind).unwrap_err().offset(), Some(13));
     assert_eq!(said(&[HEADER, &[1, 0].repeat(257)].concat()), "refused 13 at 1: more entries than are taken (table of sections)");
     let unordered = wasm::parse_strict(&bytes("H 03 00 01 00")).unwrap_err();
     assert_eq!(unordered.to_string(), "refused 20 at 4: not strict (rule 4: a section twice, or out of order)");
     assert_eq!(wasm::parse_strict(b"").unwrap_err().rule(), None);
     let size = |number: &[u8]| said(&[HEADER, b"\x02", number].concat());
-    assert_eq!(size(&[&[0x80; 10][..], b"\0"].concat()), "refused 17 at 9: a number of more than ten bytes (offset 9)");
-    assert_eq!(size(&[&[0xff; 9][..], b"\x02"].concat()), "refused 18 at 9: a number whose tenth byte is too large (offset 9)");
-    assert_eq!(size(b"\x80\x80\x80\x80\x10"), "refused 19 at 14: a number above 4,294,967,295 (offset 14)");
+    assert_eq!(size(&[&[0x80; 10][..], b"\0"].concat()), "refused 17 at 9: a number of more than ten bytes (offset 9, 0x9)");
+    assert_eq!(size(&[&[0xff; 9][..], b"\x02"].concat()), "refused 18 at 9: a number whose tenth byte is too large (offset 9, 0x9)");
+    assert_eq!(size(b"\x80\x80\x80\x80\x10"), "refused 19 at 14: a number above 4,294,967,295 (offset 14, 0xe)");
     let bad: Vec<_> = ErrorKind::ALL.iter().filter(|kind| kind.is_bad_leb128()).map(|kind| kind.number()).collect();
     assert_eq!(bad, [17, 18, 19]);
     assert_eq!(Policy::parse("x").unwrap_err().to_string(), "refused 6 at 1: a line that is no directive (line 1)");

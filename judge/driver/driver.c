@@ -50,7 +50,7 @@ static void tell_table(size_t *t, size_t cells, size_t used) {
     free(t);
 }
 
-/* ---- the calls */
+/* ---- the calls. An answer for a module tells its offset, which comes beside 5, after its other numbers. */
 static void unsigned_read(struct viscrombal_unsigned r) {
     tell(r.number), tell(r.place), tell(r.value), tell(r.next);
 }
@@ -76,7 +76,7 @@ static void read_by(read_call *call) {
     size_t *a = lend(number[0]), *b = lend(number[1]), *c = lend(number[2]), *d = lend(number[3]);
     struct judged_module_told r = call(string[0], length[0], a, number[0], b, number[1], c, number[2], d, number[3]);
     tell(r.number), tell(r.place), tell(r.version), tell(r.length), tell(r.named), tell(r.start), tell(r.size);
-    tell(r.sections), tell(r.imports), tell(r.exports), tell(r.symbols);
+    tell(r.sections), tell(r.imports), tell(r.exports), tell(r.symbols), tell(r.offset);
     tell_table(a, number[0], r.sections * 5);
     tell_table(b, number[1], r.imports * 5);
     tell_table(c, number[2], r.exports * 4);
@@ -89,7 +89,7 @@ static void strict(void) { read_by(judged_strict); }
 
 static void c_strict(void) {
     struct viscrombal_answer r = viscrombal_strict(string[0], length[0]);
-    tell(r.number), tell(r.place);
+    tell(r.number), tell(r.place), tell(r.offset);
 }
 
 /* numbers: the stated count, then the cells of table 2 */
@@ -166,7 +166,7 @@ static void evaluation(struct viscrombal_evaluation r) {
     tell(r.number), tell(r.place);
     for (int d = 0; d < 7; d++)
         tell(r.verdicts[d].required), tell(r.verdicts[d].allowed), tell(r.verdicts[d].many);
-    tell(r.set), tell(r.count), tell(r.compliant);
+    tell(r.set), tell(r.count), tell(r.compliant), tell(r.offset);
 }
 
 /* numbers: the stated count, how many rows, the rows, then the policy's cells */
@@ -313,7 +313,7 @@ static void compare(void) {
     for (int i = 0; i < 2; i++) {
         struct judged_module_told m = judged_module(string[i], length[i], sections, 1280, imports[i], 5120, exports[i], 4096, names, 12288);
         if (m.number != 0) {
-            tell(m.number), tell(m.place);
+            tell(m.number), tell(m.place), tell(m.offset);
             return;
         }
         g[i] = (struct given){string[i], length[i], m.imports, m.exports, 5120, 4096, imports[i], exports[i]};
@@ -402,7 +402,7 @@ static uint8_t *lent_bytes(size_t room) { return output = memset(malloc(room + 1
 static void c_module(void) {
     struct viscrombal_module_read r = viscrombal_module(string[0], length[0], lent_bytes(number[0]), number[0]);
     tell(r.number), tell(r.place), tell(r.version), tell(r.length), tell(r.named), tell(r.start), tell(r.size);
-    tell(r.sections), tell(r.imports), tell(r.exports), tell(r.symbols), tell(r.bytes);
+    tell(r.sections), tell(r.imports), tell(r.exports), tell(r.symbols), tell(r.bytes), tell(r.offset);
 }
 
 static void c_manifest(void) {
@@ -414,6 +414,7 @@ static void c_manifest(void) {
 static void c_compare(void) {
     struct viscrombal_comparison r = viscrombal_compare(string[0], length[0], string[1], length[1], lent_bytes(number[0]), number[0]);
     tell(r.number), tell(r.place), tell(r.exports), tell(r.capabilities), tell(r.compatible), tell(r.reasons), tell(r.bytes);
+    tell(r.offset);
 }
 
 /* numbers: the room, the domain */

@@ -6,7 +6,7 @@
 
 struct judged_module_told {
     uint32_t number;
-    size_t place;
+    size_t place, offset;
     uint32_t version;
     size_t length;
     bool named;

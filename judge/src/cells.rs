@@ -1,7 +1,7 @@
 //! The lists of the C interface, 8-byte cells in a lent buffer: decoded, they say what the calls with lent tables say.
 use crate::compare::{listed, text_of};
 use crate::limits::module_alone;
-use crate::says::{self, answered, parse, part, refused, whole, zeros_to, DOMAINS, LONGEST_MODULE, MARK};
+use crate::says::{self, answered, answered_of, parse, part, refused, whole, zeros_to, DOMAINS, LONGEST_MODULE, MARK};
 use original::compat::compare_modules;
 use original::wasm::Module;
 use original::wit::{self, Manifest};
@@ -65,9 +65,9 @@ pub fn module(file: &[u8], room: u64) -> String {
 
 pub fn port_module(file: &[u8], t: &[u64], bytes: &[u8]) -> String {
     if t[0] != 0 {
-        return untouched(answered(t, 12, |_| String::new()), 0, bytes);
+        return untouched(answered_of(t, 13, |_| String::new()), 0, bytes);
     }
-    let mut told = t[..11].to_vec();
+    let mut told = [&t[..11], &t[12..]].concat();
     tables(bytes, &[5 * t[7], 5 * t[8], 4 * t[9], 3 * t[10]], &mut told);
     untouched(format!("{}; bytes {}", says::port_module(file, &told), t[11]), t[11], bytes)
 }
@@ -159,7 +159,7 @@ pub fn compare(baseline: &[u8], candidate: &[u8], room: u64) -> String {
 
 pub fn port_compare(baseline: &[u8], candidate: &[u8], t: &[u64], bytes: &[u8]) -> String {
     if t[0] != 0 {
-        return untouched(answered(t, 7, |_| String::new()), 0, bytes);
+        return untouched(answered_of(t, 8, |_| String::new()), 0, bytes);
     }
     let of = [baseline, candidate].map(|f| parse(f).unwrap_or_default());
     let (exports, rest) = cells(bytes, 2 * t[2] as usize);

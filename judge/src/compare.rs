@@ -2,7 +2,9 @@
 //! docs/RULES.md says which a difference is, the next of those that are alike for an export, the lowest for a capability.
 use crate::case::hex;
 use crate::limits::module_alone;
-use crate::says::{answered, inside, into_room, kind_of, latin, number_of, parse, part, port_written, refused, rows_tested, zeros_to};
+use crate::says::{
+    answered, answered_of, inside, into_room, kind_of, latin, number_of, parse, part, port_written, refused, rows_tested, zeros_to,
+};
 use crate::says::{DOMAINS, LONGEST_MODULE};
 use original::compat::{compare_modules, CapabilityDiff, Change, Compatibility, ExportDiff};
 use original::policy::requirements_from_module;
@@ -147,8 +149,8 @@ fn lowest(m: &Module) -> HashMap<(usize, String), usize> {
 /// Of each difference its change and row, then of an export the name's range and the kind, of a capability the domain and the source's
 /// range; then the name that the port hands out for it, its length and bytes. Before them the answer on reasons, whose text is `bytes`.
 pub fn port(baseline: &[u8], candidate: &[u8], t: &[u64], bytes: &[u8]) -> String {
-    if t.len() == 2 {
-        return answered(t, 2, |_| "accepted".into());
+    if t.len() == 3 {
+        return answered_of(t, 3, |_| "accepted".into());
     }
     answered(&t[..5], 5, |h| {
         let mut out = format!("{} {} {}", h[2], h[3], h[4] == 1);

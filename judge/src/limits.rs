@@ -36,13 +36,18 @@ pub fn manifest(text: &[u8], cells: [u64; 2]) -> String {
 
 fn manifest_in(s: &str, room: [u64; 2]) -> String {
     let all = wit::parse(s);
-    // a line makes at most one row of each table, so few lines fill none
-    if s.lines().count() as u64 >= room[0].min(room[1]) {
+    // rows are only added, so that what they come to in the end decides; and a line makes at most one row of each table
+    let fits = all.as_ref().is_ok_and(|m| m.worlds.len() as u64 <= room[0] && references_of(m) <= room[1]);
+    if !fits && s.lines().count() as u64 >= room[0].min(room[1]) {
         if let Some(full) = manifest_full(s, room) {
             return full;
         }
     }
     manifest_says(&all)
+}
+
+fn references_of(m: &wit::Manifest) -> u64 {
+    m.worlds.iter().map(|w| (w.imports.len() + w.exports.len()) as u64).sum()
 }
 
 /// 13, where a table is full before the first fault of the text.
@@ -52,13 +57,17 @@ fn manifest_full(s: &str, room: [u64; 2]) -> Option<String> {
     let (mut closed, mut open) = (0, false);
     for line in s.split_inclusive('\n') {
         end += line.len();
+        // a line of blanks makes no row and has no fault; many of them would be asked about one by one
+        if line.trim().is_empty() {
+            continue;
+        }
         let up_to = match wit::parse(&s[..end]) {
             Ok(m) => m,
             // a world that another one closes takes its row before the other's name is looked at
             Err(e) if e.to_string().ends_with("world requires a name") && open && closed + 1 > room[0] => return full(5),
             Err(_) => return None,
         };
-        if up_to.worlds.iter().map(|w| w.imports.len() + w.exports.len()).sum::<usize>() as u64 > room[1] {
+        if references_of(&up_to) > room[1] {
             return full(6);
         }
         open = wit::parse(&format!("{}\n}}", &s[..end])).is_ok();
@@ -80,7 +89,7 @@ pub fn module_alone(file: &[u8]) -> String {
 }
 
 /// `n` in as many bytes as stand there.
-fn padded(n: u64, bytes: &mut [u8]) {
+pub fn padded(n: u64, bytes: &mut [u8]) {
     let last = bytes.len() - 1;
     for (i, b) in bytes.iter_mut().enumerate() {
         let group = n.checked_shr(7 * i as u32).unwrap_or(0) as u8 & 0x7f;

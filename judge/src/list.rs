@@ -91,8 +91,9 @@ fn record(case: &Case, a: &Answer) -> Option<(String, String)> {
     match case.call {
         Call::Module => {
             let input = format!("module | A {} L1 {} L2 {} L3 {} L4 {}", s(0), n[0], n[1], n[2], n[3]);
-            let ok = format!("ok {}{}", numbers(&t[2..11]), tables(&t[11..], &["T1", "T2", "T3", "T4"]));
-            Some((input, refused(ok)))
+            let ok = format!("ok {}{}", numbers(&t[2..11]), tables(&t[12..], &["T1", "T2", "T3", "T4"]));
+            let beside = if t[0] == 5 { format!(" {}", t[11]) } else { String::new() };
+            Some((input, refused(ok) + &beside))
         }
         Call::Policy => {
             let mut ok = format!("ok P {}", numbers(&t[2..6]));
@@ -108,7 +109,7 @@ fn record(case: &Case, a: &Answer) -> Option<(String, String)> {
             let ok = format!("ok {}{}", numbers(&t[2..7]), tables(&t[7..], &["T5", "T6"]));
             Some((format!("manifest | A {} L5 {} L6 {}", s(0), n[0], n[1]), refused(ok)))
         }
-        Call::Compare if t.len() > 2 => {
+        Call::Compare if t.len() > 3 => {
             let input = format!("compare | A {} MODULE B {} MODULE L8 {} L9 {}", s(0), s(1), n[0], n[1]);
             let ok = if t[0] == 0 { format!("ok {}{}", numbers(&t[2..5]), differences(t)) } else { String::new() };
             Some((input, refused(ok)))

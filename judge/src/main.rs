@@ -7,6 +7,7 @@ mod limits;
 mod list;
 mod make;
 mod page;
+mod places;
 mod plant;
 mod port;
 mod random;
@@ -82,7 +83,7 @@ fn apart(says: impl Fn(&[u8]) -> String) -> bool {
 
 fn mistakes(list: &str) -> bool {
     for (i, m) in plant::mistakes(&std::fs::read_to_string(list).expect("a list")).iter().enumerate() {
-        println!("{i}\t{}", m.name);
+        println!("{i}\t{}\t{}", m.file, m.name);
     }
     true
 }
@@ -273,6 +274,12 @@ fn run(words: &[&str]) -> bool {
     court.decide();
     let fixed: u64 = court.counts.iter().sum();
     println!("fixed cases: {fixed} in {} s", began.elapsed().as_secs());
+    let published = vectors::fetched();
+    for v in &published {
+        make::hear(&mut court, &v.bytes, limits::FULL);
+    }
+    court.decide();
+    println!("published modules: {}", published.len());
     let mut round = 0;
     while !court.over() && (round == 0 || began.elapsed() < time) {
         make::seeded(&mut court, seed.wrapping_mul(1_000_003).wrapping_add(round));

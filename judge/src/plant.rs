@@ -4,7 +4,7 @@ use std::path::Path;
 
 pub struct Mistake {
     pub name: String,
-    file: String,
+    pub file: String,
     old: String,
     new: String,
 }

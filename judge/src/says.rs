@@ -4,6 +4,7 @@ use crate::bad::{in_module, which_bad};
 use crate::case::{hex, Answer, Call, Case};
 use crate::cells;
 use crate::compare;
+use crate::places;
 use crate::strict;
 use original::compat::Change;
 use original::error::{Error, ErrorKind};
@@ -106,7 +107,7 @@ pub fn port_says(case: &Case, a: &Answer) -> String {
         Call::Token => answered(t, 6, |t| format!("{} {} {} {}", t[2], t[3], t[4], t[5])),
         Call::Write | Call::Rewrite => port_written(t, &a.bytes),
         Call::Evaluate | Call::EvaluateRecords | Call::Check => {
-            answered(t, 26, |t| format!("{:?} {} {} {}", &t[2..23], t[23], t[24], t[25]))
+            answered_of(t, 27, |t| format!("{:?} {} {} {}", &t[2..23], t[23], t[24], t[25]))
         }
         Call::Import | Call::Path => t[0].to_string(),
         Call::Manifest => port_manifest(s(0), t),
@@ -117,7 +118,7 @@ pub fn port_says(case: &Case, a: &Answer) -> String {
         Call::CManifest => cells::port_manifest(s(0), t, &a.bytes),
         Call::CCompare => cells::port_compare(s(0), s(1), t, &a.bytes),
         Call::CTokens => cells::port_tokens(s(0), t, &a.bytes),
-        Call::CStrict => answered(t, 2, |_| strict::ACCEPTED.into()),
+        Call::CStrict => answered_of(t, 3, |_| strict::ACCEPTED.into()),
         Call::ExportName | Call::SourceName | Call::Section | Call::ChangeWord => compare::port_name(t),
         Call::U8 | Call::U32Le => port_read(t, |t| t[2].to_string()),
         Call::Take => port_read(t, |t| part(s(0), t[2], t[3])),
@@ -138,6 +139,22 @@ pub fn answered(t: &[u64], len: usize, values: impl Fn(&[u64]) -> String) -> Str
         _ if t[2..].iter().any(|v| *v != 0) => format!("{} with values {:?}", refused(t[0], t[1]), &t[2..]),
         _ => refused(t[0], t[1]),
     }
+}
+
+/// An answer for a module, whose last number is the offset: it comes beside 5, and is 0 for any other.
+pub fn answered_of(t: &[u64], len: usize, values: impl Fn(&[u64]) -> String) -> String {
+    let Some((offset, told)) = t.split_last() else { return "an answer of no number".into() };
+    let said = answered(told, len - 1, values);
+    match (told.first(), offset) {
+        (Some(5), offset) => beside(&said, *offset),
+        (_, 0) => said,
+        (_, offset) => format!("{said} with offset {offset}"),
+    }
+}
+
+/// A refusal of 5 with the offset of its byte.
+fn beside(said: &str, offset: u64) -> String {
+    format!("{said}, offset {offset}")
 }
 
 /// The bytes of a range that the port gave.
@@ -235,10 +252,19 @@ fn kind_byte(kind: ExternalKind) -> u8 {
     }
 }
 
+/// The original's refusal of a file. Its offset is of what its reader was given: the start of that is added.
+fn from_byte_0(file: &[u8], e: &Error) -> String {
+    let said = error_says(e, || in_module(file));
+    match e.offset() {
+        Some(offset) => said.replace(&format!(" at {offset}"), &format!(" at {}", places::start(file) + offset)),
+        None => places::kind(file).map_or(format!("no kind byte is found: {said}"), |at| beside(&said, at as u64)),
+    }
+}
+
 pub fn module_says(file: &[u8]) -> String {
     let m = match parse(file) {
         Ok(m) => m,
-        Err(e) => return error_says(&e, || in_module(file)),
+        Err(e) => return from_byte_0(file, &e),
     };
     let mut out = format!("version {} length {} name ", m.version, m.byte_len);
     out += &m.module_name.as_ref().map_or("none".into(), |n| format!("={}", hex(n.as_bytes())));
@@ -270,8 +296,8 @@ fn tables<'a>(mut t: &'a [u64], widths: &[usize]) -> (Vec<std::slice::ChunksExac
 }
 
 pub fn port_module(s: &[u8], t: &[u64]) -> String {
-    let (rows, zeros) = tables(&t[11..], &[5, 5, 4, 3]);
-    let mut out = answered(&t[..11], 11, |t| {
+    let (rows, zeros) = tables(&t[12..], &[5, 5, 4, 3]);
+    let mut out = answered_of(&t[..12], 12, |t| {
         let mut out = format!("version {} length {} name ", t[2], t[3]);
         out += &match (t[4], t[5], t[6]) {
             (0, 0, 0) => "none".into(),

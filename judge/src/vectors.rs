@@ -165,6 +165,11 @@ pub fn below(folder: &Path) -> Vec<Vector> {
     out
 }
 
+/// Those that tools/vectors has fetched, if it has.
+pub fn fetched() -> Vec<Vector> {
+    below(Path::new(concat!(env!("CARGO_MANIFEST_DIR"), "/../target/vectors")))
+}
+
 fn gather(folder: &Path, out: &mut Vec<PathBuf>) {
     let Ok(entries) = fs::read_dir(folder) else { return };
     for path in entries.flatten().map(|e| e.path()) {

@@ -2,7 +2,7 @@
 use Prim.Native.Nat.{ℕ}
 use mathlib.Core.Path.{_≡_, _∙_, ap}
 use mathlib.Core.List.{List}
-use Rattle.refusal.specs.Said.{Said, accepted, refused, saidAnswer, saidWritten}
+use Rattle.refusal.specs.Said.{Said, accepted, refused, saidAnswer, saidWritten, Place}
 use Rattle.refusal.specs.declared.Written.{Written}
 use Rattle.policy.specs.Reader.{PolicyReadAs}
 use Rattle.policy.specs.declared.Policy.{Policy}
@@ -20,7 +20,7 @@ policy-told (refused n k) r h = rw (h .answer, h .policy)
 
 -- what follows a policy that was read, for bytes that are written
 module _ {o : Said (List ℕ)} {b : List ℕ} {t : WrittenTold} where
-  pub write-stops : {n p : ℕ} → refused n p ≡ o → t ≡ writtenTold (refused n p) → WriteTells o b t b
+  pub write-stops : {n : ℕ} {p : Place} → refused n p ≡ o → t ≡ writtenTold (refused n p) → WriteTells o b t b
   write-stops e h = record { answer-is = h ∙ ap (λ (x : Said (List ℕ)). writtenTold (writtenCount x)) e; output-is = ap (left b) e }
 
   pub write-goes : {q : Said (List ℕ)} {x : List ℕ} {r : Written} → q ≡ o → WriterTells q b r x

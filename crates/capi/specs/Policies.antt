@@ -1,7 +1,7 @@
 -- docs/RULES.md, "Texts" and "Policy writer": policies over the C interface; refused, all but number and place is zero. Assumes nothing.
 use Prim.Native.Nat.{ℕ}
 use mathlib.Core.List.{List, [], _∷_}
-use Rattle.refusal.specs.Said.{Said, accepted, refused, follow}
+use Rattle.refusal.specs.Said.{Said, accepted, refused, numberAt, follow}
 use Rattle.policy.specs.Reader.{zeroPolicy, readPolicy}
 use Rattle.policy.specs.Eight.{slotOf}
 use Rattle.policy.specs.declared.Stance.{Stance}
@@ -45,7 +45,7 @@ policyShown n q p =
 
 abbrev pub policyTold : Said Policy → PolicyTold
 policyTold (accepted p) = policyShown 0 0 p
-policyTold (refused n q) = policyShown n q zeroPolicy
+policyTold (refused n q) = policyShown n (numberAt q) zeroPolicy
 
 -- the reader, then a token of what it read
 abbrev pub tokenRead : List ℕ → ℕ → ℕ → Said Found

@@ -4,7 +4,7 @@ use mathlib.Core.List.{List, map}
 use Prim.Native.Nat.{ℕ, _*_, _≤_, _<_}
 use lib.ListN.{length, take}
 use borrow.Author.Tests.{lt-ltb, le-ltb}
-use Rattle.refusal.specs.Said.{Said, accepted, refused, refusedBy, follow, saidAnswer, saidCount, numberOf}
+use Rattle.refusal.specs.Said.{Said, accepted, refused, refusedBy, follow, saidAnswer, saidCount, numberOf, spot, Place}
 use Rattle.refusal.specs.declared.Answer.{Answer}
 use Rattle.refusal.specs.declared.Refusal.{Refusal}
 use Rattle.refusal.proofs.Following.{never, one-value, first-refused, followed, follow-stops, follow-goes}
@@ -36,7 +36,7 @@ so {r = r} e h = subst (λ (z : Said Outcome). EvaluatedAs z r) e h
 
 -- ---- what is tested first
 module _ (file text : List ℕ) where
-  pub too-long : fileLimit < length file → refused 14 0 ≡ checkedOf file text
+  pub too-long : fileLimit < length file → refused 14 (spot 0) ≡ checkedOf file text
   unfolding checkedOf
   too-long h = rw (lt-ltb fileLimit (length file) h)
 
@@ -121,7 +121,7 @@ module _ (file text : List ℕ) where
   unfolding readThen
   few-sure = sure-follow _ _ _ _ (larger-sure file few limits (limits-largest few)) (λ m. sure-same _)
 
-  settled : {r : Evaluation} → EvaluatedAs (readThen few file text) r → ((p : ℕ) → saidAnswer (r .answer) ≡ refused 13 p → ⊥)
+  settled : {r : Evaluation} → EvaluatedAs (readThen few file text) r → ((p : Place) → saidAnswer (r .answer) ≡ refused 13 p → ⊥)
       → EvaluatedAs (readThen limits file text) r
   settled {r} h other = by few-sure
     where

@@ -5,7 +5,7 @@ use lib.Dec.{ltb}
 use lib.ListN.{length}
 use Rattle.refusal.specs.Pick.{pick}
 use Rattle.refusal.specs.Sizes.{fileLimit}
-use Rattle.refusal.specs.Said.{Said, refused, follow}
+use Rattle.refusal.specs.Said.{Said, refused, follow, spot}
 use Rattle.table.specs.Table.{laid, cells}
 use Rattle.table.specs.Shape.{limit}
 use Rattle.wasm.specs.Rows.{importCells}
@@ -34,4 +34,4 @@ readThen z file text =
 -- 14 of either, then 4 of the text; the module's refusals, with tables at the limits; the policy's; then the verdicts
 unfoldable pub checkedOf : List ℕ → List ℕ → Said Outcome
 checkedOf file text =
-    pick (ltb fileLimit (length file)) (refused 14 0) (follow (wholeText text) (λ u. readThen limits file text))
+    pick (ltb fileLimit (length file)) (refused 14 (spot 0)) (follow (wholeText text) (λ u. readThen limits file text))

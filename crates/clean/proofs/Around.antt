@@ -10,7 +10,7 @@ use Rattle.leb.proofs.Conform.{wider, below}
 use Rattle.conform.specs.Grammar.{U32, u32, NameG, name, Many, none, more, Vec, vec, Lim, least, between, LimitsG, from, fromTo, memtype}
 use Rattle.conform.specs.Grammar.{Mut, mutByte, Kind, specKind, tabletype, globaltype, DescOf, DescG, ImportOf, ImportG, import, ExportOf}
 use Rattle.conform.specs.Grammar.{ExportG, export, FunctionOf, AssocG, nameassoc, SubOf, SubG, SubsG, Content, ContentG, SectionOf}
-use Rattle.conform.specs.Grammar.{SectionG, Place, SectionsG, ModuleG}
+use Rattle.conform.specs.Grammar.{SectionG, SectionPlace, SectionsG, ModuleG}
 use Rattle.conform.specs.Port.{Number, number, Named, named, Counted, counted, AnyLimits, even, odd, AnyDesc, ImportSaid, AnyImport}
 use Rattle.conform.specs.Port.{imported, AnyExport, exported, AnyAssoc, assoc, AnySub, Framed, framed, SectionSaid, InARow, AnyContent}
 use Rattle.conform.specs.Port.{AnySection, AnyHeader, AnyModule}
@@ -215,11 +215,11 @@ typed-imports : (v : SectionOf) → TypedImports (sectionSaid v)
 unfolding TypedImports TypedImport
 typed-imports v = of-imports-said TypedImport (λ i. typed-desc (i .desc)) (v .holds)
 
-known-place : {id place : ℕ} → Place id place → id ≤ 12
-known-place (Place.upTo9 a b) = omega arith
-known-place Place.datacountsec = omega arith
-known-place Place.codesec = omega arith
-known-place Place.datasec = omega arith
+known-place : {id place : ℕ} → SectionPlace id place → id ≤ 12
+known-place (SectionPlace.upTo9 a b) = omega arith
+known-place SectionPlace.datacountsec = omega arith
+known-place SectionPlace.codesec = omega arith
+known-place SectionPlace.datasec = omega arith
 
 known-ids : {last : ℕ} {l : List ℕ} {vs : List SectionOf} → SectionsG last l vs → Each KnownId (map sectionSaid vs)
 unfolding KnownId

@@ -9,7 +9,7 @@ use lib.ListN.{length}
 use lib.Dec.{eqb, ltb}
 use borrow.Author.Tests.{eqb-true, eqb-false, eq-eqb, ne-eqb, ltb-true, ltb-false}
 use Rattle.refusal.specs.Pick.{pick}
-use Rattle.refusal.specs.Said.{Said, accepted, refused, follow, onward}
+use Rattle.refusal.specs.Said.{Said, accepted, refused, follow, onward, spot}
 use Rattle.refusal.proofs.Following.{never}
 use Rattle.refusal.specs.Each.{Each}
 use Rattle.wasm.specs.Module.{Sizes, Parsed, moduleAt}
@@ -107,7 +107,7 @@ module _ {b : List ℕ} {vs : List SectionSaid} (d : AnyModule b vs) (size : len
 
   pub data Outcome (z : Sizes) : Type 0 where
     holds : Strict d → strictAt b z ≡ accepted m → Outcome z
-    breaks : (r : ℕ) → Lowest d r → strictAt b z ≡ refused 20 r → Outcome z
+    breaks : (r : ℕ) → Lowest d r → strictAt b z ≡ refused 20 (spot r) → Outcome z
 
   pub outcome : (z : Sizes) → moduleAt b z ≡ accepted m → Outcome z
   unfolding strictAt held follow onward First
@@ -134,10 +134,10 @@ module _ {b : List ℕ} {vs : List SectionSaid} {d : AnyModule b vs} {size : len
     accepts-where (Outcome.holds s e) = (λ q. s, λ r. e)
     accepts-where (Outcome.breaks r l e) = (λ q. absurd (never (sym e ∙ q)), λ s. absurd (l .broken (s r)))
 
-    pub refuses-where : Outcome d size m version rows ok z → (r : ℕ) → (strictAt b z ≡ refused 20 r) ↔ Lowest d r
+    pub refuses-where : Outcome d size m version rows ok z → (r : ℕ) → (strictAt b z ≡ refused 20 (spot r)) ↔ Lowest d r
     refuses-where (Outcome.holds s e) r = (λ q. absurd (never (sym q ∙ e)), λ l. absurd (l .broken (s r)))
     refuses-where (Outcome.breaks k l e) r =
-        (λ q. subst (Lowest d) (same-place (sym e ∙ q)) l, λ p. e ∙ ap (refused 20) (one-lowest d k r l p))
+        (λ q. subst (Lowest d) (same-place (sym e ∙ q)) l, λ p. e ∙ ap (λ (i : ℕ). refused 20 (spot i)) (one-lowest d k r l p))
       where
-        same-place : {x y : ℕ} → _≡_ {A = Said Parsed} (refused 20 x) (refused 20 y) → x ≡ y
+        same-place : {x y : ℕ} → _≡_ {A = Said Parsed} (refused 20 (spot x)) (refused 20 (spot y)) → x ≡ y
         same-place q = cc

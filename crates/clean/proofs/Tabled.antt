@@ -14,7 +14,7 @@ use Rattle.text.proofs.FindLaws.{same-is, same-self}
 use Rattle.table.specs.Table.{rangeOf}
 use Rattle.refusal.specs.Each.{Each, each-nil, each-cons}
 use Rattle.wasm.specs.Shapes.{Section, Export}
-use Rattle.conform.specs.Grammar.{Place}
+use Rattle.conform.specs.Grammar.{SectionPlace}
 use Rattle.conform.specs.Port.{ExportSaid, Held, SectionSaid, Framed, framed, InARow, AnyContent, AnySection, AnyModule}
 use Rattle.conform.specs.Claims.{Pairwise, nil, cons, SectionHere, ExportHere, exportsOr, exportsLast, Rows}
 use Rattle.conform.specs.Sound.{ExportOk}
@@ -54,35 +54,35 @@ unfolding KnownKind
 known-kinds es = none-above (λ (e : ExportSaid). e .kind) 3 KnownKind (λ e h. h) (λ e h. h) es
 
 -- ---- rule 4
-place-is : {id place : ℕ} → Place id place → sectionPlace id ≡ place
+place-is : {id place : ℕ} → SectionPlace id place → sectionPlace id ≡ place
 unfolding sectionPlace
-place-is (Place.upTo9 {id = id} a b) = rw (lt-ltb id 10 (omega arith))
-place-is Place.datacountsec = refl
-place-is Place.codesec = refl
-place-is Place.datasec = refl
+place-is (SectionPlace.upTo9 {id = id} a b) = rw (lt-ltb id 10 (omega arith))
+place-is SectionPlace.datacountsec = refl
+place-is SectionPlace.codesec = refl
+place-is SectionPlace.datasec = refl
 
-place-of : (id : ℕ) → id ≤ 12 → (id ≡ 0 → ⊥) → Place id (sectionPlace id)
+place-of : (id : ℕ) → id ≤ 12 → (id ≡ 0 → ⊥) → SectionPlace id (sectionPlace id)
 unfolding sectionPlace
 place-of id h n = by (ltb id 10) refl where
-  at : {i k : ℕ} → Place k i → id ≡ k → Place id i
-  at {i} p e = subst (λ (j : ℕ). Place j i) (sym e) p
+  at : {i k : ℕ} → SectionPlace k i → id ≡ k → SectionPlace id i
+  at {i} p e = subst (λ (j : ℕ). SectionPlace j i) (sym e) p
 
-  three : (x y : Bool) → eqb id 10 ≡ x → eqb id 11 ≡ y → 10 ≤ id → Place id (pick x 11 (pick y 12 (pick (eqb id 12) 10 13)))
-  three true y e f k = at Place.codesec (eqb-true id 10 e)
-  three false true e f k = at Place.datasec (eqb-true id 11 f)
+  three : (x y : Bool) → eqb id 10 ≡ x → eqb id 11 ≡ y → 10 ≤ id → SectionPlace id (pick x 11 (pick y 12 (pick (eqb id 12) 10 13)))
+  three true y e f k = at SectionPlace.codesec (eqb-true id 10 e)
+  three false true e f k = at SectionPlace.datasec (eqb-true id 11 f)
   three false false e f k =
       let g : id ≡ 12 = omega (arith, eqb-false id 10 e, eqb-false id 11 f) in
-      rw (eq-eqb id 12 g) (at Place.datacountsec g)
+      rw (eq-eqb id 12 g) (at SectionPlace.datacountsec g)
 
-  by : (t : Bool) → ltb id 10 ≡ t → Place id (pick t id (pick (eqb id 10) 11 (pick (eqb id 11) 12 (pick (eqb id 12) 10 13))))
-  by true t = Place.upTo9 {id = id} (omega (arith, n)) (omega (arith, ltb-true id 10 t))
+  by : (t : Bool) → ltb id 10 ≡ t → SectionPlace id (pick t id (pick (eqb id 10) 11 (pick (eqb id 11) 12 (pick (eqb id 12) 10 13))))
+  by true t = SectionPlace.upTo9 {id = id} (omega (arith, n)) (omega (arith, ltb-true id 10 t))
   by false t = three (eqb id 10) (eqb id 11) refl refl (ltb-false id 10 t)
 
-place-some : {id place : ℕ} → Place id place → 0 < place
-place-some (Place.upTo9 a b) = omega arith
-place-some Place.datacountsec = omega arith
-place-some Place.codesec = omega arith
-place-some Place.datasec = omega arith
+place-some : {id place : ℕ} → SectionPlace id place → 0 < place
+place-some (SectionPlace.upTo9 a b) = omega arith
+place-some SectionPlace.datacountsec = omega arith
+place-some SectionPlace.codesec = omega arith
+place-some SectionPlace.datasec = omega arith
 
 no-place : (id : ℕ) → id ≡ 0 → sectionPlace id ≡ 0
 unfolding sectionPlace
@@ -190,7 +190,7 @@ sevenths (InARow.then (framed n (AnySection.section c)) w) = each-cons (of c) (s
     of (AnyContent.exports w) = refl
     of (AnyContent.unread a b c) = tt
 
-seventh-place : {id place : ℕ} → Place id place → id ≡ 7 → place ≡ 7
+seventh-place : {id place : ℕ} → SectionPlace id place → id ≡ 7 → place ≡ 7
 unfolding sectionPlace
 seventh-place p e = sym (place-is p) ∙ rw e
 

@@ -9,7 +9,7 @@ use lib.Dec.{leb}
 use borrow.Author.Tests.{leb-true}
 use Rattle.refusal.specs.Pick.{both}
 use Rattle.refusal.specs.Sizes.{fileLimit}
-use Rattle.refusal.specs.Said.{accepted, follow, onward}
+use Rattle.refusal.specs.Said.{accepted, follow, onward, relocated}
 use Rattle.leb.specs.Grammar.{lastU}
 use Rattle.leb.specs.Groups.{uN, grown, spent}
 use Rattle.leb.specs.Reads.{toldAt, narrowed, ulebAt, u32At, byteAt, fixedAt, takeAt, countedAt, checked, nameAt}
@@ -53,7 +53,7 @@ taken : Taken (0x02 ∷ 0x06 ∷ 0x01 ∷ 0x00 ∷ 0x00 ∷ 0x03 ∷ 0x00 ∷ 0x
     × Taken (0x00 ∷ 0x0B ∷ 0x04 ∷ 0x6E ∷ 0x61 ∷ 0x6D ∷ 0x65 ∷ 0x00 ∷ 0x01 ∷ 0x00 ∷ 0x00 ∷ 0x01 ∷ 0x00 ∷ [])
     × Taken (0x00 ∷ 0x0C ∷ 0x04 ∷ 0x6E ∷ 0x61 ∷ 0x6D ∷ 0x65 ∷ 0x01 ∷ 0x05 ∷ 0x02 ∷ 0x00 ∷ 0x00 ∷ 0x00 ∷ 0x00 ∷ [])
 unfolding ulebAt u32At toldAt narrowed onward uN grown spent byteAt fixedAt takeAt countedAt checked nameAt moduleAt headerAt
-    magic same walkFrom walk turnOf sectionAt contentsAt addSection capacityOf noTables importsOf exportsOf symbolsOf entriesFrom
+    relocated magic same walkFrom walk turnOf sectionAt contentsAt addSection capacityOf noTables importsOf exportsOf symbolsOf entriesFrom
     importAt exportAt symbolAt descAt funcAt tableAt memoryAt globalAt limitsAt labelAt toldBy subsectionAt nameWord customAt upTo
     scan seqLen after followers followIn covers utf8Table follow rangeOf
     fresh withNumber withEntries withFlag numberMarks partMarks limitsMarks tableMarks globalMarks descMarks importMarks exportMarks

@@ -13,7 +13,7 @@ use Rattle.leb.proofs.Bounds.{u-takes}
 use Rattle.conform.specs.Grammar.{U32, u32, NameG, name, Many, none, more, Vec, vec, least, between, LimitsG, from, fromTo, memtype}
 use Rattle.conform.specs.Grammar.{refByte, valByte, Mut, mutByte, Kind, specKind, tabletype, globaltype, DescOf, DescG, ImportG, import}
 use Rattle.conform.specs.Grammar.{ExportG, export, FunctionOf, AssocG, nameassoc, SubOf, SubG, SubsG, Content, ContentG, SectionOf}
-use Rattle.conform.specs.Grammar.{SectionG, Place, SectionsG, ModuleG}
+use Rattle.conform.specs.Grammar.{SectionG, SectionPlace, SectionsG, ModuleG}
 use Rattle.conform.specs.Port.{Number, number, Named, named, Counted, counted, AnyLimits, even, odd, AnyDesc, ImportSaid, AnyImport}
 use Rattle.conform.specs.Port.{imported, ExportSaid, AnyExport, exported, AnyAssoc, assoc, AnySub, Framed, framed, Held, SectionSaid}
 use Rattle.conform.specs.Port.{InARow, AnyContent, AnySection, versionOf, AnyHeader, AnyModule}
@@ -267,7 +267,7 @@ to-sections last (InARow.then x w) z s u t (each-cons k ks) (InOrder.then {place
     (each-cons y ys) =
     let a = to-section x (s .0) (u .0) (t .0) e i y in
     let b = to-sections place w z (s .1) (u .1) (t .1) ks o es is ys in
-    let h′ = subst (λ (n : ℕ). Place n place) (sym (ap (λ (v : SectionSaid). v .id) (a .says))) h in
+    let h′ = subst (λ (n : ℕ). SectionPlace n place) (sym (ap (λ (v : SectionSaid). v .id) (a .says))) h in
     more-sections a (b .value) (SectionsG.then h′ p (a .derives) (b .derives)) (b .says)
 to-sections last (InARow.then x w) z s u t (each-cons k ks) (InOrder.unknown h o) es is ys = absurd (omega arith)
 

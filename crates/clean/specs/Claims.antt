@@ -6,7 +6,7 @@ use mathlib.Core.Logic.{_⊎_, _↔_}
 use mathlib.Core.List.{List, map}
 use lib.ListN.{length}
 use Rattle.refusal.specs.Sizes.{fileLimit}
-use Rattle.refusal.specs.Said.{accepted, refused}
+use Rattle.refusal.specs.Said.{accepted, refused, spot}
 use Rattle.refusal.specs.Each.{Each}
 use Rattle.wasm.specs.Module.{Tables, Sizes, Parsed, moduleAt}
 use Rattle.conform.specs.Grammar.{SectionOf, ModuleG}
@@ -86,7 +86,7 @@ pub record Lowest {b : List ℕ} {vs : List SectionSaid} (d : AnyModule b vs) (r
 -- the lowest that is broken
 pub record RulesDecide (b : List ℕ) (z : Sizes) (m : Parsed) : Type 0 where
   pub accepts : (e : Derives b z m) → (strictAt b z ≡ accepted m) ↔ Strict (e .derived)
-  pub refuses : (e : Derives b z m) (r : ℕ) → (strictAt b z ≡ refused 20 r) ↔ Lowest (e .derived) r
+  pub refuses : (e : Derives b z m) (r : ℕ) → (strictAt b z ≡ refused 20 (spot r)) ↔ Lowest (e .derived) r
 
 abbrev pub LowestTold : Type 0
 LowestTold = (b : List ℕ) (z : Sizes) (m : Parsed) → Bytes b → moduleAt b z ≡ accepted m → RulesDecide b z m

@@ -5,7 +5,7 @@ use mathlib.Core.Path.{_≡_}
 use mathlib.Core.List.{List, [], _∷_}
 use Rattle.refusal.specs.Each.{Each}
 use Rattle.wasm.specs.Shapes.{Limits, Desc, func, tableDesc, memory, global}
-use Rattle.conform.specs.Grammar.{Many, none, more, RefType, refByte, ValType, valByte, FunctionOf, Rising, SubOf, Place}
+use Rattle.conform.specs.Grammar.{Many, none, more, RefType, refByte, ValType, valByte, FunctionOf, Rising, SubOf, SectionPlace}
 use Rattle.conform.specs.Port.{Number, number, Named, named, Counted, counted, AnyLimits, even, odd, AnyDesc, ImportSaid, AnyImport}
 use Rattle.conform.specs.Port.{imported, ExportSaid, AnyExport, exported, AnyAssoc, assoc, AnySub, Framed, framed, InARow, Held}
 use Rattle.conform.specs.Port.{SectionSaid, AnyContent, AnySection, versionOf, AnyModule}
@@ -99,7 +99,7 @@ KnownId v = v .id ≤ 12
 pub data InOrder : ℕ → List SectionSaid → Type 0 where
   end : {last : ℕ} → InOrder last []
   custom : {last : ℕ} {v : SectionSaid} {vs : List SectionSaid} → v .id ≡ 0 → InOrder last vs → InOrder last (v ∷ vs)
-  then : {last place : ℕ} {v : SectionSaid} {vs : List SectionSaid} → Place (v .id) place → last < place → InOrder place vs
+  then : {last place : ℕ} {v : SectionSaid} {vs : List SectionSaid} → SectionPlace (v .id) place → last < place → InOrder place vs
       → InOrder last (v ∷ vs)
   unknown : {last : ℕ} {v : SectionSaid} {vs : List SectionSaid} → 12 < v .id → InOrder last vs → InOrder last (v ∷ vs)
 

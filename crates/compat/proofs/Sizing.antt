@@ -8,7 +8,7 @@ use borrow.Author.Tests.{le-leb}
 use lib.ListN.{length, take, replicate}
 use lib.Seq.{take-at}
 use Rattle.refusal.specs.Pick.{pick}
-use Rattle.refusal.specs.Said.{Said, accepted, refused}
+use Rattle.refusal.specs.Said.{Said, accepted, refused, spot}
 use Rattle.refusal.proofs.Following.{never}
 use Rattle.table.specs.Table.{laid}
 use Rattle.table.specs.Entries.{finished, fitting}
@@ -80,7 +80,8 @@ module _ (first second table : List ℕ) (nb n : ℕ) (every : Bool) where
 
     pub never-full : r ≡ Full → ⊥
     never-full e =
-        let q : refused 13 0 ≡ accepted (length (sortedRows first second keys (columns every) n)) = ap (saidSorted 0) (sym e) ∙ said in
+        let q : refused 13 (spot 0)
+        ≡ accepted (length (sortedRows first second keys (columns every) n)) = ap (saidSorted 0) (sym e) ∙ said in
         never q
 
 pub sized-numbers : {K : Type 0} {f : ℕ → Entry K} {d : List (Entry K)} {l before after : List ℕ} {r : ℕ}

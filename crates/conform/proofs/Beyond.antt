@@ -5,7 +5,7 @@ use mathlib.Core.Path.{_≡_, _∙_, ap}
 use mathlib.Core.List.{List}
 use lib.ListN.{length}
 use borrow.Author.Tests.{le-ltb, le-leb, ne-eqb}
-use Rattle.refusal.specs.Said.{Said, accepted, Got, got, onward}
+use Rattle.refusal.specs.Said.{Said, accepted, relocated, movedBy, Got, got, onward}
 use Rattle.refusal.specs.Sizes.{fileLimit}
 use Rattle.table.specs.Walking.{walkFrom}
 use Rattle.table.proofs.Walking.{from-stop, from-go}
@@ -90,7 +90,7 @@ first-refusal b z at n p t c h e =
 
 -- a custom section whose contents are refused refuses the file
 pub faulty-names : FaultyNames
-unfolding sectionAt contentsAt onward
+unfolding sectionAt contentsAt onward relocated
 faulty-names b z at a d n q t p c one two refuses =
     let x = byte-in b at 0 a one in
-    first-refusal b z at n q t c (omega (arith, x .past, x .in-s)) (rw (one, two, refuses))
+    first-refusal b z at n (movedBy (p .from) q) t c (omega (arith, x .past, x .in-s)) (rw (one, two, refuses))

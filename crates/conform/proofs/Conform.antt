@@ -69,19 +69,19 @@ module _ (s : List ℕ) (size : length s < 18446744073709551616) where
       record { next = o .next; is = rw (b .0, g .is, h, o .is); rest = o .rest }
 
   -- what follows a kind byte
-  pub desc-reads : (kind at : ℕ) (l r : List ℕ) (d : Desc) → drop at s ≡ l → AnyDesc kind l d r → Stands (descAt s kind at) d r
+  pub desc-reads : (kind i at : ℕ) (l r : List ℕ) (d : Desc) → drop at s ≡ l → AnyDesc kind l d r → Stands (descAt s kind i at) d r
   unfolding descAt funcAt tableAt memoryAt globalAt onward
-  desc-reads kind at l r d e (function {x = x} u) =
+  desc-reads kind i at l r d e (function {x = x} u) =
       let g = u32-reads at x l r e u in
       record { next = g .next; is = rw (g .is); rest = g .rest }
-  desc-reads kind at l r d e (tables {l = k} {e = t} {m = m} u) =
+  desc-reads kind i at l r d e (tables {l = k} {e = t} {m = m} u) =
       let y = byte-reads at t k e in
       let g = limits-reads (at + 1) k r m (y .1) u in
       record { next = g .next; is = rw (y .0, g .is); rest = g .rest }
-  desc-reads kind at l r d e (memories {m = m} u) =
+  desc-reads kind i at l r d e (memories {m = m} u) =
       let g = limits-reads at l r m e u in
       record { next = g .next; is = rw (g .is); rest = g .rest }
-  desc-reads kind at l r d e (globals {t = t} {m = m}) =
+  desc-reads kind i at l r d e (globals {t = t} {m = m}) =
       let y = byte-reads at t (m ∷ r) e in
       let w = byte-reads (at + 1) m r (y .1) in
       record { next = at + 1 + 1; is = rw (y .0, w .0); rest = w .1 }
@@ -172,7 +172,7 @@ module _ (s : List ℕ) (size : length s < 18446744073709551616) where
       let p = name-reads at l a m e x in
       let q = name-reads (p .next) m b (kind ∷ k) (p .rest) y in
       let o = byte-reads (q .next) kind k (q .rest) in
-      let t = desc-reads kind (q .next + 1) k r d (o .1) z in
+      let t = desc-reads kind (q .next) (q .next + 1) k r d (o .1) z in
       record {
         row = record { «module» = moved base (p .range); field = moved base (q .range); kind = kind; desc = d };
         next = t .next;

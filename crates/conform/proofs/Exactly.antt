@@ -11,7 +11,7 @@ use lib.Dec.{ltb}
 use borrow.Author.Tests.{ltb-false}
 use Rattle.refusal.specs.Pick.{pick}
 use Rattle.refusal.specs.Sizes.{fileLimit}
-use Rattle.refusal.specs.Said.{accepted, refused, got, onward}
+use Rattle.refusal.specs.Said.{accepted, refused, got, onward, spot}
 use Rattle.refusal.specs.declared.Part.{Part}
 use Rattle.refusal.proofs.Following.{never, read-on}
 use Rattle.text.specs.Find.{same}
@@ -338,7 +338,7 @@ only-these b z m bytes e = by (ltb fileLimit (length b)) refl e where
   same-said e = cc
 
   by : (x : Bool) → ltb fileLimit (length b) ≡ x
-      → pick x (refused 14 0) (onward (headerAt b) (λ v c.
+      → pick x (refused 14 (spot 0)) (onward (headerAt b) (λ v c.
       onward (walkFrom (sectionAt b z) b c noTables) (λ t d. accepted (record { version = v; tables = t })))) ≡ accepted m
       → Derives b z m
   by true x f = absurd (never f)

@@ -8,7 +8,7 @@ use lib.ListN.{length, take}
 use lib.Dec.{leb, eqb}
 use borrow.Author.Tests.{le-ltb, le-leb, leb-true, eqb-false, ne-eqb}
 use Rattle.refusal.specs.Pick.{pick}
-use Rattle.refusal.specs.Said.{accepted, refused, got, onward}
+use Rattle.refusal.specs.Said.{accepted, refused, got, onward, offset}
 use Rattle.refusal.specs.declared.Part.{Part}
 use Rattle.refusal.proofs.Following.{never, read-on}
 use Rattle.text.specs.Find.{same}
@@ -41,7 +41,7 @@ pub record HeaderOnly (b : List ℕ) (v d : ℕ) : Type 0 where
 fixed-only : (b : List ℕ) (v d : ℕ) → fixedAt b 4 ≡ accepted (got v d) → (8 ≤ length b) × (v ≡ versionOf b) × (d ≡ 8)
 unfolding fixedAt
 fixed-only b v d e = by (leb 8 (length b)) refl e where
-  by : (t : Bool) → leb 8 (length b) ≡ t → pick t (accepted (got (versionOf b) 8)) (refused 1 4) ≡ accepted (got v d)
+  by : (t : Bool) → leb 8 (length b) ≡ t → pick t (accepted (got (versionOf b) 8)) (refused 1 (offset 4)) ≡ accepted (got v d)
       → (8 ≤ length b) × (v ≡ versionOf b) × (d ≡ 8)
   by true t f = (leb-true 8 (length b) t, cc, cc)
   by false t f = absurd (never f)
@@ -57,7 +57,7 @@ header-only b v d e =
   where
     nonzero : (w c : ℕ) → (8 ≤ length b) × (w ≡ versionOf b) × (c ≡ 8) → take 4 b ≡ 0x00 ∷ 0x61 ∷ 0x73 ∷ 0x6D ∷ []
         → (t : Bool) → eqb w 0 ≡ t
-        → pick t (refused 2 4) (accepted (got w c)) ≡ accepted (got v d) → HeaderOnly b v d
+        → pick t (refused 2 (offset 4)) (accepted (got w c)) ≡ accepted (got v d) → HeaderOnly b v d
     nonzero w c k s true t f = absurd (never f)
     nonzero w c k s false t f =
         let x : w ≡ v = cc in
@@ -73,7 +73,8 @@ header-only b v d e =
         positive i h = omega (arith, h)
 
     by : (c : ℕ) (p : Part) → partBytes b p ≡ take 4 b → c ≡ 4 → (t : Bool) → same (0x00 ∷ 0x61 ∷ 0x73 ∷ 0x6D ∷ []) (partBytes b p) ≡ t
-        → pick t (onward (fixedAt b c) (λ w e. pick (eqb w 0) (refused 2 4) (accepted (got w e)))) (refused 2 0) ≡ accepted (got v d)
+        → pick t (onward (fixedAt b c) (λ w e. pick (eqb w 0) (refused 2 (offset 4)) (accepted (got w e)))) (refused 2 (offset 0))
+        ≡ accepted (got v d)
         → HeaderOnly b v d
     by c p q k true t f =
         let o = read-on (fixedAt b c) _ f in

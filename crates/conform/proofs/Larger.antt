@@ -12,7 +12,7 @@ use Rattle.refusal.specs.Sizes.{fileLimit}
 use Rattle.table.specs.Table.{capacityOf}
 use Rattle.table.specs.Shape.{width, limit, capacityIn}
 use Rattle.table.proofs.Larger.{Sure, same, spare, Full, accepts-too, sure-same, sure-pick, sure-room, sure-onward, sure-from}
-use Rattle.table.proofs.Larger.{sure-entries, capacity-up}
+use Rattle.table.proofs.Larger.{sure-entries, sure-moved, capacity-up}
 use Rattle.leb.specs.Reads.{partBytes, byteAt, u32At, nameAt, countedAt}
 use Rattle.wasm.specs.Entry.{importAt, exportAt, symbolAt}
 use Rattle.wasm.specs.Rows.{importsOf, exportsOf, symbolsOf}
@@ -37,7 +37,7 @@ unfolding subsectionAt
 sure-sub s base n m h at t =
     sure-onward _ _ _ _ (sure-same (byteAt s at)) (λ id a.
     sure-onward _ _ _ _ (sure-same (countedAt s a)) (λ p next.
-    sure-onward _ _ _ _ (sure-told id (partBytes s p) (base + p .from) n m t h) (λ u e. sure-same _)))
+    sure-onward _ _ _ _ (sure-moved (p .from) (sure-told id (partBytes s p) (base + p .from) n m t h)) (λ u e. sure-same _)))
 
 sure-custom : (s : List ℕ) (base n m : ℕ) (t : Names) → capacityIn 4 n ≤ capacityIn 4 m
     → Sure Full (customAt s base n t) (customAt s base m t)
@@ -69,7 +69,7 @@ unfolding sectionAt addSection
 sure-section b z w h at t =
     sure-onward _ _ _ _ (sure-same (byteAt b at)) (λ id a.
     sure-onward _ _ _ _ (sure-same (countedAt b a)) (λ p next.
-    sure-onward _ _ _ _ (sure-contents id (partBytes b p) (p .from) z w t h) (λ u e.
+    sure-onward _ _ _ _ (sure-moved (p .from) (sure-contents id (partBytes b p) (p .from) z w t h)) (λ u e.
     sure-room (length (u .tables .sections)) _ _ 1 _ _ (h .sections) (sure-same _))))
 
 -- a file's answer with some tables is that with larger ones, unless they are full

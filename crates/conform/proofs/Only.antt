@@ -11,7 +11,7 @@ use lib.Seq.{drop-cons, drop-drop, length-take-le}
 use lib.Dec.{ltb, eqb}
 use borrow.Author.Tests.{ltb-true, eqb-true, eqb-false}
 use Rattle.refusal.specs.Pick.{pick}
-use Rattle.refusal.specs.Said.{Said, accepted, refused, Got, got, onward}
+use Rattle.refusal.specs.Said.{Said, accepted, refused, Got, got, onward, offset, spot}
 use Rattle.refusal.specs.declared.Part.{Part}
 use Rattle.refusal.proofs.Following.{never, read-on}
 use Rattle.table.specs.Entries.{entriesFrom}
@@ -42,7 +42,7 @@ module _ (s : List ℕ) (size : length s < 18446744073709551616) where
   pub only-byte : (at x d : ℕ) → byteAt s at ≡ accepted (got x d) → drop at s ≡ x ∷ drop d s
   unfolding byteAt
   only-byte at x d e = by (ltb at (length s)) refl e where
-    by : (t : Bool) → ltb at (length s) ≡ t → pick t (accepted (got (getD s at 0) (at + 1))) (refused 1 at) ≡ accepted (got x d)
+    by : (t : Bool) → ltb at (length s) ≡ t → pick t (accepted (got (getD s at 0) (at + 1))) (refused 1 (offset at)) ≡ accepted (got x d)
         → drop at s ≡ x ∷ drop d s
     by true t f =
         let v : getD s at 0 ≡ x = cc in
@@ -175,9 +175,10 @@ module _ (s : List ℕ) (size : length s < 18446744073709551616) where
       (subst (λ (i : Desc). AnyDesc 3 (x .what ∷ y .what ∷ drop d s) i (drop d s)) q globals)
 
   -- a descriptor that was read
-  pub only-desc : (kind at : ℕ) (m : Desc) (d : ℕ) → descAt s kind at ≡ accepted (got m d) → AnyDesc kind (drop at s) m (drop d s)
+  pub only-desc : (kind i at : ℕ) (m : Desc) (d : ℕ) → descAt s kind i at ≡ accepted (got m d)
+      → AnyDesc kind (drop at s) m (drop d s)
   unfolding descAt
-  only-desc kind at m d e =
+  only-desc kind i at m d e =
       either kind 0 _ _ (got m d) _ e (λ h f. is 0 h (only-func at m d f)) (λ h f.
       either kind 1 _ _ (got m d) _ f (λ h f. is 1 h (only-table at m d f)) (λ h f.
       either kind 2 _ _ (got m d) _ f (λ h f. is 2 h (only-memory at m d f)) (λ h f.
@@ -200,13 +201,13 @@ module _ (s : List ℕ) (size : length s < 18446744073709551616) where
       let m = read-on (nameAt s at) _ e in
       let f = read-on (nameAt s (m .next)) _ (m .then) in
       let k = read-on (byteAt s (f .next)) _ (f .then) in
-      let c = read-on (descAt s (k .what) (k .next)) _ (k .then) in
+      let c = read-on (descAt s (k .what) (f .next) (k .next)) _ (k .then) in
       let g = same-got (c .then) in
       let r = g .1 in
       let p = only-name at (m .what) (m .next) (m .first) in
       let q = only-name (m .next) (f .what) (f .next) (f .first) in
       let b = only-byte (f .next) (k .what) (k .next) (k .first) in
-      let w = only-desc (k .what) (k .next) (c .what) (c .next) (c .first) in
+      let w = only-desc (k .what) (f .next) (k .next) (c .what) (c .next) (c .first) in
       record {
         value = record { from = partBytes s (m .what); name = partBytes s (f .what); kind = k .what; desc = c .what };
         derives = imported (p .0) (subst (Named (drop (m .next) s) (partBytes s (f .what))) b (q .0))
@@ -286,7 +287,7 @@ module _ (s : List ℕ) (size : length s < 18446744073709551616) where
         (only-entries n (o .next) (rows ++ (o .what ∷ [])) all d)
       where
         by : (v : E) (c : ℕ) → Found P R at v c → (t : Bool)
-            → pick t (entriesFrom read tn room n c (rows ++ (v ∷ []))) (refused 13 tn) ≡ accepted (got all d)
+            → pick t (entriesFrom read tn room n c (rows ++ (v ∷ []))) (refused 13 (spot tn)) ≡ accepted (got all d)
             → (entriesFrom read tn room n c (rows ++ (v ∷ [])) ≡ accepted (got all d) → Ran n c (rows ++ (v ∷ [])) all d)
             → Ran (suc n) at rows all d
         by v c f true g ih =

@@ -8,9 +8,9 @@ use lib.ListN.{length}
 use lib.Dec.{ltb}
 use borrow.Author.Tests.{ltb-true}
 use Rattle.refusal.specs.Pick.{pick}
-use Rattle.refusal.specs.Said.{accepted, refused, got}
+use Rattle.refusal.specs.Said.{accepted, refused, relocated, got, spot}
 use Rattle.refusal.specs.declared.Part.{Part}
-use Rattle.refusal.proofs.Following.{never, read-on}
+use Rattle.refusal.proofs.Following.{never, read-on, relocated-got}
 use Rattle.table.specs.Shape.{capacityIn}
 use Rattle.leb.specs.Reads.{partBytes, byteAt, countedAt}
 use Rattle.leb.proofs.Bounds.{byte-in, counted-in}
@@ -44,7 +44,7 @@ added : (n : ℕ) (row : Section) (next : ℕ) (t u : Tables) (d : ℕ) → addS
 unfolding addSection
 added n row next t u d e = by (ltb (length (t .sections)) (capacityIn 1 n)) refl e where
   by : (x : Bool) → ltb (length (t .sections)) (capacityIn 1 n) ≡ x
-      → pick x (accepted (got (withSection t row) next)) (refused 13 1) ≡ accepted (got u d)
+      → pick x (accepted (got (withSection t row) next)) (refused 13 (spot 1)) ≡ accepted (got u d)
       → (u ≡ withSection t row) × (next ≡ d) × (length (t .sections) < capacityIn 1 n)
   by true x f = (cc, cc, ltb-true (length (t .sections)) (capacityIn 1 n) x)
   by false x f = absurd (never f)
@@ -55,7 +55,7 @@ unfolding sectionAt
 took b z at t u d e =
     let x = read-on (byteAt b at) _ e in
     let y = read-on (countedAt b (x .next)) _ (x .then) in
-    let c = read-on (contentsAt (x .what) (partBytes b (y .what)) (y .what .from) z t) _ (y .then) in
+    let c = read-on (relocated (y .what .from) (contentsAt (x .what) (partBytes b (y .what)) (y .what .from) z t)) _ (y .then) in
     let o = added (z .sections) (rowOf (x .what) (y .what) (c .what)) (y .next) (c .what .tables) u d (c .then) in
     let v = byte-in b at (x .what) (x .next) (x .first) in
     let w = counted-in b (x .next) (y .what) (y .next) (y .first) in
@@ -67,7 +67,7 @@ took b z at t u d e =
       end = c .next;
       one = x .first;
       two = rw (o .1) at (y .first);
-      three = c .first;
+      three = relocated-got (y .what .from) _ (c .first);
       is = o .0;
       room = o .2;
       past = omega (arith, v .past, w .past);
@@ -95,7 +95,7 @@ unfolding subsectionAt
 took-sub s base n at t u d e =
     let x = read-on (byteAt s at) _ e in
     let y = read-on (countedAt s (x .next)) _ (x .then) in
-    let c = read-on (toldBy (x .what) (partBytes s (y .what)) (base + y .what .from) n t) _ (y .then) in
+    let c = read-on (relocated (y .what .from) (toldBy (x .what) (partBytes s (y .what)) (base + y .what .from) n t)) _ (y .then) in
     let o = same-got (c .then) in
     let v = byte-in s at (x .what) (x .next) (x .first) in
     let w = counted-in s (x .next) (y .what) (y .next) (y .first) in
@@ -106,7 +106,7 @@ took-sub s base n at t u d e =
       end = c .next;
       one = x .first;
       two = rw (o .1) at (y .first);
-      three = rw (o .0) at (c .first);
+      three = rw (o .0) at (relocated-got (y .what .from) _ (c .first));
       past = omega (arith, v .past, w .past);
       ends = omega (arith, w .end, o .1);
       in-s = omega (arith, o .1, w .in-s);

@@ -10,9 +10,9 @@ use lib.Dec.{ltb, eqb}
 use borrow.Author.Tests.{ltb-true, eqb-true}
 use Rattle.refusal.specs.Pick.{pick}
 use Rattle.refusal.specs.Sizes.{fileLimit}
-use Rattle.refusal.specs.Said.{Said, accepted, refused, Got, got, onward}
+use Rattle.refusal.specs.Said.{Said, accepted, refused, Got, got, onward, offset, spot, kindAt}
 use Rattle.refusal.specs.declared.Part.{Part}
-use Rattle.refusal.proofs.Following.{never}
+use Rattle.refusal.proofs.Following.{never, relocated-got}
 use Rattle.text.specs.Find.{same}
 use Rattle.table.specs.Entries.{entriesFrom}
 use Rattle.table.specs.Walking.{walkFrom}
@@ -49,9 +49,9 @@ module _ {E : Type 0} (read : ℕ → Said (Got E)) (tn room : ℕ) where
       by : (v : E) (d : ℕ)
           → (length (rows ++ (v ∷ [])) ≤ room → Gives (Of (Few room)) (entriesFrom read tn room n d (rows ++ (v ∷ []))))
           → (t : Bool) → ltb (length rows) room ≡ t
-          → Gives (Of (Few room)) (pick t (entriesFrom read tn room n d (rows ++ (v ∷ []))) (refused 13 tn))
+          → Gives (Of (Few room)) (pick t (entriesFrom read tn room n d (rows ++ (v ∷ []))) (refused 13 (spot tn)))
       by v d ih true t = ih (omega (arith, ltb-true (length rows) room t, length-append rows (v ∷ [])))
-      by v d ih false t = gives-stop (Of (Few room)) 13 tn
+      by v d ih false t = gives-stop (Of (Few room)) 13 (spot tn)
 
   -- a count and so many entries
   pub few-run : (s : List ℕ) (rows : List E) → length rows ≤ room
@@ -62,7 +62,7 @@ module _ {E : Type 0} (read : ℕ → Said (Got E)) (tn room : ℕ) where
 byte-small : (s : List ℕ) → Bytes s → (at v d : ℕ) → byteAt s at ≡ accepted (got v d) → v < 256
 unfolding byteAt
 byte-small s h at v d e = by (ltb at (length s)) e where
-  by : (b : Bool) → pick b (accepted (got (getD s at 0) (at + 1))) (refused 1 at) ≡ accepted (got v d) → v < 256
+  by : (b : Bool) → pick b (accepted (got (getD s at 0) (at + 1))) (refused 1 (offset at)) ≡ accepted (got v d) → v < 256
   by true f = let k : getD s at 0 ≡ v = cc in subst (λ (x : ℕ). x < 256) k (h at)
   by false f = absurd (never f)
 
@@ -77,13 +77,13 @@ small-case kind n x y h g = by (eqb kind n) refl where
   by true t v q = omega (arith, eqb-true kind n t)
   by false t v q = g v q
 
-kind-small : (s : List ℕ) (kind at : ℕ) → Gives (Small kind) (descAt s kind at)
+kind-small : (s : List ℕ) (kind i at : ℕ) → Gives (Small kind) (descAt s kind i at)
 unfolding descAt
-kind-small s kind at =
+kind-small s kind i at =
     small-case kind 0 _ _ (omega arith)
     (small-case kind 1 _ _ (omega arith)
     (small-case kind 2 _ _ (omega arith)
-    (small-case kind 3 _ _ (omega arith) (gives-stop (Small kind) 5 kind))))
+    (small-case kind 3 _ _ (omega arith) (gives-stop (Small kind) 5 (kindAt kind i)))))
 
 -- ---- entries: s lies in a file of n bytes, from base on
 pub record SpokenOk (n : ℕ) (z : Sizes) (u : CustomSaid) : Type 0 where
@@ -105,9 +105,9 @@ module _ (n : ℕ) (z : Sizes) where
         gives-onward (Of (ImportOk n)) (nameAt s at) _ (λ m a e1.
         gives-onward (Of (ImportOk n)) (nameAt s a) _ (λ f c e2.
         gives-onward (Of (ImportOk n)) (byteAt s c) _ (λ kind d e3.
-        gives-onward (Of (ImportOk n)) (descAt s kind d) _ (λ desc e e4.
+        gives-onward (Of (ImportOk n)) (descAt s kind c d) _ (λ desc e e4.
         gives-done (Of (ImportOk n)) _
-        (record { module-in = ranged at m a e1; field-in = ranged a f c e2; kind-small = kind-small s kind d (got desc e) e4 })))))
+        (record { module-in = ranged at m a e1; field-in = ranged a f c e2; kind-small = kind-small s kind c d (got desc e) e4 })))))
 
     export-ok : (at : ℕ) → Gives (Of (ExportOk n)) (exportAt s base at)
     unfolding exportAt Of
@@ -160,7 +160,8 @@ module _ (n : ℕ) (z : Sizes) where
         gives-onward (Of (NamesOk n z)) (countedAt s a) _ (λ p d e2.
         gives-onward (Of (NamesOk n z)) _ _ (λ u e e3.
         gives-done (Of (NamesOk n z)) _
-        (told-ok (partBytes s p) (part-bytes s p bytes) (base + p .from) (part-fits a p d e2) id t h (got u e) e3))))
+        (told-ok (partBytes s p) (part-bytes s p bytes) (base + p .from) (part-fits a p d e2) id t h (got u e)
+        (relocated-got (p .from) _ e3)))))
 
     custom-ok : (t : Names) → NamesOk n z t → Gives (Of (SpokenOk n z)) (customAt s base (z .names) t)
     unfolding customAt Gives Of
@@ -300,7 +301,7 @@ module _ (b : List ℕ) (bytes : Bytes b) (z : Sizes) where
 
   module-ok : (m : Parsed) → moduleAt b z ≡ accepted m → ModuleOk b z m
   unfolding moduleAt Gives
-  module-ok = gives-pick (ModuleOk b z) (ltb fileLimit (length b)) _ _ (gives-stop (ModuleOk b z) 14 0)
+  module-ok = gives-pick (ModuleOk b z) (ltb fileLimit (length b)) _ _ (gives-stop (ModuleOk b z) 14 (spot 0))
       (gives-onward (ModuleOk b z) (headerAt b) _ (λ v c e1.
       gives-onward (ModuleOk b z) (walkFrom (sectionAt b z) b c noTables) _ (λ t d e2.
       let h = header-only b v c e1 in

@@ -9,7 +9,7 @@ use lib.Seq.{take-append-le, drop-append-le}
 use lib.Dec.{ltb, leb, eqb}
 use borrow.Author.Tests.{lt-ltb, le-ltb, le-leb, ltb-true, ltb-false, leb-true}
 use Rattle.refusal.specs.Pick.{pick}
-use Rattle.refusal.specs.Said.{Said, accepted, refused, Got, got, onward}
+use Rattle.refusal.specs.Said.{Said, accepted, refused, Got, got, onward, offset, kindAt}
 use Rattle.refusal.specs.declared.Part.{Part}
 use Rattle.refusal.proofs.Following.{read-on}
 use Rattle.table.specs.Entries.{entriesFrom}
@@ -45,12 +45,12 @@ module _ (s more : List ℕ) where
   unfolding byteAt
   more-byte at = by (ltb at (length s)) refl where
     by : (t : Bool) → ltb at (length s) ≡ t
-        → Sure Any (pick t (accepted (got (getD s at 0) (at + 1))) (refused 1 at))
-        (pick (ltb at (length (s ++ more))) (accepted (got (getD (s ++ more) at 0) (at + 1))) (refused 1 at))
+        → Sure Any (pick t (accepted (got (getD s at 0) (at + 1))) (refused 1 (offset at)))
+        (pick (ltb at (length (s ++ more))) (accepted (got (getD (s ++ more) at 0) (at + 1))) (refused 1 (offset at)))
     by true t =
         let h = ltb-true at (length s) t in
         rw (lt-ltb at (length (s ++ more)) (omega (arith, h, longer)), List·getD-append s more 0 at h) (sure-same _)
-    by false t = spare 1 at tt refl
+    by false t = spare 1 (offset at) tt refl
 
   more-u32 : (at : ℕ) → Sure Any (u32At s at) (u32At (s ++ more) at)
   more-u32 at = sure-accepts (u32At s at) (u32At (s ++ more) at) by where
@@ -66,18 +66,18 @@ module _ (s more : List ℕ) where
   unfolding takeAt
   more-take at n = one (ltb (length s) at) refl where
     two : (t : Bool) → leb (at + n) (length s) ≡ t
-        → Sure Any (pick t (accepted (got (part at n) (at + n))) (refused 1 at))
-        (pick (leb (at + n) (length (s ++ more))) (accepted (got (part at n) (at + n))) (refused 1 at))
+        → Sure Any (pick t (accepted (got (part at n) (at + n))) (refused 1 (offset at)))
+        (pick (leb (at + n) (length (s ++ more))) (accepted (got (part at n) (at + n))) (refused 1 (offset at)))
     two true t = rw (le-leb (at + n) (length (s ++ more)) (omega (arith, leb-true (at + n) (length s) t, longer))) (sure-same _)
-    two false t = spare 1 at tt refl
+    two false t = spare 1 (offset at) tt refl
 
     one : (t : Bool) → ltb (length s) at ≡ t
         → Sure Any
-        (pick t (refused 1 at)
-        (pick (ltb (18446744073709551615 - at) n) (refused 5 at)
-        (pick (leb (at + n) (length s)) (accepted (got (part at n) (at + n))) (refused 1 at))))
+        (pick t (refused 1 (offset at))
+        (pick (ltb (18446744073709551615 - at) n) (refused 5 (kindAt at at))
+        (pick (leb (at + n) (length s)) (accepted (got (part at n) (at + n))) (refused 1 (offset at)))))
         (takeAt (s ++ more) at n)
-    one true t = spare 1 at tt refl
+    one true t = spare 1 (offset at) tt refl
     one false t =
         rw (le-ltb (length (s ++ more)) at (omega (arith, ltb-false (length s) at t, longer)))
         (sure-pick (ltb (18446744073709551615 - at) n) _ _ _ _ (sure-same _) (two (leb (at + n) (length s)) refl))
@@ -109,9 +109,9 @@ module _ (s more : List ℕ) where
       sure-onward _ _ _ _ (more-u32 a) (λ low c.
       sure-pick (eqb (flag % 2) 1) _ _ _ _ (sure-onward _ _ _ _ (more-u32 c) (λ high d. sure-same _)) (sure-same _)))
 
-  more-desc : (kind at : ℕ) → Sure Any (descAt s kind at) (descAt (s ++ more) kind at)
+  more-desc : (kind i at : ℕ) → Sure Any (descAt s kind i at) (descAt (s ++ more) kind i at)
   unfolding descAt funcAt tableAt memoryAt globalAt
-  more-desc kind at =
+  more-desc kind i at =
       sure-pick (eqb kind 0) _ _ _ _ (sure-onward _ _ _ _ (more-u32 at) (λ index a. sure-same _))
       (sure-pick (eqb kind 1) _ _ _ _
       (sure-onward _ _ _ _ (more-byte at) (λ element a. sure-onward _ _ _ _ (more-limits a) (λ l c. sure-same _)))
@@ -127,7 +127,7 @@ module _ (s more : List ℕ) where
         sure-onward _ _ _ _ (more-name at) (λ m a.
         sure-onward _ _ _ _ (more-name a) (λ f c.
         sure-onward _ _ _ _ (more-byte c) (λ kind d.
-        sure-onward _ _ _ _ (more-desc kind d) (λ desc e. sure-same _))))
+        sure-onward _ _ _ _ (more-desc kind c d) (λ desc e. sure-same _))))
 
     more-export : (at : ℕ) → Sure Any (exportAt s base at) (exportAt (s ++ more) base at)
     unfolding exportAt

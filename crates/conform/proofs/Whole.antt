@@ -6,7 +6,7 @@ use mathlib.Core.Bool.{Bool, true, false}
 use mathlib.Core.List.{List, [], _∷_, _++_, append-nil}
 use lib.ListN.{length, drop, length-drop, length-append}
 use borrow.Author.Tests.{lt-ltb, le-ltb, ne-eqb}
-use Rattle.refusal.specs.Said.{accepted, got, onward}
+use Rattle.refusal.specs.Said.{accepted, relocated, got, onward}
 use Rattle.refusal.specs.Sizes.{fileLimit}
 use Rattle.text.specs.Find.{same}
 use Rattle.text.proofs.FindLaws.{same-is, same-self}
@@ -89,7 +89,7 @@ module _ (b s : List ℕ) (base : ℕ) (in-b : In b base s) (size : length s < 1
 
   subs-tell : (at : ℕ) (l : List ℕ) (t : Names) (vs : List SubOf) → drop at s ≡ l → at ≤ length s → InARow (Framed AnySub) l vs []
       → length (t .symbols) + length (functionsIn vs) ≤ capacityIn 4 cells → Walked at t vs
-  unfolding functionsIn nameIn subsectionAt onward
+  unfolding functionsIn nameIn subsectionAt onward relocated
   subs-tell at l t [] e k InARow.done room =
       let n : length (drop at s) ≡ 0 = ap length e in
       record {
@@ -217,7 +217,7 @@ module _ (b : List ℕ) (size : length b < 18446744073709551616) (z : Sizes) whe
       → length (u .tables .sections) < capacityIn 1 (z .sections)
       → sectionAt b z at t
       ≡ accepted (got (withSection (u .tables) (rowOf id (part (g .start) (length p)) u)) (g .start + length p))
-  unfolding sectionAt onward addSection
+  unfolding sectionAt onward relocated addSection
   frame at id e p r t u one g c room = rw (one, g .is, g .holds, c, lt-ltb _ _ room)
 
   -- a section: its each-cons, and what the tables then say

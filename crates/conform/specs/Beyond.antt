@@ -6,7 +6,7 @@ use mathlib.Core.Path.{_≡_}
 use mathlib.Core.Bool.{true, false}
 use mathlib.Core.List.{List, [], _∷_, _++_}
 use lib.ListN.{length, drop}
-use Rattle.refusal.specs.Said.{accepted, refused, got}
+use Rattle.refusal.specs.Said.{accepted, refused, Place, movedBy, got, offset}
 use Rattle.refusal.specs.declared.Part.{Part}
 use Rattle.refusal.specs.Sizes.{fileLimit}
 use Rattle.leb.specs.Grammar.{U}
@@ -89,15 +89,15 @@ pub data Comes (b : List ℕ) (z : Sizes) : ℕ → Tables → Type 0 where
 -- the first section that is refused refuses the file
 abbrev pub FirstRefusal : Type 0
 FirstRefusal =
-    (b : List ℕ) (z : Sizes) (at n p : ℕ) (t : Tables) → Comes b z at t → at < length b → sectionAt b z at t ≡ refused n p
+    (b : List ℕ) (z : Sizes) (at n : ℕ) (p : Place) (t : Tables) → Comes b z at t → at < length b → sectionAt b z at t ≡ refused n p
     → moduleAt b z ≡ refused n p
 
--- and so a custom section whose contents are refused, as a faulty name section's are: with that number and place
+-- and so a custom section whose contents are refused, as a faulty name section's are: with that number, and the place from byte 0
 abbrev pub FaultyNames : Type 0
 FaultyNames =
-    (b : List ℕ) (z : Sizes) (at a d n q : ℕ) (t : Tables) (p : Part) → Comes b z at t → byteAt b at ≡ accepted (got 0 a)
+    (b : List ℕ) (z : Sizes) (at a d n : ℕ) (q : Place) (t : Tables) (p : Part) → Comes b z at t → byteAt b at ≡ accepted (got 0 a)
     → countedAt b a ≡ accepted (got p d) → customAt (partBytes b p) (p .from) (z .names) (t .names) ≡ refused n q
-    → moduleAt b z ≡ refused n q
+    → moduleAt b z ≡ refused n (movedBy (p .from) q)
 
 -- ---- smallest inputs
 abbrev pub file : List ℕ → List ℕ
@@ -126,5 +126,5 @@ pub record Smallest : Type 0 where
       ≡ accepted (got (tableDesc 0 (record { flag = 0; least = 0; bounded = false; most = 0 })) 3)
   pub mutability : globalAt (0x7F ∷ 0x02 ∷ []) 0 ≡ accepted (got (global 0x7F 2) 2)
   pub size : Sections (file (0x01 ∷ 0x80 ∷ 0x80 ∷ 0x80 ∷ 0x80 ∷ 0x80 ∷ 0x00 ∷ [])) 1 (unnamedSection 1 15 0 ∷ [])
-  -- a custom section named `name` that ends in its first subsection's id: 1 at 6 of the payload
-  pub names : moduleAt (file (0x00 ∷ 0x06 ∷ 0x04 ∷ 0x6E ∷ 0x61 ∷ 0x6D ∷ 0x65 ∷ 0x00 ∷ [])) limits ≡ refused 1 6
+  -- a custom section named `name` that ends in its first subsection's id: 1 at 6 of the payload, which starts at 10
+  pub names : moduleAt (file (0x00 ∷ 0x06 ∷ 0x04 ∷ 0x6E ∷ 0x61 ∷ 0x6D ∷ 0x65 ∷ 0x00 ∷ [])) limits ≡ refused 1 (offset 16)

@@ -4,7 +4,7 @@ use Prim.Native.Nat.{ℕ, _+_, _*_, _^_, _≤_, _<_}
 use mathlib.Core.Path.{_≡_}
 use mathlib.Core.List.{List, [], _∷_}
 use lib.ListN.{length}
-use Rattle.refusal.specs.Said.{accepted, refused}
+use Rattle.refusal.specs.Said.{accepted, refused, Place}
 use Rattle.refusal.specs.declared.Part.{Part}
 use Rattle.table.specs.Shape.{width, fullCells, capacityIn}
 use Rattle.refusal.specs.Each.{Each}
@@ -80,7 +80,7 @@ LargerSame = (b : List ℕ) (z w : Sizes) (m : Parsed) → Larger z w → module
 -- and one that is refused, but for want of room, is refused in the same way
 abbrev pub RefusedSame : Type 0
 RefusedSame =
-    (b : List ℕ) (z w : Sizes) (n p : ℕ) → Larger z w → (n ≡ 13 → ⊥) → moduleAt b z ≡ refused n p → moduleAt b w ≡ refused n p
+    (b : List ℕ) (z w : Sizes) (n : ℕ) (p : Place) → Larger z w → (n ≡ 13 → ⊥) → moduleAt b z ≡ refused n p → moduleAt b w ≡ refused n p
 
 -- tables at the limits
 abbrev pub limits : Sizes

@@ -7,14 +7,15 @@ use lib.Dec.{ltb}
 use lib.ListN.{length}
 use Rattle.refusal.specs.Pick.{pick}
 use Rattle.refusal.specs.Sizes.{fileLimit}
-use Rattle.refusal.specs.Said.{accepted, refused, follow}
+use Rattle.refusal.specs.Said.{accepted, refused, follow, spot, Place}
 use Rattle.refusal.proofs.Following.{never, followed}
 use Rattle.import_rows.specs.Queries.{importsTested}
 use Rattle.differences.specs.Compared.{Given, exportsTested, tablesTested, bothTested, Good}
 
 -- ---- 15
 module _ (g : Given) where
-  pub tables-bad : {n p : ℕ} → importsTested (length (g .file)) (g .imports) (g .importCount) ≡ refused n p → refused n p ≡ tablesTested g
+  pub tables-bad : {n : ℕ} {p : Place} → importsTested (length (g .file)) (g .imports) (g .importCount) ≡ refused n p
+      → refused n p ≡ tablesTested g
   unfolding tablesTested follow
   tables-bad e = rw e
 
@@ -29,17 +30,17 @@ module _ (g : Given) where
 
 -- ---- 14, then 15
 module _ (b c : Given) where
-  pub first-long : fileLimit < length (b .file) → refused 14 0 ≡ bothTested b c
+  pub first-long : fileLimit < length (b .file) → refused 14 (spot 0) ≡ bothTested b c
   unfolding bothTested
   first-long h = rw (lt-ltb fileLimit (length (b .file)) h)
 
   module _ (h : length (b .file) ≤ fileLimit) where
-    pub second-long : fileLimit < length (c .file) → refused 14 0 ≡ bothTested b c
+    pub second-long : fileLimit < length (c .file) → refused 14 (spot 0) ≡ bothTested b c
     unfolding bothTested
     second-long k = rw (le-ltb fileLimit (length (b .file)) h, lt-ltb fileLimit (length (c .file)) k)
 
     module _ (k : length (c .file) ≤ fileLimit) where
-      pub first-bad : {n p : ℕ} → tablesTested b ≡ refused n p → refused n p ≡ bothTested b c
+      pub first-bad : {n : ℕ} {p : Place} → tablesTested b ≡ refused n p → refused n p ≡ bothTested b c
       unfolding bothTested follow
       first-bad e = rw (le-ltb fileLimit (length (b .file)) h, le-ltb fileLimit (length (c .file)) k, e)
 
@@ -51,7 +52,8 @@ module _ (b c : Given) where
   unfolding bothTested
   both-good e = by (ltb fileLimit (length (b .file))) (ltb fileLimit (length (c .file))) e
     where
-      by : (s t : Bool) → pick s (refused 14 0) (pick t (refused 14 0) (follow (tablesTested b) (λ u. tablesTested c))) ≡ accepted tt
+      by : (s t : Bool)
+          → pick s (refused 14 (spot 0)) (pick t (refused 14 (spot 0)) (follow (tablesTested b) (λ u. tablesTested c))) ≡ accepted tt
           → Good b × Good c
       by true t q = absurd (never q)
       by false true q = absurd (never q)
@@ -63,7 +65,7 @@ module _ (b c : Given) where
   both-short e = by (ltb fileLimit (length (b .file))) refl (ltb fileLimit (length (c .file))) refl e
     where
       by : (s : Bool) → ltb fileLimit (length (b .file)) ≡ s → (t : Bool) → ltb fileLimit (length (c .file)) ≡ t
-          → pick s (refused 14 0) (pick t (refused 14 0) (follow (tablesTested b) (λ u. tablesTested c))) ≡ accepted tt
+          → pick s (refused 14 (spot 0)) (pick t (refused 14 (spot 0)) (follow (tablesTested b) (λ u. tablesTested c))) ≡ accepted tt
           → (length (b .file) ≤ fileLimit) × (length (c .file) ≤ fileLimit)
       by true p t q e = absurd (never e)
       by false p true q e = absurd (never e)

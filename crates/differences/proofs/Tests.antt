@@ -9,7 +9,7 @@ use lib.Dec.{leb, ltb}
 use lib.ListN.{length}
 use Rattle.refusal.specs.Pick.{pick, both}
 use Rattle.refusal.specs.Sizes.{fitsIn}
-use Rattle.refusal.specs.Said.{Said, accepted, refused}
+use Rattle.refusal.specs.Said.{Said, accepted, refused, spot}
 use Rattle.refusal.proofs.Following.{never}
 use Rattle.table.specs.Shape.{width, limit, capacityIn, cellIn}
 use Rattle.table.specs.Testing.{bad, firstFrom, tested}
@@ -39,7 +39,7 @@ unfolding firstFrom
 first-all test zero i j e h l = absurd (omega arith)
 first-all test (suc k) i j e h l = by (test i) refl e (λ q m. first-all test k (i + 1) j q m (omega arith))
   where
-    by : (t : Bool) → test i ≡ t → pick t (refused 15 i) (firstFrom test (i + 1) k) ≡ accepted tt
+    by : (t : Bool) → test i ≡ t → pick t (refused 15 (spot i)) (firstFrom test (i + 1) k) ≡ accepted tt
         → (firstFrom test (i + 1) k ≡ accepted tt → i + 1 ≤ j → test j ≡ false) → test j ≡ false
     by true q r rest = absurd (never r)
     by false q r rest = here (ltb i j) refl
@@ -53,7 +53,7 @@ pub tested-all : (room n : ℕ) (test : ℕ → Bool) → tested room n test ≡
 unfolding tested
 tested-all room n test e = by (ltb room n) refl e
   where
-    by : (t : Bool) → ltb room n ≡ t → pick t (refused 15 room) (firstFrom test 0 n) ≡ accepted tt
+    by : (t : Bool) → ltb room n ≡ t → pick t (refused 15 (spot room)) (firstFrom test 0 n) ≡ accepted tt
         → (n ≤ room) × ((j : ℕ) → j < n → test j ≡ false)
     by true q r = absurd (never r)
     by false q r = (ltb-false room n q, λ j l. first-all test n 0 j r (omega arith) (omega arith))

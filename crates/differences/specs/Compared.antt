@@ -7,7 +7,7 @@ use lib.Dec.{leb, ltb}
 use lib.ListN.{length}
 use Rattle.refusal.specs.Pick.{pick, both}
 use Rattle.refusal.specs.Sizes.{fileLimit, fitsIn}
-use Rattle.refusal.specs.Said.{Said, accepted, refused, follow}
+use Rattle.refusal.specs.Said.{Said, accepted, refused, follow, spot}
 use Rattle.table.specs.Table.{laid, cells}
 use Rattle.table.specs.Shape.{capacityIn, cellIn}
 use Rattle.table.specs.Testing.{bad, tested}
@@ -49,8 +49,8 @@ tablesTested g =
 -- 14, of either file; 15, the baseline's tables and then the candidate's
 unfoldable pub bothTested : Given → Given → Said (Unit {0})
 bothTested b c =
-    pick (ltb fileLimit (length (b .file))) (refused 14 0)
-    (pick (ltb fileLimit (length (c .file))) (refused 14 0)
+    pick (ltb fileLimit (length (b .file))) (refused 14 (spot 0))
+    (pick (ltb fileLimit (length (c .file))) (refused 14 (spot 0))
     (follow (tablesTested b) (λ u. tablesTested c)))
 
 -- tables that passed
@@ -72,8 +72,8 @@ roomed room8 room9 l = follow (finished 8 room8 (l .exports)) (λ m. follow (fin
 -- 14, of either file; 15, the baseline's tables and then the candidate's; 13
 unfoldable pub compared : Given → Given → ℕ → ℕ → Said Lists
 compared b c room8 room9 =
-    pick (ltb fileLimit (length (b .file))) (refused 14 0)
-    (pick (ltb fileLimit (length (c .file))) (refused 14 0)
+    pick (ltb fileLimit (length (b .file))) (refused 14 (spot 0))
+    (pick (ltb fileLimit (length (c .file))) (refused 14 (spot 0))
     (follow (tablesTested b)
     (λ u. follow (tablesTested c)
     (λ v. roomed room8 room9 (lists (viewed b) (viewed c))))))

@@ -7,7 +7,7 @@ use borrow.Author.Tests.{le-leb, lt-leb, lt-ltb, le-ltb, eq-eqb, ne-eqb}
 use lib.Dec.{leb}
 use lib.ListN.{length}
 use Rattle.refusal.specs.Sizes.{fileLimit, fitsIn}
-use Rattle.refusal.specs.Said.{Said, accepted, refused, follow}
+use Rattle.refusal.specs.Said.{Said, accepted, refused, follow, spot, Place}
 use Rattle.import_rows.specs.Queries.{importCell, importFits, kindFits, kindIs, importsTested, asked}
 
 -- the test of a row, by what the calls on its cells answer
@@ -53,12 +53,12 @@ module _ (imports : List ℕ) (i : ℕ) {k : ℕ} (e : k ≡ importCell imports 
 
 -- 14, then 15, then what the rows answer
 module _ {X : Type 0} (file imports : List ℕ) (n : ℕ) (then : Said X) where
-  pub asked-long : fileLimit < length file → asked file imports n then ≡ refused 14 0
+  pub asked-long : fileLimit < length file → asked file imports n then ≡ refused 14 (spot 0)
   unfolding asked
   asked-long h = rw (lt-ltb fileLimit (length file) h)
 
   module _ (short : length file ≤ fileLimit) where
-    pub asked-bad : {m p : ℕ} → importsTested (length file) imports n ≡ refused m p → asked file imports n then ≡ refused m p
+    pub asked-bad : {m : ℕ} {p : Place} → importsTested (length file) imports n ≡ refused m p → asked file imports n then ≡ refused m p
     unfolding asked follow
     asked-bad e = rw (le-ltb fileLimit (length file) short, e)
 

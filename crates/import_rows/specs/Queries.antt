@@ -6,7 +6,7 @@ use lib.Dec.{leb, ltb, eqb}
 use lib.ListN.{length}
 use Rattle.refusal.specs.Pick.{pick, both}
 use Rattle.refusal.specs.Sizes.{fileLimit, fitsIn}
-use Rattle.refusal.specs.Said.{Said, accepted, refused, follow}
+use Rattle.refusal.specs.Said.{Said, accepted, refused, follow, spot}
 use Rattle.table.specs.Shape.{width, capacityIn, cellIn}
 use Rattle.table.specs.Testing.{bad, tested, countFrom}
 use Rattle.table.specs.Listing.{fitted}
@@ -42,7 +42,7 @@ importedOf imports n kind = follow (kindsTested imports n) (λ u. accepted (coun
 -- 14 for the file, then 15 for table 2, then what the rows answer
 unfoldable pub asked : {X : Type 0} → List ℕ → List ℕ → ℕ → Said X → Said X
 asked file imports n then =
-    pick (ltb fileLimit (length file)) (refused 14 0) (follow (importsTested (length file) imports n) (λ u. then))
+    pick (ltb fileLimit (length file)) (refused 14 (spot 0)) (follow (importsTested (length file) imports n) (λ u. then))
 
 -- of each module name, of whatever kind of import, the lowest row, by bytes
 unfoldable pub namespacesOf : List ℕ → List ℕ → ℕ → ℕ → Said (List ℕ)

@@ -7,7 +7,7 @@ use Rattle.verdicts.specs.Evaluate.{evaluated, compliant, EvaluatedAs}
 use Rattle.policy.specs.declared.Policy.{Policy}
 use Rattle.policy.specs.declared.Stance.the-variants.{Deny}
 use Rattle.verdicts.specs.declared.Evaluation.{Evaluation}
-use Rattle.told.specs.Policies.{numberIn, placeIn}
+use Rattle.told.specs.Policies.{numberIn, placeIn, besideIn}
 use Rattle.told.specs.Check.{evaluationAs, evaluationTold}
 use Rattle.told.proofs.Telling.{evaluation}
 use Rattle.differences.specs.declared.Change.{Change}
@@ -22,8 +22,8 @@ denied (suc zero) a b = absurd (b refl)
 denied (suc (suc m)) a b = refl
 
 pub evaluation-told : (ns : List ℕ) (n : ℕ) (p q : Policy) (e : Evaluation) → p ≡ q → EvaluatedAs (evaluated ns n p) e
-    → evaluationAs (numberIn (saidAnswer (e .answer))) (placeIn (saidAnswer (e .answer))) (e .verdicts) (e .set) (e .count) (compliant e)
-    ≡ evaluationTold (evaluated ns n q)
+    → evaluationAs (numberIn (saidAnswer (e .answer))) (placeIn (saidAnswer (e .answer))) (besideIn (saidAnswer (e .answer)))
+    (e .verdicts) (e .set) (e .count) (compliant e) ≡ evaluationTold (evaluated ns n q)
 evaluation-told ns n p q e i h = evaluation (evaluated ns n q) e (subst (λ (z : Policy). EvaluatedAs (evaluated ns n z) e) i h)
 
 pub added : (m : ℕ) → (m ≡ 0 → ⊥) → Added ≡ changeAt m

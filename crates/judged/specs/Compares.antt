@@ -6,7 +6,7 @@ use mathlib.Core.List.{List}
 use lib.Dec.{ltb}
 use lib.ListN.{length, getD}
 use Rattle.refusal.specs.Pick.{pick}
-use Rattle.refusal.specs.Said.{Said, accepted, refused, follow}
+use Rattle.refusal.specs.Said.{Said, accepted, refused, numberAt, follow}
 use Rattle.table.specs.Table.{laid, cells, rangeOf}
 use Rattle.refusal.specs.declared.Slug.{Slug}
 use Rattle.differences.specs.declared.Change.{Change}
@@ -18,7 +18,7 @@ use Rattle.judged.specs.declared.compares.NameTold.{NameTold}
 abbrev pub compareTold : Said Verdict → CompareTold
 compareTold (accepted v) =
     record { number = 0; place = 0; exports = v .exports; capabilities = v .capabilities; compatible = v .compatible }
-compareTold (refused n p) = record { number = n; place = p; exports = 0; capabilities = 0; compatible = false }
+compareTold (refused n p) = record { number = n; place = numberAt p; exports = 0; capabilities = 0; compatible = false }
 
 -- the answer, and what tables 8 and 9 hold at the end
 pub record CompareTells (x : Said Lists) (before8 after8 before9 after9 : List ℕ) (r : CompareTold) : Type 0 where

@@ -1,7 +1,7 @@
 -- wit.rs with lent tables: the answer in a struct of numbers, all zero but number and place on a refusal. Assumes nothing.
 use mathlib.Core.Bool.{false}
 use mathlib.Core.Path.{_≡_}
-use Rattle.refusal.specs.Said.{Said, accepted, refused, follow}
+use Rattle.refusal.specs.Said.{Said, accepted, refused, numberAt, follow}
 use Rattle.wit.specs.declared.Manifest.{Manifest}
 use Rattle.wit.specs.Manifest.{ManifestSizes, State, ManifestLent, ManifestHolds, manifestHeld, manifestOf}
 use Rattle.judged.specs.declared.manifests.ManifestTold.{ManifestTold}
@@ -17,7 +17,8 @@ manifestAnswer (accepted m) =
       worlds = m .worlds;
       references = m .references;
     }
-manifestAnswer (refused n p) = record { number = n; place = p; packaged = false; start = 0; size = 0; worlds = 0; references = 0 }
+manifestAnswer (refused n p) =
+    record { number = n; place = numberAt p; packaged = false; start = 0; size = 0; worlds = 0; references = 0 }
 
 -- the answer, and what both tables hold at the end
 pub record ManifestTells (z : ManifestSizes) (x : Said State) (l : ManifestLent) (r : ManifestTold) : Type 0 where

@@ -1,10 +1,11 @@
--- wasm.rs with lent tables: the answers in structs of numbers, all zero but number and place on a refusal. Assumes nothing.
+-- wasm.rs with lent tables: the answers in structs of numbers, all zero but number, place and the offset beside it on a refusal. Assumes
+-- nothing.
 use Prim.Native.Nat.{ℕ}
 use mathlib.Core.Bool.{false}
 use mathlib.Core.Path.{_≡_}
 use mathlib.Core.List.{List, map}
 use lib.ListN.{length}
-use Rattle.refusal.specs.Said.{Said, accepted, refused, follow}
+use Rattle.refusal.specs.Said.{Said, accepted, refused, numberAt, besideAt, follow}
 use Rattle.table.specs.Table.{laid}
 use Rattle.table.specs.Listing.{rowsIn}
 use Rattle.wasm.specs.declared.Module.{Module}
@@ -17,6 +18,7 @@ moduleAnswer (accepted m) =
     record {
       number = 0;
       place = 0;
+      offset = 0;
       version = m .version;
       length = m .length;
       named = m .named;
@@ -30,7 +32,8 @@ moduleAnswer (accepted m) =
 moduleAnswer (refused n p) =
     record {
       number = n;
-      place = p;
+      place = numberAt p;
+      offset = besideAt p;
       version = 0;
       length = 0;
       named = false;
@@ -44,7 +47,7 @@ moduleAnswer (refused n p) =
 
 abbrev pub countTold : Said ℕ → CountTold
 countTold (accepted n) = record { number = 0; place = 0; count = n }
-countTold (refused n p) = record { number = n; place = p; count = 0 }
+countTold (refused n p) = record { number = n; place = numberAt p; count = 0 }
 
 -- of a file of n bytes: the answer, and what every table holds at the end
 pub record ModuleTells (n : ℕ) (z : Sizes) (x : Said Parsed) (l : Lent) (r : ModuleTold) : Type 0 where

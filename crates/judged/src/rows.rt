@@ -14,6 +14,7 @@ ghost use Rattle.judged.specs.Rows.{moduleAnswer, countTold, ModuleTells
 pub struct ModuleTold {
     pub number: u32,
     pub place: usize,
+    pub offset: usize,
     pub version: u32,
     pub length: usize,
     pub named: bool,
@@ -39,6 +40,7 @@ fn module_of(r: ModuleRead) -> ModuleTold
         ModuleRead::Module(m) => ModuleTold {
             number: 0,
             place: 0,
+            offset: 0,
             version: m.version,
             length: m.length,
             named: m.named,
@@ -52,6 +54,7 @@ fn module_of(r: ModuleRead) -> ModuleTold
         ModuleRead::Refused(why) => ModuleTold {
             number: refusal::number(why),
             place: refusal::place(why),
+            offset: refusal::beside(why),
             version: 0,
             length: 0,
             named: false,

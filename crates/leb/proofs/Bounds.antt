@@ -10,7 +10,7 @@ use lib.Dec.{ltb, leb, eqb}
 use borrow.Author.Tests.{ltb-true, leb-true, eq-eqb, ne-eqb}
 use Rattle.text.specs.Utf8.{upTo}
 use Rattle.refusal.specs.Pick.{pick}
-use Rattle.refusal.specs.Said.{Said, accepted, refused, Got, got}
+use Rattle.refusal.specs.Said.{Said, accepted, refused, Got, got, offset, kindAt}
 use Rattle.refusal.specs.declared.Part.{Part}
 use Rattle.refusal.proofs.Following.{never, read-on}
 use Rattle.leb.specs.Grammar.{U, lastU, moreU}
@@ -43,7 +43,7 @@ u32-in s at v d e =
 pub byte-in : (s : List ℕ) (at v d : ℕ) → byteAt s at ≡ accepted (got v d) → Ahead s at d
 unfolding byteAt
 byte-in s at v d e = go (ltb at (length s)) refl e where
-  go : (b : Bool) → ltb at (length s) ≡ b → pick b (accepted (got (getD s at 0) (at + 1))) (refused 1 at) ≡ accepted (got v d)
+  go : (b : Bool) → ltb at (length s) ≡ b → pick b (accepted (got (getD s at 0) (at + 1))) (refused 1 (offset at)) ≡ accepted (got v d)
       → Ahead s at d
   go true t f = let a : at + 1 ≡ d = cc in record { past = omega arith; in-s = omega (arith, ltb-true at (length s) t) }
   go false t f = absurd (never f)
@@ -58,7 +58,8 @@ pub record Taken (s : List ℕ) (at n : ℕ) (p : Part) (d : ℕ) : Type 0 where
 pub take-in : (s : List ℕ) (at n : ℕ) (p : Part) (d : ℕ) → takeAt s at n ≡ accepted (got p d) → Taken s at n p d
 unfolding takeAt
 take-in s at n p d e = one (ltb (length s) at) e where
-  three : (t : Bool) → leb (at + n) (length s) ≡ t → pick t (accepted (got (part at n) (at + n))) (refused 1 at) ≡ accepted (got p d)
+  three : (t : Bool) → leb (at + n) (length s) ≡ t
+      → pick t (accepted (got (part at n) (at + n))) (refused 1 (offset at)) ≡ accepted (got p d)
       → Taken s at n p d
   three true t f =
       let c : part at n ≡ p = cc in
@@ -71,15 +72,16 @@ take-in s at n p d e = one (ltb (length s) at) e where
   three false t f = absurd (never f)
 
   two : (t : Bool)
-      → pick t (refused 5 at) (pick (leb (at + n) (length s)) (accepted (got (part at n) (at + n))) (refused 1 at)) ≡ accepted (got p d)
+      → pick t (refused 5 (kindAt at at)) (pick (leb (at + n) (length s)) (accepted (got (part at n) (at + n))) (refused 1 (offset at)))
+      ≡ accepted (got p d)
       → Taken s at n p d
   two true f = absurd (never f)
   two false f = three (leb (at + n) (length s)) refl f
 
   one : (t : Bool)
-      → pick t (refused 1 at)
-      (pick (ltb (18446744073709551615 - at) n) (refused 5 at)
-      (pick (leb (at + n) (length s)) (accepted (got (part at n) (at + n))) (refused 1 at)))
+      → pick t (refused 1 (offset at))
+      (pick (ltb (18446744073709551615 - at) n) (refused 5 (kindAt at at))
+      (pick (leb (at + n) (length s)) (accepted (got (part at n) (at + n))) (refused 1 (offset at))))
       ≡ accepted (got p d)
       → Taken s at n p d
   one true f = absurd (never f)
@@ -106,7 +108,7 @@ counted-in s at p d e =
 checked-is : (s : List ℕ) (p q : Part) (d e : ℕ) → checked s p d ≡ accepted (got q e) → (p ≡ q) × (d ≡ e)
 unfolding checked
 checked-is s p q d e h = go (eqb (upTo (partBytes s p)) (p .len)) h where
-  go : (b : Bool) → pick b (accepted (got p d)) (refused 4 (p .from)) ≡ accepted (got q e) → (p ≡ q) × (d ≡ e)
+  go : (b : Bool) → pick b (accepted (got p d)) (refused 4 (offset (p .from))) ≡ accepted (got q e) → (p ≡ q) × (d ≡ e)
   go true f = (cc, cc)
   go false f = absurd (never f)
 
@@ -119,7 +121,7 @@ module _ (s : List ℕ) (p : Part) (next : ℕ) {r : ℕ} (e : r ≡ upTo (take 
   unfolding checked
   name-good h = simp (eq-eqb (upTo (partBytes s p)) (p .len) (sym up-to ∙ h))
 
-  pub name-bad : (r ≡ p .len → ⊥) → refused 4 (p .from) ≡ checked s p next
+  pub name-bad : (r ≡ p .len → ⊥) → refused 4 (offset (p .from)) ≡ checked s p next
   unfolding checked
   name-bad h = simp (ne-eqb (upTo (partBytes s p)) (p .len) (λ q. h (up-to ∙ q)))
 

@@ -13,7 +13,7 @@ use lib.ListN.{getD, drop}
 use lib.IntN.{ℤ, pos, _+ℤ_, _-ℤ_, _*ℤ_}
 use Rattle.bits.proofs.Integers.{diff-eq}
 use Rattle.refusal.specs.Pick.{pick}
-use Rattle.refusal.specs.Said.{Said, accepted, refused, Got, got, onward}
+use Rattle.refusal.specs.Said.{Said, accepted, refused, Got, got, onward, offset}
 use Rattle.refusal.proofs.Following.{never, read-on}
 use Rattle.leb.specs.Grammar.{U, lastU, moreU, S, plusS, minusS, moreS}
 use Rattle.leb.specs.Groups.{Out, value, ends, overlong, oversize, grown, spent, uN, sN, twos}
@@ -103,7 +103,7 @@ u64-only s at v d e = let t = told-value at (uN 64 (drop at s)) e in (t .0, only
 pub narrow-only : (w e v d : ℕ) → narrowed w e ≡ accepted (got v d) → (w ≡ v) × (e ≡ d) × (w ≤ 4294967295)
 unfolding narrowed
 narrow-only w e v d h = go (leb w 4294967295) refl h where
-  go : (b : Bool) → leb w 4294967295 ≡ b → pick b (accepted (got w e)) (refused 19 e) ≡ accepted (got v d) → (w ≡ v) × (e ≡ d) ×
+  go : (b : Bool) → leb w 4294967295 ≡ b → pick b (accepted (got w e)) (refused 19 (offset e)) ≡ accepted (got v d) → (w ≡ v) × (e ≡ d) ×
       (w ≤ 4294967295)
   go true t f = (cc, cc, leb-true w 4294967295 t)
   go false t f = absurd (never f)

@@ -19,7 +19,7 @@ use mir.Syntax.{w64}
 use mir.Val.{toZ}
 use mir.ValLaws.{toZ-pos}
 use Rattle.refusal.specs.Pick.{pick}
-use Rattle.refusal.specs.Said.{accepted, refused, got}
+use Rattle.refusal.specs.Said.{accepted, refused, got, offset}
 use Rattle.leb.specs.Groups.{value, grown, spent, sN, twos}
 use Rattle.leb.specs.Reads.{toldAt, slebAt}
 use Rattle.bits.proofs.Masks.{or-place, or-fits, or-ones, place-lt, top-clear, top-set, low-small, low-large, low-lt}
@@ -136,14 +136,14 @@ begins s begin = record {
 
 module _ (s : List ℕ) (begin i shift acc : ℕ) (r : SReading s begin i shift acc) where
   -- the bytes end
-  pub at-end : length s ≤ i → refused 1 i ≡ slebAt s begin
+  pub at-end : length s ≤ i → refused 1 (offset i) ≡ slebAt s begin
   unfolding slebAt toldAt grown sN
   at-end h =
       let e : begin + (i - begin + 0) ≡ i = omega (arith, r .from) in
       rw (r .sofar, drop-of-length-le s h, left-none sN (λ N. refl) shift, e)
 
   -- no bits are left, and there is a byte more
-  pub too-long : 64 ≤ shift → i < length s → refused 17 begin ≡ slebAt s begin
+  pub too-long : 64 ≤ shift → i < length s → refused 17 (offset begin) ≡ slebAt s begin
   unfolding slebAt toldAt grown
   too-long h l = rw (r .sofar, drop-cons s i 0 l, left-over sN shift (getD s i 0) (drop (suc i) s) h)
 

@@ -12,7 +12,7 @@ use lib.Bits.{bitAnd, bitOr}
 use lib.Pow.{pow-mono}
 use lib.ListN.{length, getD, drop, drop-of-length-le}
 use lib.Seq.{drop-cons}
-use Rattle.refusal.specs.Said.{accepted, refused, got}
+use Rattle.refusal.specs.Said.{accepted, refused, got, offset}
 use Rattle.leb.specs.Groups.{oversize, grown, uN}
 use Rattle.leb.specs.Reads.{toldAt, ulebAt}
 use Rattle.bits.proofs.Masks.{or-fits, place-lt, top-clear, top-set, low-small, low-large, low-lt}
@@ -52,20 +52,20 @@ begins s begin = record {
 
 module _ (s : List ℕ) (begin i shift acc : ℕ) (r : Reading s begin i shift acc) where
   -- the bytes end
-  pub at-end : length s ≤ i → refused 1 i ≡ ulebAt s begin
+  pub at-end : length s ≤ i → refused 1 (offset i) ≡ ulebAt s begin
   unfolding ulebAt toldAt grown uN
   at-end h =
       let e : begin + (i - begin + 0) ≡ i = omega (arith, r .from) in
       rw (r .sofar, drop-of-length-le s h, left-none uN (λ N. refl) shift, e)
 
   -- no bits are left, and there is a byte more
-  pub too-long : 64 ≤ shift → i < length s → refused 17 begin ≡ ulebAt s begin
+  pub too-long : 64 ≤ shift → i < length s → refused 17 (offset begin) ≡ ulebAt s begin
   unfolding ulebAt toldAt grown
   too-long h l = rw (r .sofar, drop-cons s i 0 l, left-over uN shift (getD s i 0) (drop (suc i) s) h)
 
   module _ (h : shift < 64) (l : i < length s) (byte : getD s i 0 < 256) where
     -- the tenth group is too big
-    pub too-big : shift ≡ 63 → 1 < bitAnd (getD s i 0) 127 → refused 18 begin ≡ ulebAt s begin
+    pub too-big : shift ≡ 63 → 1 < bitAnd (getD s i 0) 127 → refused 18 (offset begin) ≡ ulebAt s begin
     unfolding ulebAt toldAt grown
     too-big e g =
         rw (r .sofar, drop-cons s i 0 l, e, big (getD s i 0) (drop (suc i) s) byte g)

@@ -158,7 +158,7 @@ impl Cursor {
             return PartRead::Refused(Refusal::UnexpectedEof(at), self);
         }
         if usize::MAX - at < n {
-            return PartRead::Refused(Refusal::MalformedSection(at), self);
+            return PartRead::Refused(Refusal::MalformedSection(at, at), self);
         }
         if at + n <= s.len() {
             PartRead::Read(Part { from: at, len: n }, Cursor { at: at + n })

@@ -9,7 +9,7 @@ use lib.ListN.{length, take, drop, length-append}
 use lib.Seq.{length-take-le, drop-at}
 use borrow.Author.Tests.{ltb-false, le-ltb}
 use Rattle.refusal.specs.Pick.{pick}
-use Rattle.refusal.specs.Said.{Said, accepted, refused, numberOf, placeOf, refusedBy, follow, saidWritten}
+use Rattle.refusal.specs.Said.{Said, accepted, refused, numberOf, whereOf, refusedBy, follow, saidWritten, spot, Place}
 use Rattle.refusal.specs.declared.Refusal.{Refusal}
 use Rattle.refusal.specs.declared.Written.{Written}
 use Rattle.refusal.proofs.Following.{never}
@@ -52,13 +52,13 @@ module _ (v w : List ℕ) (room : ℕ) {first : ℕ} (is : first ≡ length v) w
   long : length (v ++ w) ≡ first + length w
   long = length-append v w ∙ ap (λ (k : ℕ). k + length w) (sym is)
 
-  none-full : (t : Said (Unit {0})) {n p : ℕ} → follow t (λ u. roomFrom first w room) ≡ refused n p
+  none-full : (t : Said (Unit {0})) {n : ℕ} {p : Place} → follow t (λ u. roomFrom first w room) ≡ refused n p
       → follow t (λ u. roomFor (v ++ w) room) ≡ refused n p
   unfolding follow roomFrom roomFor
   none-full (accepted u) {n} {p} e = rw long (by (ltb room (first + length w)) e)
     where
-      by : (t : Bool) → pick t (refused 16 (first + length w)) (accepted w) ≡ refused n p
-          → pick t (refused 16 (first + length w)) (accepted (v ++ w)) ≡ refused n p
+      by : (t : Bool) → pick t (refused 16 (spot (first + length w))) (accepted w) ≡ refused n p
+          → pick t (refused 16 (spot (first + length w))) (accepted (v ++ w)) ≡ refused n p
       by true q = cc
       by false q = absurd (never (sym q))
   none-full (refused n p) e = cc
@@ -72,13 +72,13 @@ module _ (v w : List ℕ) (room : ℕ) {first : ℕ} (is : first ≡ length v) w
   unfolding follow roomFrom roomFor
   both-fit (accepted u) {x} e = by (ltb room (first + length w)) refl e
     where
-      by : (t : Bool) → ltb room (first + length w) ≡ t → pick t (refused 16 (first + length w)) (accepted w) ≡ accepted x
+      by : (t : Bool) → ltb room (first + length w) ≡ t → pick t (refused 16 (spot (first + length w))) (accepted w) ≡ accepted x
           → Fits (accepted u) x
       by true h q = absurd (never q)
       by false h q = record { same = cc; all = rw (long, h); enough = ltb-false room (first + length w) h }
   both-fit (refused n p) e = absurd (never e)
 
-told-none : (first : ℕ) (o : Said (List ℕ)) {n p : ℕ} → writtenCountFrom first o ≡ refused n p → o ≡ refused n p
+told-none : (first : ℕ) (o : Said (List ℕ)) {n : ℕ} {p : Place} → writtenCountFrom first o ≡ refused n p → o ≡ refused n p
 told-none first (accepted w) e = absurd (never (sym e))
 told-none first (refused n p) e = cc
 
@@ -94,7 +94,7 @@ told-some first (refused n p) e = absurd (never e)
 module _ (b c : Given) (d : Diffs) {first : ℕ} (rows : first ≡ length (takenBytes d)) {before after : List ℕ} {s : Written}
     (f : ReasonsFrom first b c d before s after) where
   pub explains-none : (fine : Bool) {why : Refusal} {r : ComparisonTold} → s ≡ Written.Refused why
-      → r ≡ noComparison (numberOf why) (placeOf why)
+      → r ≡ noComparison (numberOf why) (whereOf why)
       → Explains b c d fine before r after
   unfolding reasonedFrom explainedBytes
   explains-none fine {why} e q =

@@ -9,7 +9,7 @@ use lib.Dec.{leb, ltb}
 use lib.ListN.{length, drop, length-append}
 use borrow.Author.Tests.{le-leb, lt-ltb, le-ltb}
 use Rattle.refusal.specs.Pick.{pick}
-use Rattle.refusal.specs.Said.{Said, accepted, refused, follow, saidWritten}
+use Rattle.refusal.specs.Said.{Said, accepted, refused, follow, saidWritten, spot, Place}
 use Rattle.refusal.specs.declared.Refusal.the-variants.{NoRoom}
 use Rattle.refusal.specs.declared.Written.{Written}
 use Rattle.table.specs.Table.{cells, put}
@@ -64,7 +64,7 @@ module _ (d : List ℕ) where
   no-room l {n} e h =
       let full : ltb (length d) (length (cellBytes l)) ≡ true = lt-ltb (length d) (length (cellBytes l)) (omega (arith, length-bytes l)) in
       let needed : n ≡ length (cellBytes l) = e ∙ sym (length-bytes l) in
-      record { answer = rw full (ap (refused 16) needed); output = rw full }
+      record { answer = rw full (ap (λ (i : ℕ). refused 16 (spot i)) needed); output = rw full }
 
 -- four lists, one after another
 module _ (d a b c e : List ℕ) where
@@ -103,15 +103,16 @@ lays told t e = record { answer-is = e ∙ ap told (t .answer); output-is = t .o
 
 -- what is delivered: a refusal, or a value by its bytes
 module _ {A R : Type 0} (bytes : A → List ℕ) (told : Said A → R) {x : Said A} {d : List ℕ} {r : R} where
-  pub delivers-none : {n p : ℕ} → x ≡ refused n p → r ≡ told (refused n p) → Delivers bytes told x d r d
+  pub delivers-none : {n : ℕ} {p : Place} → x ≡ refused n p → r ≡ told (refused n p) → Delivers bytes told x d r d
   unfolding housed follow
   delivers-none e q = record { answer-is = rw (e, q); output-is = rw e }
 
   pub delivers : (by : Said ℕ → R) (v : A) {y : List ℕ} → x ≡ accepted v → by (accepted (length (bytes v))) ≡ told (accepted v)
-      → ((n p : ℕ) → by (refused n p) ≡ told (refused n p)) → Lays by (roomFor (bytes v) (length d)) d r y → Delivers bytes told x d r y
+      → ((n : ℕ) (p : Place) → by (refused n p) ≡ told (refused n p)) → Lays by (roomFor (bytes v) (length d)) d r y
+      → Delivers bytes told x d r y
   unfolding housed follow roomFor
   delivers by v {y} e good bad l = go (ltb (length d) (length (bytes v))) refl
     where
       go : (t : Bool) → ltb (length d) (length (bytes v)) ≡ t → Delivers bytes told x d r y
-      go true q = record { answer-is = l .answer-is ∙ rw (e, q) (bad 16 (length (bytes v))); output-is = l .output-is ∙ rw (e, q) }
+      go true q = record { answer-is = l .answer-is ∙ rw (e, q) (bad 16 (spot (length (bytes v)))); output-is = l .output-is ∙ rw (e, q) }
       go false q = record { answer-is = l .answer-is ∙ rw (e, q) good; output-is = l .output-is ∙ rw (e, q) }

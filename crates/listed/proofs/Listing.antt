@@ -9,7 +9,7 @@ use lib.ListN.{length}
 use lib.Dec.{leb}
 use borrow.Author.Tests.{le-leb}
 use denote.Enum.Declared.{tagOf, declared}
-use Rattle.refusal.specs.Said.{Said, accepted, refusedBy, saidAnswer}
+use Rattle.refusal.specs.Said.{Said, accepted, refusedBy, saidAnswer, spot}
 use Rattle.refusal.specs.declared.Answer.{Answer}
 use Rattle.refusal.specs.declared.Part.{Part}
 use Rattle.refusal.specs.declared.Refusal.{Refusal}
@@ -102,7 +102,7 @@ module _ (xs : List Part) (d : List ℕ) {k n : ℕ} (counted : k ≡ length xs)
   cells-long : length (cells tokenCells xs) * 8 ≡ n
   cells-long = omega (arith, length-cells tokenCells 2 (λ x. refl) xs)
 
-  pub tokens-full : {r : TokensTold} → length d < n → r ≡ noTokens 16 n
+  pub tokens-full : {r : TokensTold} → length d < n → r ≡ noTokens 16 (spot n)
       → Lays (tokensBy (length xs)) (roomFor (tokensBytes xs) (length d)) d r d
   unfolding tokensBytes
   tokens-full h e = lays (tokensBy (length xs)) (no-room d (cells tokenCells xs) (sym cells-long) h) e

@@ -5,7 +5,7 @@ use mathlib.Core.Bool.{Bool}
 use mathlib.Core.List.{List, _++_}
 use lib.ListN.{length, take}
 use borrow.Author.Tests.{lt-ltb, le-ltb}
-use Rattle.refusal.specs.Said.{Said, accepted, refused, refusedBy, follow}
+use Rattle.refusal.specs.Said.{Said, accepted, refused, refusedBy, follow, spot, Place}
 use Rattle.refusal.specs.declared.Refusal.{Refusal}
 use Rattle.refusal.proofs.Following.{followed, follow-stops, follow-goes}
 use Rattle.table.specs.Table.{laid, cells, capacityOf}
@@ -112,7 +112,7 @@ same-bytes l =
     ∙ ap (λ (k : List ℕ). cellBytes (cells exportDiffCells (l .exports) ++ k))
     (rows-taken needDiffCells (width 9) need-wide (fullCells 9) (l .needs) refl refl)
 
-pub explained-none : (b c : Given) {n p : ℕ} → compared b c (limit 8) (limit 9) ≡ refused n p → explained b c ≡ refused n p
+pub explained-none : (b c : Given) {n : ℕ} {p : Place} → compared b c (limit 8) (limit 9) ≡ refused n p → explained b c ≡ refused n p
 unfolding explained
 explained-none b c e = sym (follow-stops _ e)
 
@@ -185,18 +185,19 @@ module _ {d y : List ℕ} {r : ComparisonTold} where
   unfolding comparison
   builds-read b c h k q = rw (le-ltb fileLimit (length b) h, le-ltb fileLimit (length c) k) q
 
-pub candidate-stops : (b : Given) (file : List ℕ) {n p : ℕ} → moduleAt file limits ≡ refused n p → against b file ≡ refused n p
+pub candidate-stops : (b : Given) (file : List ℕ) {n : ℕ} {p : Place} → moduleAt file limits ≡ refused n p → against b file ≡ refused n p
 unfolding against
 candidate-stops b file e = sym (follow-stops _ e)
 
-pub baseline-stops : (file candidate : List ℕ) {n p : ℕ} → moduleAt file limits ≡ refused n p → builds file candidate ≡ refused n p
+pub baseline-stops : (file candidate : List ℕ) {n : ℕ} {p : Place} → moduleAt file limits ≡ refused n p
+    → builds file candidate ≡ refused n p
 unfolding builds
 baseline-stops file candidate e = sym (follow-stops _ e)
 
-pub baseline-long : (b c : List ℕ) → fileLimit < length b → comparison b c ≡ refused 14 0
+pub baseline-long : (b c : List ℕ) → fileLimit < length b → comparison b c ≡ refused 14 (spot 0)
 unfolding comparison
 baseline-long b c h = rw (lt-ltb fileLimit (length b) h)
 
-pub candidate-long : (b c : List ℕ) → length b ≤ fileLimit → fileLimit < length c → comparison b c ≡ refused 14 0
+pub candidate-long : (b c : List ℕ) → length b ≤ fileLimit → fileLimit < length c → comparison b c ≡ refused 14 (spot 0)
 unfolding comparison
 candidate-long b c h k = rw (le-ltb fileLimit (length b) h, lt-ltb fileLimit (length c) k)

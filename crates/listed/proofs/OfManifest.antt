@@ -5,7 +5,7 @@ use mathlib.Core.Path.{_≡_, refl, sym, ap, _∙_, subst}
 use mathlib.Core.Bool.{true, false}
 use mathlib.Core.List.{List}
 use lib.ListN.{length, take, length-take}
-use Rattle.refusal.specs.Said.{Said, accepted, refused, refusedBy, follow, saidCount}
+use Rattle.refusal.specs.Said.{Said, accepted, refused, refusedBy, follow, saidCount, Place}
 use Rattle.refusal.specs.declared.Count.{Count}
 use Rattle.refusal.specs.declared.Part.{Part}
 use Rattle.refusal.specs.declared.Refusal.{Refusal}
@@ -77,11 +77,11 @@ module _ (s : List ℕ) (m : Manifest) (table5 table6 worlds references : List �
   abbrev two : Said (List ℕ)
   two = pathsOf true s table5 (m .worlds) table6 (m .references) (limit 15)
 
-  pub imports-stop : {n p : ℕ} → one ≡ refused n p → pathsListed s m table5 table6 worlds references ≡ refused n p
+  pub imports-stop : {n : ℕ} {p : Place} → one ≡ refused n p → pathsListed s m table5 table6 worlds references ≡ refused n p
   unfolding pathsListed
   imports-stop e = sym (follow-stops _ e)
 
-  pub exports-stop : {i : List ℕ} {n p : ℕ} → one ≡ accepted i → two ≡ refused n p
+  pub exports-stop : {i : List ℕ} {n : ℕ} {p : Place} → one ≡ accepted i → two ≡ refused n p
       → pathsListed s m table5 table6 worlds references ≡ refused n p
   unfolding pathsListed
   exports-stop e f = sym (follow-goes _ e (follow-stops _ f))

@@ -4,7 +4,7 @@ use native.Mathlib.Omega.{arith}
 use mathlib.Core.Path.{_≡_, refl, sym, ap, _∙_, subst}
 use mathlib.Core.List.{List}
 use lib.ListN.{length}
-use Rattle.refusal.specs.Said.{Said, accepted, refused, follow}
+use Rattle.refusal.specs.Said.{Said, accepted, refused, follow, Place}
 use Rattle.refusal.proofs.Following.{follow-stops}
 use Rattle.table.proofs.Larger.{Sure, same, spare, Full}
 use Rattle.wasm.specs.Module.{Sizes, Parsed, moduleAt, moduleOf, Lent}
@@ -47,7 +47,7 @@ module _ {file : List ℕ} {z : Sizes} {l : Lent} {m : Module} (q : Found file z
       (q .first ∙ sym (limits-decide file z (q .what) (q .first))) (module-delivered k)
 
 -- what is refused with any tables, but for want of room, is refused with those at the limits
-pub refusal-settled : (file : List ℕ) (z : Sizes) {n p : ℕ} {d : List ℕ} {r : ModuleTold} → moduleAt file z ≡ refused n p
+pub refusal-settled : (file : List ℕ) (z : Sizes) {n : ℕ} {p : Place} {d : List ℕ} {r : ModuleTold} → moduleAt file z ≡ refused n p
     → (n ≡ 13 → ⊥) → r ≡ noModule n p → Delivers moduleBytes (moduleTold (length file)) (moduleAt file limits) d r d
 refusal-settled file z {n} {p} e other k =
     delivers-none moduleBytes (moduleTold (length file)) (refused-same file z limits n p (limits-largest z) other e) k

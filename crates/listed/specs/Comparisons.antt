@@ -7,7 +7,7 @@ use lib.Dec.{ltb}
 use lib.ListN.{length, take}
 use Rattle.refusal.specs.Pick.{pick}
 use Rattle.refusal.specs.Sizes.{fileLimit}
-use Rattle.refusal.specs.Said.{Said, accepted, refused, follow}
+use Rattle.refusal.specs.Said.{Said, accepted, refused, follow, spot, Place, numberAt, besideAt}
 use Rattle.table.specs.Table.{laid, cells}
 use Rattle.table.specs.Shape.{width, limit, fullCells}
 use Rattle.output.specs.Cells.{cellBytes}
@@ -20,12 +20,13 @@ use Rattle.reasons.specs.Reasons.{Diffs, diffs, reasonsTested, reasonsOf}
 use Rattle.listed.specs.Delivered.{Lays}
 use Rattle.listed.specs.declared.comparison.ComparisonTold.{ComparisonTold}
 
--- a refusal: all but number and place is zero
-abbrev pub noComparison : ℕ → ℕ → ComparisonTold
+-- a refusal: all but number, place and the offset beside it is zero
+abbrev pub noComparison : ℕ → Place → ComparisonTold
 noComparison n p =
     record {
       number = n;
-      place = p;
+      place = numberAt p;
+      offset = besideAt p;
       exports = 0;
       capabilities = 0;
       compatible = false;
@@ -42,6 +43,7 @@ comparisonBy v k (accepted n) =
     record {
       number = 0;
       place = 0;
+      offset = 0;
       exports = v .exports;
       capabilities = v .capabilities;
       compatible = v .compatible;
@@ -91,8 +93,8 @@ builds baseline candidate = follow (moduleAt baseline limits) (λ m. against (bu
 -- 14 of either file, the baseline's refusals, the candidate's
 unfoldable pub comparison : List ℕ → List ℕ → Said Comparison
 comparison baseline candidate =
-    pick (ltb fileLimit (length baseline)) (refused 14 0)
-    (pick (ltb fileLimit (length candidate)) (refused 14 0) (builds baseline candidate))
+    pick (ltb fileLimit (length baseline)) (refused 14 (spot 0))
+    (pick (ltb fileLimit (length candidate)) (refused 14 (spot 0)) (builds baseline candidate))
 
 -- ---- for the code
 -- the counts are of rows that lie in the tables, which are at the limits

@@ -3,7 +3,7 @@ use Prim.Native.Nat.{ℕ, _*_, _≤_}
 use mathlib.Core.Bool.{true, false}
 use mathlib.Core.List.{List, _++_}
 use lib.ListN.{length, take}
-use Rattle.refusal.specs.Said.{Said, accepted, refused, follow}
+use Rattle.refusal.specs.Said.{Said, accepted, refused, follow, Place, numberAt}
 use Rattle.table.specs.Table.{laid, cells}
 use Rattle.table.specs.Shape.{width, limit, fullCells}
 use Rattle.output.specs.Cells.{cellBytes}
@@ -27,11 +27,11 @@ abbrev pub manifestBytes : ManifestListing → List ℕ
 manifestBytes l = laidBytes (l .worlds) (l .references) (l .imported) (l .exported)
 
 -- a refusal: all but number and place is zero
-abbrev pub noManifest : ℕ → ℕ → ManifestTold
+abbrev pub noManifest : ℕ → Place → ManifestTold
 noManifest n p =
     record {
       number = n;
-      place = p;
+      place = numberAt p;
       packaged = false;
       start = 0;
       size = 0;

@@ -3,7 +3,7 @@ use Prim.Native.Nat.{ℕ, _*_, _≤_}
 use mathlib.Core.Bool.{false}
 use mathlib.Core.List.{List, _++_}
 use lib.ListN.{length, take}
-use Rattle.refusal.specs.Said.{Said, accepted, refused}
+use Rattle.refusal.specs.Said.{Said, accepted, refused, Place, numberAt, besideAt}
 use Rattle.table.specs.Table.{cells}
 use Rattle.table.specs.Shape.{width, fullCells}
 use Rattle.output.specs.Cells.{cellBytes}
@@ -12,12 +12,13 @@ use Rattle.wasm.specs.Module.{Parsed, moduleOf, sectionCells}
 use Rattle.wasm.specs.declared.Module.{Module}
 use Rattle.listed.specs.declared.modules.ModuleTold.{ModuleTold}
 
--- a refusal: all but number and place is zero
-abbrev pub noModule : ℕ → ℕ → ModuleTold
+-- a refusal: all but number, place and the offset beside it is zero
+abbrev pub noModule : ℕ → Place → ModuleTold
 noModule n p =
     record {
       number = n;
-      place = p;
+      place = numberAt p;
+      offset = besideAt p;
       version = 0;
       length = 0;
       named = false;
@@ -36,6 +37,7 @@ moduleBy m (accepted n) =
     record {
       number = 0;
       place = 0;
+      offset = 0;
       version = m .version;
       length = m .length;
       named = m .named;

@@ -4,7 +4,7 @@ use mathlib.Core.List.{List, [], _∷_}
 use lib.Dec.{ltb}
 use lib.ListN.{length}
 use Rattle.refusal.specs.Pick.{pick}
-use Rattle.refusal.specs.Said.{Said, accepted, refused, follow}
+use Rattle.refusal.specs.Said.{Said, accepted, refused, follow, Place, numberAt}
 use Rattle.refusal.specs.declared.Part.{Part}
 use Rattle.table.specs.Table.{cells}
 use Rattle.output.specs.Cells.{cellBytes}
@@ -14,8 +14,8 @@ use Rattle.policy_text.specs.Token.{allTokens}
 use Rattle.listed.specs.declared.tokens.TokensTold.{TokensTold}
 
 -- a refusal, or no token: all but number and place is zero
-abbrev pub noTokens : ℕ → ℕ → TokensTold
-noTokens n p = record { number = n; place = p; count = 0; bytes = 0 }
+abbrev pub noTokens : ℕ → Place → TokensTold
+noTokens n p = record { number = n; place = numberAt p; count = 0; bytes = 0 }
 
 -- k tokens, of which so many bytes were written
 abbrev pub tokensBy : ℕ → Said ℕ → TokensTold

@@ -16,7 +16,7 @@ use table::shape::NEED_DIFF_WIDTH;
 use table::shape::SECTION_CELLS;
 use wasm::ModuleRead;
 ghost use mathlib.Core.Path.{_≡_};
-ghost use Rattle.refusal.specs.Said.{numberOf, placeOf};
+ghost use Rattle.refusal.specs.Said.{numberOf, whereOf};
 ghost use Rattle.differences.specs.Compared.{given};
 ghost use Rattle.reasons.specs.Reasons.{diffs};
 ghost use Rattle.listed.specs.Delivered.{Delivers};
@@ -24,11 +24,13 @@ ghost use Rattle.listed.specs.Comparisons.{noComparison, comparisonBytes
 ghost use Rattle.listed.specs.Comparisons.{explained, against};
 ghost use Rattle.listed.specs.Comparisons.{builds, comparison};
 
-// How long the lists of differences are, whether nothing is broken, how many bytes the reasons are, and how many were written in all.
+// The offset beside 5, how long the lists of differences are, whether nothing is broken, how many bytes the reasons are, and how many were
+// written in all.
 #[repr(C)]
 pub struct ComparisonTold {
     pub number: u32,
     pub place: usize,
+    pub offset: usize,
     pub exports: usize,
     pub capabilities: usize,
     pub compatible: bool,
@@ -37,11 +39,12 @@ pub struct ComparisonTold {
 }
 
 fn no_comparison(why: Refusal) -> ComparisonTold
-    ensures { λ r. ⌜ r ≡ noComparison (numberOf why) (placeOf why) ⌝ }
+    ensures { λ r. ⌜ r ≡ noComparison (numberOf why) (whereOf why) ⌝ }
 {
     ComparisonTold {
         number: refusal::number(why),
         place: refusal::place(why),
+        offset: refusal::beside(why),
         exports: 0,
         capabilities: 0,
         compatible: false,
@@ -101,6 +104,7 @@ fn lay_comparison<'a, 'b, 'c, 'd, 'e, 'f, 'g, 'h>(
             ComparisonTold {
                 number: 0,
                 place: 0,
+                offset: 0,
                 exports,
                 capabilities,
                 compatible,

@@ -14,7 +14,7 @@ use wit::Manifest;
 use wit::ManifestRead;
 ghost use mathlib.Core.Path.{_≡_};
 ghost use lib.ListN.{length};
-ghost use Rattle.refusal.specs.Said.{numberOf, placeOf, saidWritten};
+ghost use Rattle.refusal.specs.Said.{numberOf, whereOf, saidWritten};
 ghost use Rattle.output.specs.Bytes.{roomFor};
 ghost use Rattle.listed.specs.Delivered.{Lays, Delivers};
 ghost use Rattle.listed.specs.Manifests.{noManifest, manifestBy, manifestBytes, manifestTold, worldsIn, referencesIn};
@@ -36,7 +36,7 @@ pub struct ManifestTold {
 }
 
 fn no_manifest(why: Refusal) -> ManifestTold
-    ensures { λ r. ⌜ r ≡ noManifest (numberOf why) (placeOf why) ⌝ }
+    ensures { λ r. ⌜ r ≡ noManifest (numberOf why) (whereOf why) ⌝ }
 {
     ManifestTold {
         number: refusal::number(why),

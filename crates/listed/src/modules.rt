@@ -18,7 +18,7 @@ use wasm::Module;
 use wasm::ModuleRead;
 ghost use mathlib.Core.Path.{_≡_};
 ghost use lib.ListN.{length};
-ghost use Rattle.refusal.specs.Said.{numberOf, placeOf, saidWritten};
+ghost use Rattle.refusal.specs.Said.{numberOf, whereOf, saidWritten};
 ghost use Rattle.wasm.specs.Module.{moduleAt, sizes};
 ghost use Rattle.conform.specs.Sound.{few, limits};
 ghost use Rattle.output.specs.Bytes.{roomFor};
@@ -32,11 +32,12 @@ const LEAST_IMPORTS: usize = 4 * IMPORT_WIDTH;
 
 const LEAST_EXPORTS: usize = 4 * EXPORT_WIDTH;
 
-// Version, file length, the module's name, how many rows the tables have, and how many bytes these are.
+// The offset beside 5, version, file length, the module's name, how many rows the tables have, and how many bytes these are.
 #[repr(C)]
 pub struct ModuleTold {
     pub number: u32,
     pub place: usize,
+    pub offset: usize,
     pub version: u32,
     pub length: usize,
     pub named: bool,
@@ -50,11 +51,12 @@ pub struct ModuleTold {
 }
 
 fn no_module(why: Refusal) -> ModuleTold
-    ensures { λ r. ⌜ r ≡ noModule (numberOf why) (placeOf why) ⌝ }
+    ensures { λ r. ⌜ r ≡ noModule (numberOf why) (whereOf why) ⌝ }
 {
     ModuleTold {
         number: refusal::number(why),
         place: refusal::place(why),
+        offset: refusal::beside(why),
         version: 0,
         length: 0,
         named: false,
@@ -75,6 +77,7 @@ fn module_of(m: Module, w: Written) -> ModuleTold
         Written::Bytes(bytes) => ModuleTold {
             number: 0,
             place: 0,
+            offset: 0,
             version: m.version,
             length: m.length,
             named: m.named,

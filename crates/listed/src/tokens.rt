@@ -13,7 +13,7 @@ use verdicts::effective;
 ghost use mathlib.Core.Path.{_≡_};
 ghost use Prim.Native.Nat.{_*_, _≤_};
 ghost use lib.ListN.{length};
-ghost use Rattle.refusal.specs.Said.{numberOf, placeOf};
+ghost use Rattle.refusal.specs.Said.{numberOf, whereOf};
 ghost use Rattle.refusal.specs.Sizes.{textLimit};
 ghost use Rattle.domains.specs.Domain as domain;
 ghost use Rattle.table.specs.Table.{put};
@@ -32,7 +32,7 @@ pub struct TokensTold {
 }
 
 fn no_tokens(why: Refusal) -> TokensTold
-    ensures { λ r. ⌜ r ≡ noTokens (numberOf why) (placeOf why) ⌝ }
+    ensures { λ r. ⌜ r ≡ noTokens (numberOf why) (whereOf why) ⌝ }
 {
     TokensTold {
         number: refusal::number(why),

@@ -10,7 +10,7 @@ use lib.Seq.{length-take-le, take-length, take-at, drop-at, drop-drop, paste}
 use lib.Dec.{ltb, leb}
 use borrow.Author.Tests.{ltb-false, leb-true, le-leb, lt-leb, lt-ltb, le-ltb}
 use Rattle.refusal.specs.Pick.{pick, both}
-use Rattle.refusal.specs.Said.{refused, accepted}
+use Rattle.refusal.specs.Said.{refused, accepted, spot}
 use Rattle.refusal.specs.declared.Written.{Written}
 use Rattle.refusal.specs.declared.Written.the-variants.{Bytes, Refused}
 use Rattle.refusal.specs.declared.Refusal.the-variants.{NoRoom}
@@ -133,7 +133,7 @@ unfolding roomFrom
 formed-long w d at f = ap length (f .output) ∙ by (ltb (length d) (at + length w)) refl
   where
     by : (t : Bool) → ltb (length d) (at + length w) ≡ t
-        → length (leftFrom at d (pick t (refused 16 (at + length w)) (accepted w))) ≡ length d
+        → length (leftFrom at d (pick t (refused 16 (spot (at + length w))) (accepted w))) ≡ length d
     by true q = refl
     by false q = laid-long d at w [] (ltb-false (length d) (at + length w) q)
 

@@ -6,7 +6,7 @@ use Prim.Native.Nat.{ℕ, _+_, _≤_, min}
 use lib.Dec.{leb, ltb}
 use lib.ListN.{length, take, drop}
 use Rattle.refusal.specs.Pick.{pick, both}
-use Rattle.refusal.specs.Said.{Said, accepted, refused, saidWritten}
+use Rattle.refusal.specs.Said.{Said, accepted, refused, saidWritten, spot}
 use Rattle.refusal.specs.declared.Written.{Written}
 
 -- the last number that a place can be
@@ -39,7 +39,7 @@ pub record Wrote (d : List ℕ) (at : ℕ) (go : Bool) (w : List ℕ) (r : ℕ) 
 
 -- ---- what is written into so much room: 16, with the bytes needed, or these bytes
 unfoldable pub roomFor : List ℕ → ℕ → Said (List ℕ)
-roomFor w room = pick (ltb room (length w)) (refused 16 (length w)) (accepted w)
+roomFor w room = pick (ltb room (length w)) (refused 16 (spot (length w))) (accepted w)
 
 -- the answer: how many bytes
 abbrev pub writtenCount : Said (List ℕ) → Said ℕ
@@ -62,7 +62,7 @@ Formed w d r x = WriterTells (roomFor w (length d)) d r x
 
 -- ---- the same after the first `at` bytes of the buffer, which stay: 16, with the bytes needed for both
 unfoldable pub roomFrom : ℕ → List ℕ → ℕ → Said (List ℕ)
-roomFrom at w room = pick (ltb room (at + length w)) (refused 16 (at + length w)) (accepted w)
+roomFrom at w room = pick (ltb room (at + length w)) (refused 16 (spot (at + length w))) (accepted w)
 
 -- the answer: the place after the bytes
 abbrev pub writtenCountFrom : ℕ → Said (List ℕ) → Said ℕ

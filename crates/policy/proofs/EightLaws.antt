@@ -9,7 +9,7 @@ use lib.Dec.{ltb, leb}
 use borrow.Author.Tests.{ltb-false, leb-true, lt-ltb, le-ltb}
 use Rattle.refusal.specs.Pick.{pick}
 use Rattle.refusal.specs.Sizes.{textLimit}
-use Rattle.refusal.specs.Said.{accepted, refused, Said, refusedBy, follow, saidAnswer}
+use Rattle.refusal.specs.Said.{accepted, refused, Said, refusedBy, follow, saidAnswer, offset, spot}
 use Rattle.refusal.proofs.Following.{never, followed}
 use Rattle.refusal.specs.declared.Answer.{Answer}
 use Rattle.refusal.specs.declared.Refusal.{Refusal}
@@ -104,7 +104,7 @@ module _ (s : List ℕ) (p : Policy) {a : Answer} (tested : saidAnswer a ≡ who
     unfolding policyTest follow
     good = let z : wholeText s ≡ accepted tt = sym tested ∙ ap saidAnswer e in rw z
 
-    pub test-range : k < 8 → refused 15 k ≡ policyTest s p
+    pub test-range : k < 8 → refused 15 (spot k) ≡ policyTest s p
     unfolding rangesTest
     test-range h = sym (good ∙ rw (← f, lt-ltb k 8 h))
 
@@ -122,9 +122,9 @@ unfolding wholeText
 whole-short s e = by (ltb textLimit (length s)) refl e
   where
     rest : Said (Unit {0})
-    rest = pick (ltb (upTo s) (length s)) (refused 4 (upTo s)) (accepted tt)
+    rest = pick (ltb (upTo s) (length s)) (refused 4 (offset (upTo s))) (accepted tt)
 
-    by : (t : Bool) → ltb textLimit (length s) ≡ t → pick t (refused 14 0) rest ≡ accepted tt → length s ≤ textLimit
+    by : (t : Bool) → ltb textLimit (length s) ≡ t → pick t (refused 14 (spot 0)) rest ≡ accepted tt → length s ≤ textLimit
     by true q e = absurd (never e)
     by false q e = ltb-false textLimit (length s) q
 
@@ -133,7 +133,7 @@ unfolding rangesTest
 ranges-good n p e = by (ltb (firstBad n (eight p)) 8) refl e
   where
     by : (t : Bool) → ltb (firstBad n (eight p)) 8 ≡ t
-        → _≡_ {A = Said (Unit {0})} (pick t (refused 15 (firstBad n (eight p))) (accepted tt)) (accepted tt)
+        → _≡_ {A = Said (Unit {0})} (pick t (refused 15 (spot (firstBad n (eight p)))) (accepted tt)) (accepted tt)
         → firstBad n (eight p) ≡ 8
     by true q e = absurd (never e)
     by false q e = omega (arith, ltb-false (firstBad n (eight p)) 8 q, bad-most n p)

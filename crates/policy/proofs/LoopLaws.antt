@@ -9,7 +9,7 @@ use lib.ListN.{length, drop, length-drop}
 use lib.Seq.{drop-drop}
 use Rattle.refusal.specs.Pick.{pick}
 use Rattle.refusal.specs.declared.Answer.{Answer}
-use Rattle.refusal.specs.Said.{saidAnswer, Said, accepted, refused, follow, refusedBy}
+use Rattle.refusal.specs.Said.{saidAnswer, Said, accepted, refused, spot, follow, refusedBy}
 use Rattle.refusal.specs.declared.Refusal.{Refusal}
 use Rattle.text.specs.Find.{indexOf, begins, same}
 use Rattle.text.specs.Lines.{lineLen, lineStep}
@@ -128,7 +128,7 @@ module _ (s : List ℕ) (at n : ℕ) (v : Policy) where
   unfolding run
   run-on k e = rw (next-here k) (rw (e, run))
 
-  pub run-stop : (k : ℕ) → at < length s → (k ≡ 0 → ⊥) → fault (policyDirective line-here) ≡ k → left ≡ refused k n
+  pub run-stop : (k : ℕ) → at < length s → (k ≡ 0 → ⊥) → fault (policyDirective line-here) ≡ k → left ≡ refused k (spot n)
   run-stop zero b z e = absurd (z refl)
   run-stop (suc k) b z e = unfold run in rw (next-here b) (rw (e, run))
 
@@ -152,7 +152,7 @@ module _ (s : List ℕ) (at e x : ℕ) (hd : Heard) (ke : e ≡ at + lineLen (dr
     here = sym (q ∙ ap faultOf kh ∙ fault-ranged (policyDirective (piece s at e))
         ∙ ap (λ (m : ℕ). fault (policyDirective (piece s at m))) ke)
 
-    pub turn-stop : (k ≡ 0 → ⊥) → run obey n v (linesFrom at 0 (drop at s)) ≡ refused k n
+    pub turn-stop : (k ≡ 0 → ⊥) → run obey n v (linesFrom at 0 (drop at s)) ≡ refused k (spot n)
     turn-stop z = run-stop s at n v k b z here
 
     pub turn-on : k ≡ 0 → (w : Policy) → w ≡ obeyed hd v → run obey n v (linesFrom at 0 (drop at s)) ≡ run obey (n + 1) w

@@ -6,7 +6,7 @@ use lib.Dec.{ltb}
 use lib.ListN.{getD, length}
 use Rattle.refusal.specs.Pick.{pick}
 use Rattle.refusal.specs.Sizes.{fitsIn}
-use Rattle.refusal.specs.Said.{Said, accepted, refused, follow}
+use Rattle.refusal.specs.Said.{Said, accepted, refused, follow, spot}
 use Rattle.text.specs.Whole.{wholeText}
 use Rattle.policy.specs.Reader.{slot}
 use Rattle.policy.specs.declared.Stance.the-variants.{None}
@@ -40,7 +40,7 @@ firstBad n (x ∷ xs) = pick (fitsIn n (x .from) (x .len)) (suc (firstBad n xs))
 
 -- 15 for n bytes of text
 unfoldable pub rangesTest : ℕ → Policy → Said (Unit {0})
-rangesTest n p = pick (ltb (firstBad n (eight p)) 8) (refused 15 (firstBad n (eight p))) (accepted tt)
+rangesTest n p = pick (ltb (firstBad n (eight p)) 8) (refused 15 (spot (firstBad n (eight p)))) (accepted tt)
 
 -- 14, 4 and 15 of a text and a policy that came from it
 unfoldable pub policyTest : List ℕ → Policy → Said (Unit {0})

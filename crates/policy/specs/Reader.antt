@@ -4,7 +4,7 @@ use mathlib.Core.Path.{_≡_}
 use mathlib.Core.List.{List, [], _∷_}
 use Prim.Native.Nat.{ℕ, zero, suc, _+_}
 use lib.ListN.{length, set, replicate}
-use Rattle.refusal.specs.Said.{Said, accepted, refused, follow, saidAnswer}
+use Rattle.refusal.specs.Said.{Said, accepted, refused, spot, follow, saidAnswer}
 use Rattle.text.specs.Whole.{wholeText, withoutValue}
 use Rattle.text.specs.Piece.{Piece}
 use Rattle.policy.specs.Piece.{linesOf}
@@ -19,7 +19,8 @@ use Rattle.policy.specs.declared.PolicyRead.{PolicyRead}
 module _ {S : Type 0} (obey : Directive → S → S) where
   unfoldable pub run : ℕ → S → List Piece → Said S
   run n st [] = accepted st
-  run n st (p ∷ ps) = elim (fault (policyDirective p)) [ zero ↦ run (n + 1) (obey (policyDirective p) st) ps | suc k ↦ refused (suc k) n ]
+  run n st (p ∷ ps) =
+      elim (fault (policyDirective p)) [ zero ↦ run (n + 1) (obey (policyDirective p) st) ps | suc k ↦ refused (suc k) (spot n) ]
 
   -- the text as a whole, then its lines
   unfoldable pub readWith : S → List ℕ → Said S

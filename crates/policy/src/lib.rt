@@ -7,7 +7,7 @@ use refusal::Answer;
 use refusal::Refusal;
 ghost use mathlib.Core.Path.{_≡_};
 ghost use Prim.Native.Nat.{_≤_, _<_};
-ghost use Rattle.refusal.specs.Said.{refused, refusedBy};
+ghost use Rattle.refusal.specs.Said.{refused, refusedBy, spot};
 ghost use Rattle.policy.specs.Piece.{linesOf};
 ghost use Rattle.policy.specs.Reader.{run, obey, stanceOf, withRule, zeroPolicy, readPolicy, PolicyReadAs};
 ghost use Rattle.policy.specs.Heard.{obeyed, Small};
@@ -117,7 +117,7 @@ fn obeyed_by(p: Policy, heard: Heard) -> Policy
 // Fault 6, 7 or 8 of a line.
 fn fault_at(k: usize, line: usize) -> Refusal
     requires { ⌜ (6 ≤ k) × (k ≤ 8) ⌝ }
-    ensures { λ r. ⌜ refusedBy {X = Policy} r ≡ refused k line ⌝ }
+    ensures { λ r. ⌜ refusedBy {X = Policy} r ≡ refused k (spot line) ⌝ }
 {
     if k == 6 {
         return Refusal::Directive(line);

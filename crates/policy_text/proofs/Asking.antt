@@ -5,7 +5,7 @@ use mathlib.Core.Bool.{Bool, true, false}
 use mathlib.Core.Path.{_≡_, refl, sym, _∙_, ap}
 use lib.Dec.{ltb}
 use Rattle.refusal.specs.Pick.{pick}
-use Rattle.refusal.specs.Said.{Said, accepted, refused, refusedBy, follow, saidAnswer}
+use Rattle.refusal.specs.Said.{Said, accepted, refused, refusedBy, follow, saidAnswer, Place}
 use Rattle.refusal.proofs.Following.{never}
 use Rattle.refusal.specs.declared.Answer.{Answer}
 use Rattle.refusal.specs.declared.Refusal.{Refusal}
@@ -38,7 +38,7 @@ module _ {X : Type 0} (k : ℕ) (y : X) where
 
 -- what follows a policy that was read, by the answer that came with it
 module _ {Y : Type 0} (f : Policy → Said Y) where
-  stop : (x : Said Policy) {n p : ℕ} → withoutValue x ≡ refused n p → refused n p ≡ follow x f
+  stop : (x : Said Policy) {n : ℕ} {p : Place} → withoutValue x ≡ refused n p → refused n p ≡ follow x f
   unfolding follow
   stop (accepted v) e = absurd (never (sym e))
   stop (refused m k) {n} {p} e = let a : n ≡ m = cc in let b : p ≡ k = cc in rw (a, b)

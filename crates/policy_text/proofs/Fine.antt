@@ -9,7 +9,7 @@ use lib.ListN.{length, take, drop, set, length-set}
 use borrow.Author.Tests.{ltb-true, ltb-false}
 use Rattle.refusal.specs.Pick.{pick}
 use Rattle.refusal.specs.Sizes.{textLimit}
-use Rattle.refusal.specs.Said.{Said, accepted, refused}
+use Rattle.refusal.specs.Said.{Said, accepted, refused, offset, spot}
 use Rattle.refusal.proofs.Following.{never, followed}
 use Rattle.text.specs.Find.{indexOf, begins, same}
 use Rattle.text.specs.Utf8.{upTo, seqLen}
@@ -149,7 +149,7 @@ run-fine n v w (p ∷ ps) (more g gs) f e = by (fault (policyDirective p)) refl
     by : (k : ℕ) → fault (policyDirective p) ≡ k → (run heed (n + 1) (heed (policyDirective p) v) ps ≡ accepted w → FineView w) → FineView w
     by zero q ih = ih (rw (q, run) at e)
     by (suc k) q ih =
-        let b : refused (suc k) n ≡ accepted w = rw (q, run) at e in
+        let b : refused (suc k) (spot n) ≡ accepted w = rw (q, run) at e in
         absurd (let z : _≡_ {A = ℕ} 0 1 = cc in omega arith)
 
 -- ---- a text that is read
@@ -176,7 +176,8 @@ whole-well s e = by (ltb textLimit (length s)) (ltb (upTo s) (length s)) refl e
     all = unfold upTo in scan-le seqLen 0 s
 
     by : (t u : Bool) → ltb (upTo s) (length s) ≡ u
-        → _≡_ {A = Said (Unit {0})} (pick t (refused 14 0) (pick u (refused 4 (upTo s)) (accepted tt))) (accepted tt) → well s ≡ true
+        → _≡_ {A = Said (Unit {0})} (pick t (refused 14 (spot 0)) (pick u (refused 4 (offset (upTo s))) (accepted tt))) (accepted tt)
+        → well s ≡ true
     by true u q e = absurd (never e)
     by false true q e = absurd (never e)
     by false false q e = upto-well s (omega (arith, all, ltb-false (upTo s) (length s) q))

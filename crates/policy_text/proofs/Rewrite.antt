@@ -4,7 +4,7 @@ use mathlib.Core.List.{map, List, [], _∷_}
 use Prim.Native.Nat.{ℕ, zero, suc, _+_, _≤_}
 use native.Mathlib.Omega.{arith}
 use lib.ListN.{length, getD, length-set}
-use Rattle.refusal.specs.Said.{Said, accepted, refused, follow}
+use Rattle.refusal.specs.Said.{Said, accepted, refused, spot, follow}
 use Rattle.refusal.proofs.Following.{followed}
 use Rattle.refusal.specs.Pick.{pick}
 use Rattle.refusal.specs.Sizes.{textLimit}
@@ -82,7 +82,7 @@ run-long n v w (p ∷ ps) l e = by (fault (policyDirective p)) refl
         → length (w .rules) ≡ 7
     by zero q ih = ih (rw (q, run) at e)
     by (suc k) q ih =
-        let b : refused (suc k) n ≡ accepted w = rw (q, run) at e in
+        let b : refused (suc k) (spot n) ≡ accepted w = rw (q, run) at e in
         absurd (let z : _≡_ {A = ℕ} 0 1 = cc in omega arith)
 
 pub read-seven : (s : List ℕ) (p : Policy) → readPolicy s ≡ accepted p → length (p .rules) ≡ 7

@@ -9,7 +9,7 @@ use lib.Dec.{eqb}
 use lib.IntN.{ℤ}
 use lib.ListN.{length}
 use denote.Ref.{now}
-use Rattle.refusal.specs.Said.{Said, accepted, refused, Got, got, refusedBy, saidAnswer, saidCount, saidWritten}
+use Rattle.refusal.specs.Said.{Said, accepted, refused, Got, got, refusedBy, saidAnswer, saidCount, saidWritten, Place}
 use Rattle.refusal.specs.declared.Answer.{Answer}
 use Rattle.refusal.specs.declared.Count.{Count}
 use Rattle.refusal.specs.declared.Written.{Written}
@@ -66,7 +66,7 @@ use Rattle.promises.proofs.RefusalsListed.{listing, comparing, delivere
 -- ---- by type
 by-type : {X : Type 0} (w : Refusal) → NotThree {X = X} (refusedBy w)
 by-type {X} w p e = never-three w (number e) where
-  number : {m n q : ℕ} → _≡_ {A = Said X} (refused m q) (refused n p) → m ≡ n
+  number : {m n : ℕ} {q : Place} → _≡_ {A = Said X} (refused m q) (refused n p) → m ≡ n
   number f = cc
 
 answer : (r : Answer) → NotThree (saidAnswer r)

@@ -9,7 +9,7 @@ use lib.Dec.{eqb, ltb, leb}
 use lib.ListN.{length, take}
 use Rattle.refusal.specs.Pick.{pick}
 use Rattle.refusal.specs.Sizes.{fileLimit, textLimit}
-use Rattle.refusal.specs.Said.{Said, refused}
+use Rattle.refusal.specs.Said.{Said, refused, Place, offset, spot, kindAt}
 use Rattle.text.specs.Utf8.{upTo}
 use Rattle.text.specs.Whole.{wholeText}
 use Rattle.text.specs.Find.{same, begins, indexOf}
@@ -51,9 +51,9 @@ Spares x = Numbers (λ n. eqb n 3 ≡ false) x
 told-at : {X : Type 0} (at : ℕ) (o : Out X) → Spares (toldAt at o)
 unfolding toldAt
 told-at at (value v k) = fine _
-told-at at (ends k) = off 1 (at + k) refl
-told-at at overlong = off 17 at refl
-told-at at oversize = off 18 at refl
+told-at at (ends k) = off 1 (offset (at + k)) refl
+told-at at overlong = off 17 (offset at) refl
+told-at at oversize = off 18 (offset at) refl
 
 pub uleb : (s : List ℕ) (at : ℕ) → Spares (ulebAt s at)
 unfolding ulebAt
@@ -65,20 +65,20 @@ sleb s at = told-at at _
 
 pub narrow : (s : List ℕ) (at : ℕ) → Spares (u32At s at)
 unfolding u32At narrowed
-narrow s at = chain (ulebAt s at) _ (uleb s at) (λ v next. choice (leb v 4294967295) (fine _) (off 19 next refl))
+narrow s at = chain (ulebAt s at) _ (uleb s at) (λ v next. choice (leb v 4294967295) (fine _) (off 19 (offset next) refl))
 
 taken : (s : List ℕ) (at n : ℕ) → Spares (takeAt s at n)
 unfolding takeAt
 taken s at n =
-    choice (ltb (length s) at) (off 1 at refl)
-    (choice (ltb (18446744073709551615 - at) n) (off 5 at refl)
-    (choice (leb (at + n) (length s)) (fine _) (off 1 at refl)))
+    choice (ltb (length s) at) (off 1 (offset at) refl)
+    (choice (ltb (18446744073709551615 - at) n) (off 5 (kindAt at at) refl)
+    (choice (leb (at + n) (length s)) (fine _) (off 1 (offset at) refl)))
 
 pub named : (s : List ℕ) (at : ℕ) → Spares (nameAt s at)
 unfolding nameAt countedAt checked
 named s at =
     chain (countedAt s at) _ (chain (u32At s at) _ (narrow s at) (λ n next. taken s next n))
-    (λ p next. choice (eqb (upTo (partBytes s p)) (p .len)) (fine _) (off 4 (p .from) refl))
+    (λ p next. choice (eqb (upTo (partBytes s p)) (p .len)) (fine _) (off 4 (offset (p .from)) refl))
 
 -- ---- modules
 pub read : (b : List ℕ) (z : Sizes) → Spares (moduleAt b z)
@@ -92,7 +92,7 @@ read b z = record { number = λ n p e. by n (eqb n 3) refl (plain-numbers b z n 
 -- a strict read has the plain one's numbers, and 20
 strictly : (b : List ℕ) (z : Sizes) → Spares (strictAt b z)
 strictly b z = record { number = λ n p e. by n p (strict-refuses b z n p e) } where
-  by : (n p : ℕ) → (moduleAt b z ≡ refused n p) ⊎ Ruled b z n p → eqb n 3 ≡ false
+  by : (n : ℕ) (p : Place) → (moduleAt b z ≡ refused n p) ⊎ Ruled b z n p → eqb n 3 ≡ false
   by n p (inl h) = read b z .number n p h
   by n p (inr r) = ap (λ (k : ℕ). eqb k 3) (r .number-is)
 
@@ -104,20 +104,20 @@ tested-strictly b = follows (strictAt b limits) _ (strictly b limits) (λ m. fin
 first-bad : (bad : ℕ → Bool) (i k : ℕ) → Spares (firstFrom bad i k)
 unfolding firstFrom
 first-bad bad i zero = fine _
-first-bad bad i (suc k) = choice (bad i) (off 15 i refl) (first-bad bad (i + 1) k)
+first-bad bad i (suc k) = choice (bad i) (off 15 (spot i) refl) (first-bad bad (i + 1) k)
 
 pub table : (room n : ℕ) (bad : ℕ → Bool) → Spares (tested room n bad)
 unfolding tested
-table room n bad = choice (ltb room n) (off 15 room refl) (first-bad bad 0 n)
+table room n bad = choice (ltb room n) (off 15 (spot room) refl) (first-bad bad 0 n)
 
 pub rows : (tn room : ℕ) (l : List ℕ) → Spares (fitted tn room l)
 unfolding fitted
-rows tn room l = choice (leb (length l) room) (fine _) (off 13 tn refl)
+rows tn room l = choice (leb (length l) room) (fine _) (off 13 (spot tn) refl)
 
 -- ---- policies
 pub text : (s : List ℕ) → Spares (wholeText s)
 unfolding wholeText
-text s = choice (ltb textLimit (length s)) (off 14 0 refl) (choice (ltb (upTo s) (length s)) (off 4 (upTo s) refl) (fine _))
+text s = choice (ltb textLimit (length s)) (off 14 (spot 0) refl) (choice (ltb (upTo s) (length s)) (off 4 (offset (upTo s)) refl) (fine _))
 
 -- a fault of a line is 6, 7 or 8
 record Faulty (d : Directive) : Type 0 where
@@ -164,9 +164,9 @@ unfolding run
 lines n st [] = fine _
 lines n st (p ∷ ps) = by (fault (policyDirective p)) (directed p .other) (lines (n + 1) (obey (policyDirective p) st) ps) where
   by : (k : ℕ) → eqb k 3 ≡ false → Spares (run obey (n + 1) (obey (policyDirective p) st) ps)
-      → Spares {X = Policy} (elim k [ zero ↦ run obey (n + 1) (obey (policyDirective p) st) ps | suc j ↦ refused (suc j) n ])
+      → Spares {X = Policy} (elim k [ zero ↦ run obey (n + 1) (obey (policyDirective p) st) ps | suc j ↦ refused (suc j) (spot n) ])
   by zero h rest = rest
-  by (suc k) h rest = off (suc k) n h
+  by (suc k) h rest = off (suc k) (spot n) h
 
 pub policy : (s : List ℕ) → Spares (readPolicy s)
 unfolding readPolicy readWith
@@ -174,11 +174,13 @@ policy s = follows (wholeText s) _ (text s) (λ u. lines 1 zeroPolicy (linesOf s
 
 policy-tested : (s : List ℕ) (p : Policy) → Spares (policyTest s p)
 unfolding policyTest rangesTest
-policy-tested s p = follows (wholeText s) _ (text s) (λ u. choice (ltb (firstBad (length s) (eight p)) 8) (off 15 (firstBad (length s) (eight p)) refl) (fine _))
+policy-tested s p =
+    follows (wholeText s) _ (text s) (λ u.
+    choice (ltb (firstBad (length s) (eight p)) 8) (off 15 (spot (firstBad (length s) (eight p))) refl) (fine _))
 
 pub room : (w : List ℕ) (n : ℕ) → Spares (roomFor w n)
 unfolding roomFor
-room w n = choice (ltb n (length w)) (off 16 (length w) refl) (fine _)
+room w n = choice (ltb n (length w)) (off 16 (spot (length w)) refl) (fine _)
 
 pub next : (s : List ℕ) (d from : ℕ) → Spares (tokenRead s d from)
 unfolding nextToken
@@ -196,21 +198,21 @@ rewrite s n = follows (readPolicy s) _ (policy s) (λ p. follows (policyTest s p
 asking : (file imports : List ℕ) (n k : ℕ) → Spares (moduleRows file imports n k)
 unfolding moduleRows asked importsTested
 asking file imports n k =
-    choice (ltb fileLimit (length file)) (off 14 0 refl)
+    choice (ltb fileLimit (length file)) (off 14 (spot 0) refl)
     (follows (importsTested (length file) imports n) _ (table _ _ _) (λ u. rows 7 k _))
 
 evaluating : (ns : List ℕ) (n : ℕ) (p : Policy) → Spares (evaluated ns n p)
 unfolding evaluated domainsTest
 evaluating ns n p =
     follows (domainsTest ns n) _
-    (choice (ltb (min (length ns) (limit 7)) n) (off 15 (min (length ns) (limit 7)) refl)
-    (choice (ltb (firstPast (take n ns)) n) (off 15 (firstPast (take n ns)) refl) (fine _)))
+    (choice (ltb (min (length ns) (limit 7)) n) (off 15 (spot (min (length ns) (limit 7))) refl)
+    (choice (ltb (firstPast (take n ns)) n) (off 15 (spot (firstPast (take n ns))) refl) (fine _)))
     (λ u. fine _)
 
 pub checking : (file s : List ℕ) → Spares (checkedOf file s)
 unfolding checkedOf readThen heldTo weighed
 checking file s =
-    choice (ltb fileLimit (length file)) (off 14 0 refl)
+    choice (ltb fileLimit (length file)) (off 14 (spot 0) refl)
     (follows (wholeText s) _ (text s) (λ u.
     follows (moduleAt file limits) _ (read file limits) (λ m.
     follows (readPolicy s) _ (policy s) (λ p.

@@ -6,7 +6,7 @@ use mathlib.Core.List.{List}
 use lib.Dec.{eqb, ltb, leb}
 use lib.ListN.{length}
 use Rattle.refusal.specs.Sizes.{fileLimit}
-use Rattle.refusal.specs.Said.{Said}
+use Rattle.refusal.specs.Said.{Said, spot}
 use Rattle.text.specs.Whole.{wholeText}
 use Rattle.table.specs.Entries.{finished}
 use Rattle.table.proofs.Numbers.{fine, off, choice, follows}
@@ -55,13 +55,13 @@ tables g =
 
 ended : {R : Type 0} (tn n : ℕ) (l : List R) → Spares (finished tn n l)
 unfolding finished
-ended tn n l = choice (leb (length l) n) (fine _) (off 13 tn refl)
+ended tn n l = choice (leb (length l) n) (fine _) (off 13 (spot tn) refl)
 
 listing-both : (b c : Given) (m n : ℕ) → Spares (compared b c m n)
 unfolding compared roomed
 listing-both b c m n =
-    choice (ltb fileLimit (length (b .file))) (off 14 0 refl)
-    (choice (ltb fileLimit (length (c .file))) (off 14 0 refl)
+    choice (ltb fileLimit (length (b .file))) (off 14 (spot 0) refl)
+    (choice (ltb fileLimit (length (c .file))) (off 14 (spot 0) refl)
     (follows (tablesTested b) _ (tables b) (λ u.
     follows (tablesTested c) _ (tables c) (λ v.
     follows (finished 8 m _) _ (ended 8 m _) (λ k.
@@ -71,15 +71,15 @@ reasoning : (b c : Given) (d : Diffs) → Spares (reasonsTested b c d)
 unfolding reasonsTested bothTested diffsTested exportDiffsTested needDiffsTested
 reasoning b c d =
     follows (bothTested b c) _
-    (choice (ltb fileLimit (length (b .file))) (off 14 0 refl)
-    (choice (ltb fileLimit (length (c .file))) (off 14 0 refl) (follows (tablesTested b) _ (tables b) (λ u. tables c))))
+    (choice (ltb fileLimit (length (b .file))) (off 14 (spot 0) refl)
+    (choice (ltb fileLimit (length (c .file))) (off 14 (spot 0) refl) (follows (tablesTested b) _ (tables b) (λ u. tables c))))
     (λ u. follows (exportDiffsTested (b .exportCount) (c .exportCount) (d .exports) (d .exportCount)) _ (table _ _ _) (λ v. table _ _ _))
 
 pub comparing : (baseline candidate : List ℕ) → Spares (comparison baseline candidate)
 unfolding comparison builds against explained
 comparing baseline candidate =
-    choice (ltb fileLimit (length baseline)) (off 14 0 refl)
-    (choice (ltb fileLimit (length candidate)) (off 14 0 refl)
+    choice (ltb fileLimit (length baseline)) (off 14 (spot 0) refl)
+    (choice (ltb fileLimit (length candidate)) (off 14 (spot 0) refl)
     (follows (moduleAt baseline limits) _ (read baseline limits) (λ m.
     follows (moduleAt candidate limits) _ (read candidate limits) (λ o.
     follows (compared _ _ _ _) _ (listing-both _ _ _ _) (λ l.

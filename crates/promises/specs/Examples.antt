@@ -6,7 +6,7 @@ use mathlib.Core.Bool.{Bool, true, false}
 use mathlib.Core.List.{List, [], _∷_, _++_, map}
 use lib.ListN.{length}
 use lib.IntN.{ℤ, pos, negsuc}
-use Rattle.refusal.specs.Said.{Said, accepted, refused, follow, Got, got, onward}
+use Rattle.refusal.specs.Said.{Said, accepted, refused, follow, Got, got, onward, offset, relocated}
 use Rattle.leb.specs.Groups.{uN, sN, twos, grown, spent}
 use Rattle.leb.specs.Reads.{toldAt, narrowed, ulebAt, u32At, slebAt, part, byteAt, fixedAt, takeAt, countedAt, checked, nameAt}
 use Rattle.text.specs.Find.{seek, begins, same, indexOf, indexOf2}
@@ -143,13 +143,13 @@ examples =
     unsigned (0xe5 ∷ 0x8e ∷ 0x26 ∷ []) (accepted (got 624485 3))
     ∷ unsigned (0x80 ∷ 0x00 ∷ []) (accepted (got 0 2))
     ∷ unsigned (nine 0xff (0x01 ∷ [])) (accepted (got 18446744073709551615 10))
-    ∷ unsigned (nine 0xff (0x02 ∷ [])) (refused 18 0)
-    ∷ unsigned32 (0x80 ∷ 0x80 ∷ 0x80 ∷ 0x80 ∷ 0x10 ∷ []) (refused 19 5)
+    ∷ unsigned (nine 0xff (0x02 ∷ [])) (refused 18 (offset 0))
+    ∷ unsigned32 (0x80 ∷ 0x80 ∷ 0x80 ∷ 0x80 ∷ 0x10 ∷ []) (refused 19 (offset 5))
     ∷ signed (0xc0 ∷ 0x00 ∷ []) (accepted (got (pos 64) 2))
     ∷ signed (0x40 ∷ []) (accepted (got (negsuc 63) 1))
     ∷ signed (nine 0x80 (0x01 ∷ [])) (accepted (got (negsuc 9223372036854775807) 10))
     ∷ file header (accepted (record { version = 1; tables = noTables }))
-    ∷ file (0x00 ∷ 0x61 ∷ 0x73 ∷ 0x6d ∷ 0x00 ∷ 0x00 ∷ 0x00 ∷ 0x00 ∷ []) (refused 2 4)
+    ∷ file (0x00 ∷ 0x61 ∷ 0x73 ∷ 0x6d ∷ 0x00 ∷ 0x00 ∷ 0x00 ∷ 0x00 ∷ []) (refused 2 (offset 4))
     ∷ file oneImport (accepted oneImportRead)
     ∷ asking oneImport (accepted (asks 6 (0x6d ∷ []) ∷ []))
     ∷ imported (preview1 ++ 48 ∷ []) fdWrite 0
@@ -162,8 +162,8 @@ examples =
 
 pub examples-hold : AllHold examples
 unfolding ulebAt u32At slebAt toldAt narrowed onward uN sN twos grown spent byteAt fixedAt takeAt countedAt checked nameAt moduleAt headerAt
-    magic same walkFrom walk turnOf sectionAt contentsAt addSection capacityOf noTables importsOf entriesFrom importAt descAt funcAt upTo
-    scan seqLen after followers followIn covers utf8Table
+    relocated magic same walkFrom walk turnOf sectionAt contentsAt addSection capacityOf noTables importsOf entriesFrom importAt descAt
+    funcAt upTo scan seqLen after followers followIn covers utf8Table
     follow laid cells importCells moduleRows asked importsTested tested firstFrom importFits kindIs cellOf rangeOf fitted
     importDomain pathDomain headOf classedBy passes preview heads seek begins indexOf
     readPolicy readWith wholeText run zeroPolicy obey linesOf linesFrom lineLen lineStep crBefore policyDirective policyCore

@@ -21,11 +21,13 @@ pub mod Examples
 pub mod Rejected
 pub mod RejectedReasons
 pub mod Standins
+pub mod Series
 pub mod OfTold
 pub mod OfCapi
 pub mod OfJudged
 pub mod OfListed
 pub mod OfReport
+pub mod OfReviewed
 pub mod OfRewritten
 pub mod Unclassified
 pub mod ListedTokens

@@ -6,7 +6,7 @@ use mathlib.Core.List.{List}
 use contract.Lifetimes.{Lfts}
 use borrow.Fn.Kinds.{PK, RK, Out, Dens, resT, endedOf}
 use denote.Triple.Clauses.{AtExit}
-use Rattle.refusal.specs.Said.{Said, refused, saidAnswer, saidCount, saidWritten}
+use Rattle.refusal.specs.Said.{Said, refused, saidAnswer, saidCount, saidWritten, Place}
 use Rattle.refusal.specs.declared.Answer.{Answer}
 use Rattle.refusal.specs.declared.Count.{Count}
 use Rattle.refusal.specs.declared.Written.{Written}
@@ -58,7 +58,7 @@ use Rattle.capi.proofs.lists.viscrombal_tokens.Kinds as tokens-kinds
 use Rattle.capi.proofs.lists.viscrombal_tokens.Reads as tokens
 
 abbrev pub NotThree : {X : Type 0} → Said X → Type 0
-NotThree x = (p : ℕ) → x ≡ refused 3 p → ⊥
+NotThree x = (p : Place) → x ≡ refused 3 p → ⊥
 
 -- whatever a function of the library answers, by the type of its answer; of a policy and of verdicts, by what they promise to tell
 pub record NoThreeSaid : Type 0 where

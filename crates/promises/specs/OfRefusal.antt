@@ -7,6 +7,10 @@ use Rattle.refusal.proofs.number.Kinds as number-kinds
 use Rattle.refusal.proofs.number.Reads as number
 use Rattle.refusal.proofs.place.Kinds as place-kinds
 use Rattle.refusal.proofs.place.Reads as place
+use Rattle.refusal.proofs.beside.Kinds as beside-kinds
+use Rattle.refusal.proofs.beside.Reads as beside
+use Rattle.refusal.proofs.moved.Kinds as moved-kinds
+use Rattle.refusal.proofs.moved.Reads as moved
 use Rattle.refusal.proofs.slug_of.Kinds as slug-of-kinds
 use Rattle.refusal.proofs.slug_of.Reads as slug-of
 
@@ -18,6 +22,12 @@ number-decides κs a x y s t p q = p ∙ sym q
 
 pub place-decides : Decides place-kinds.ps place-kinds.r place.Post
 place-decides κs a x y s t p q = p ∙ sym q
+
+pub beside-decides : Decides beside-kinds.ps beside-kinds.r beside.Post
+beside-decides κs a x y s t p q = p ∙ sym q
+
+pub moved-decides : Decides moved-kinds.ps moved-kinds.r moved.Post
+moved-decides κs a x y s t p q = p ∙ sym q
 
 pub slug-of-decides : Decides slug-of-kinds.ps slug-of-kinds.r slug-of.Post
 slug-of-decides κs a x y s t p q = p ∙ sym q

@@ -4,7 +4,7 @@ use contract.Lifetimes.{Lfts}
 use borrow.Fn.Kinds.{Dens, resT, endedOf}
 use denote.Triple.Clauses.{AtExit}
 use denote.Ref.{now}
-use Rattle.rewritten.proofs.Telling.{printed-once}
+use Rattle.report.proofs.Printing.{printed-once}
 use Rattle.promises.specs.Decides.{Decides}
 use Rattle.rewritten.proofs.rewrite_text.Kinds as rewrite-text-kinds
 use Rattle.rewritten.proofs.rewrite_text.Reads as rewrite-text

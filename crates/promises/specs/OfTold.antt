@@ -9,6 +9,8 @@ use Rattle.told.proofs.policies.number_of.Kinds as number-of-kinds
 use Rattle.told.proofs.policies.number_of.Reads as number-of
 use Rattle.told.proofs.policies.place_of.Kinds as place-of-kinds
 use Rattle.told.proofs.policies.place_of.Reads as place-of
+use Rattle.told.proofs.policies.beside_of.Kinds as beside-of-kinds
+use Rattle.told.proofs.policies.beside_of.Reads as beside-of
 use Rattle.told.proofs.policies.no_token.Kinds as no-token-kinds
 use Rattle.told.proofs.policies.no_token.Reads as no-token
 use Rattle.told.proofs.policies.token_of.Kinds as token-of-kinds
@@ -33,6 +35,9 @@ number-of-decides κs a x y s t p q = p ∙ sym q
 
 pub place-of-decides : Decides place-of-kinds.ps place-of-kinds.r place-of.Post
 place-of-decides κs a x y s t p q = p ∙ sym q
+
+pub beside-of-decides : Decides beside-of-kinds.ps beside-of-kinds.r beside-of.Post
+beside-of-decides κs a x y s t p q = p ∙ sym q
 
 pub no-token-decides : Decides no-token-kinds.ps no-token-kinds.r no-token.Post
 no-token-decides κs a x y s t p q = p ∙ sym q

@@ -13,7 +13,7 @@ use lib.Dec.{ltb}
 use lib.ListN.{length, take, drop}
 use lib.Seq.{take-at}
 use Rattle.refusal.specs.Pick.{pick}
-use Rattle.refusal.specs.Said.{Said, accepted, refused, follow}
+use Rattle.refusal.specs.Said.{Said, accepted, refused, follow, spot}
 use Rattle.refusal.specs.declared.Refusal.{Refusal}
 use Rattle.refusal.specs.declared.Written.{Written}
 use Rattle.refusal.proofs.Following.{never, followed}
@@ -165,7 +165,7 @@ unlike-set κs a r s h p = h (counted-set (now (a .0)) (a .1 .0) (a .1 .1 .0) r 
 wrote : (w : List ℕ) (room : ℕ) {v : List ℕ} → roomFor w room ≡ accepted v → v ≡ w
 unfolding roomFor
 wrote w room {v} e = by (ltb room (length w)) e where
-  by : (t : Bool) → pick t (refused 16 (length w)) (accepted w) ≡ accepted v → v ≡ w
+  by : (t : Bool) → pick t (refused 16 (spot (length w))) (accepted w) ≡ accepted v → v ≡ w
   by true e = absurd (never e)
   by false e = cc
 

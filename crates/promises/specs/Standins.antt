@@ -14,7 +14,7 @@ use denote.Ref.{now}
 use lib.Dec.{eqb, ltb}
 use lib.ListN.{length}
 use Rattle.refusal.specs.Pick.{pick}
-use Rattle.refusal.specs.Said.{Said, accepted, refused, follow}
+use Rattle.refusal.specs.Said.{Said, accepted, refused, follow, spot}
 use Rattle.refusal.proofs.Following.{never, one-value}
 use Rattle.table.specs.Shape.{capacityIn}
 use Rattle.verdicts.specs.Evaluate.{Outcome}
@@ -82,7 +82,7 @@ says-compatible f g d y r p = by (comparison f g) refl (p .answer-is)
     Says = (r .compatible ≡ true) ↔ (Replaces f g × (r .number ≡ 0))
 
     put : Comparison → Bool → Said (List ℕ)
-    put v t = pick t (refused 16 (length (comparisonBytes v))) (accepted (comparisonBytes v))
+    put v t = pick t (refused 16 (spot (length (comparisonBytes v)))) (accepted (comparisonBytes v))
 
     roomy : (v : Comparison) → comparison f g ≡ accepted v → (t : Bool) → r ≡ comparisonTold (follow (put v t) (λ w. accepted v)) → Says
     roomy v e true q = (

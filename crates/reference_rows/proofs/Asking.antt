@@ -4,7 +4,7 @@ use mathlib.Core.Path.{_≡_, _∙_}
 use mathlib.Core.Bool.{Bool, true, false}
 use mathlib.Core.List.{List}
 use borrow.Author.Tests.{lt-ltb, le-ltb}
-use Rattle.refusal.specs.Said.{accepted, refused, follow}
+use Rattle.refusal.specs.Said.{accepted, refused, follow, Place}
 use Rattle.table.specs.Shape.{width, cellIn}
 use Rattle.table.specs.Listing.{fitted}
 use Rattle.sorting.specs.Keys.{byName, sortedRows, otherRows, Sorts}
@@ -42,7 +42,7 @@ module _ (s references : List ℕ) (n : ℕ) (before after : List ℕ) (r : Sort
 
 -- the list, after the tests
 module _ (export : Bool) (s worlds : List ℕ) (n5 : ℕ) (references : List ℕ) (n6 room : ℕ) where
-  pub paths-bad : {m p : ℕ} → manifestTested s worlds n5 references n6 ≡ refused m p
+  pub paths-bad : {m : ℕ} {p : Place} → manifestTested s worlds n5 references n6 ≡ refused m p
       → pathsOf export s worlds n5 references n6 room ≡ refused m p
   unfolding pathsOf follow
   paths-bad e = rw e

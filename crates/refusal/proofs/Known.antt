@@ -4,22 +4,24 @@ use native.Mathlib.Omega.{arith}
 use mathlib.Core.Path.{_≡_, refl, sym, _∙_, ap}
 use lib.Dec.{eqb}
 use Rattle.refusal.specs.Pick.{pick}
-use Rattle.refusal.specs.Said.{Said, accepted, refused, numberOf, placeOf, saidAnswer, saidCount, saidWritten}
+use Rattle.refusal.specs.Said.{Said, accepted, refused, Place, numberAt, besideAt, numberOf, whereOf, movedBy, movedOn}
+use Rattle.refusal.specs.Said.{refusedBy, relocated, saidAnswer, saidCount, saidWritten}
 use Rattle.refusal.specs.declared.Answer.{Answer}
 use Rattle.refusal.specs.declared.Count.{Count}
 use Rattle.refusal.specs.declared.Written.{Written}
 use Rattle.refusal.specs.declared.Refusal.{Refusal}
 use Rattle.refusal.specs.declared.Refusal.the-variants.{UnexpectedEof, BadMagic, BadUtf8, MalformedSection, Directive}
 use Rattle.refusal.specs.declared.Refusal.the-variants.{BadDefault, BadDomain, PackageInWorld, NoName, Unmatched, Outside}
-use Rattle.refusal.specs.declared.Refusal.the-variants.{Full, TooLong, BadTable, NoRoom, TooManyBytes, TenthByte, AboveU32, NotStrict}
+use Rattle.refusal.specs.declared.Refusal.the-variants.{Full, TooLong, BadTable, NoRoom, TooManyBytes, TenthByte, AboveU32}
+use Rattle.refusal.specs.declared.Refusal.the-variants.{NotStrict}
 
 -- the refusal that has a number and a place
-abbrev pub refusalOf : ℕ → ℕ → Refusal
-refusalOf n p =
+abbrev pub refusalBy : ℕ → ℕ → ℕ → Refusal
+refusalBy n p o =
     pick (eqb n 1) (UnexpectedEof p)
     (pick (eqb n 2) (BadMagic p)
     (pick (eqb n 4) (BadUtf8 p)
-    (pick (eqb n 5) (MalformedSection p)
+    (pick (eqb n 5) (MalformedSection p o)
     (pick (eqb n 6) (Directive p)
     (pick (eqb n 7) (BadDefault p)
     (pick (eqb n 8) (BadDomain p)
@@ -36,11 +38,14 @@ refusalOf n p =
     (pick (eqb n 19) (AboveU32 p)
     (NotStrict p))))))))))))))))))
 
-pub known : (w : Refusal) → refusalOf (numberOf w) (placeOf w) ≡ w
+abbrev pub refusalOf : ℕ → Place → Refusal
+refusalOf n p = refusalBy n (numberAt p) (besideAt p)
+
+pub known : (w : Refusal) → refusalOf (numberOf w) (whereOf w) ≡ w
 known (UnexpectedEof p) = refl
 known (BadMagic p) = refl
 known (BadUtf8 p) = refl
-known (MalformedSection p) = refl
+known (MalformedSection p o) = refl
 known (Directive p) = refl
 known (BadDefault p) = refl
 known (BadDomain p) = refl
@@ -57,13 +62,13 @@ known (TenthByte p) = refl
 known (AboveU32 p) = refl
 known (NotStrict p) = refl
 
-pub same-refusal : (v w : Refusal) → numberOf v ≡ numberOf w → placeOf v ≡ placeOf w → v ≡ w
-same-refusal v w n p = sym (known v) ∙ ap (λ (k : ℕ). refusalOf k (placeOf v)) n ∙ ap (refusalOf (numberOf w)) p ∙ known w
+pub same-refusal : (v w : Refusal) → numberOf v ≡ numberOf w → whereOf v ≡ whereOf w → v ≡ w
+same-refusal v w n p = sym (known v) ∙ ap (λ (k : ℕ). refusalOf k (whereOf v)) n ∙ ap (refusalOf (numberOf w)) p ∙ known w
 
 -- 3 is no refusal's number
 pub never-three : (w : Refusal) → numberOf w ≡ 3 → ⊥
 never-three w e =
-    let last : 20 ≡ numberOf w = ap numberOf (ap (λ (n : ℕ). refusalOf n (placeOf w)) (sym e) ∙ known w) in
+    let last : 20 ≡ numberOf w = ap numberOf (ap (λ (n : ℕ). refusalOf n (whereOf w)) (sym e) ∙ known w) in
     omega (arith, last, e)
 
 -- what can be taken back is known, so `said` loses nothing
@@ -99,3 +104,30 @@ written-known = taken-back back is where
   is : (a : Written) → back (saidWritten a) ≡ a
   is (Written.Bytes n) = refl
   is (Written.Refused w) = ap Written.Refused (known w)
+
+-- a refusal that is moved has its number, and its place is moved
+pub moves : (by : ℕ) (w : Refusal) → (numberOf (movedOn by w) ≡ numberOf w) × (whereOf (movedOn by w) ≡ movedBy by (whereOf w))
+moves by (UnexpectedEof p) = (refl, refl)
+moves by (BadMagic p) = (refl, refl)
+moves by (BadUtf8 p) = (refl, refl)
+moves by (MalformedSection p o) = (refl, refl)
+moves by (Directive p) = (refl, refl)
+moves by (BadDefault p) = (refl, refl)
+moves by (BadDomain p) = (refl, refl)
+moves by (PackageInWorld p) = (refl, refl)
+moves by (NoName p) = (refl, refl)
+moves by (Unmatched p) = (refl, refl)
+moves by (Outside p) = (refl, refl)
+moves by (Full p) = (refl, refl)
+moves by TooLong = (refl, refl)
+moves by (BadTable p) = (refl, refl)
+moves by (NoRoom p) = (refl, refl)
+moves by (TooManyBytes p) = (refl, refl)
+moves by (TenthByte p) = (refl, refl)
+moves by (AboveU32 p) = (refl, refl)
+moves by (NotStrict p) = (refl, refl)
+
+-- so a refusal that the code moves is what was read, moved
+pub moved-said : {X : Type 0} (by : ℕ) (w : Refusal) → _≡_ {A = Said X} (refusedBy (movedOn by w)) (relocated by (refusedBy w))
+unfolding relocated
+moved-said by w = let m = moves by w in rw (m .0, m .1)

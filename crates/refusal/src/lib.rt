@@ -1,6 +1,6 @@
 // The numbered answers of docs/RULES.md, and the small values that every crate hands around.
 ghost use mathlib.Core.Path.{_≡_};
-ghost use Rattle.refusal.specs.Said.{numberOf, placeOf};
+ghost use Rattle.refusal.specs.Said.{numberOf, placeOf, besideOf, further, movedOn};
 ghost use Rattle.refusal.specs.Slug.{slugOf};
 ghost use Rattle.refusal.specs.Sizes.{fitsIn};
 
@@ -9,12 +9,13 @@ pub const MAX_FILE: usize = 16777216;
 
 pub const MAX_TEXT: usize = 65536;
 
-// Why a call gave no answer, and where: a case for each number, 1 to 20 in this order. 3 is no refusal's number.
+// Why a call gave no answer, and where: a case for each number, 1 to 20 in this order. 3 is no refusal's number. 5 has the kind byte and,
+// beside it, the offset of that byte.
 pub enum Refusal {
     UnexpectedEof(usize),
     BadMagic(usize),
     BadUtf8(usize),
-    MalformedSection(usize),
+    MalformedSection(usize, usize),
     Directive(usize),
     BadDefault(usize),
     BadDomain(usize),
@@ -77,7 +78,7 @@ pub fn number(r: Refusal) -> u32
         Refusal::UnexpectedEof(_) => 1,
         Refusal::BadMagic(_) => 2,
         Refusal::BadUtf8(_) => 4,
-        Refusal::MalformedSection(_) => 5,
+        Refusal::MalformedSection(_, _) => 5,
         Refusal::Directive(_) => 6,
         Refusal::BadDefault(_) => 7,
         Refusal::BadDomain(_) => 8,
@@ -103,7 +104,7 @@ pub fn place(r: Refusal) -> usize
         Refusal::UnexpectedEof(at) => at,
         Refusal::BadMagic(at) => at,
         Refusal::BadUtf8(at) => at,
-        Refusal::MalformedSection(at) => at,
+        Refusal::MalformedSection(kind, _) => kind,
         Refusal::Directive(line) => line,
         Refusal::BadDefault(line) => line,
         Refusal::BadDomain(line) => line,
@@ -119,6 +120,70 @@ pub fn place(r: Refusal) -> usize
         Refusal::TenthByte(at) => at,
         Refusal::AboveU32(at) => at,
         Refusal::NotStrict(rule) => rule,
+    }
+}
+
+// The offset beside the place of 5; 0 for any other.
+pub fn beside(r: Refusal) -> usize
+    ensures { λ o. ⌜ o ≡ besideOf r ⌝ }
+{
+    match r {
+        Refusal::UnexpectedEof(_) => 0,
+        Refusal::BadMagic(_) => 0,
+        Refusal::BadUtf8(_) => 0,
+        Refusal::MalformedSection(_, at) => at,
+        Refusal::Directive(_) => 0,
+        Refusal::BadDefault(_) => 0,
+        Refusal::BadDomain(_) => 0,
+        Refusal::PackageInWorld(_) => 0,
+        Refusal::NoName(_) => 0,
+        Refusal::Unmatched(_) => 0,
+        Refusal::Outside(_) => 0,
+        Refusal::Full(_) => 0,
+        Refusal::TooLong => 0,
+        Refusal::BadTable(_) => 0,
+        Refusal::NoRoom(_) => 0,
+        Refusal::TooManyBytes(_) => 0,
+        Refusal::TenthByte(_) => 0,
+        Refusal::AboveU32(_) => 0,
+        Refusal::NotStrict(_) => 0,
+    }
+}
+
+// A sum, or the largest number where it leaves 64 bits.
+fn add(by: usize, at: usize) -> usize
+    ensures { λ r. ⌜ r ≡ further by at ⌝ }
+{
+    if usize::MAX - by < at {
+        return usize::MAX;
+    }
+    by + at
+}
+
+// A refusal of a part that starts at `by`: its offset from where the whole starts. A place that is no offset stays.
+pub fn moved(by: usize, r: Refusal) -> Refusal
+    ensures { λ m. ⌜ m ≡ movedOn by r ⌝ }
+{
+    match r {
+        Refusal::UnexpectedEof(at) => Refusal::UnexpectedEof(add(by, at)),
+        Refusal::BadMagic(at) => Refusal::BadMagic(add(by, at)),
+        Refusal::BadUtf8(at) => Refusal::BadUtf8(add(by, at)),
+        Refusal::MalformedSection(kind, at) => Refusal::MalformedSection(kind, add(by, at)),
+        Refusal::Directive(line) => Refusal::Directive(line),
+        Refusal::BadDefault(line) => Refusal::BadDefault(line),
+        Refusal::BadDomain(line) => Refusal::BadDomain(line),
+        Refusal::PackageInWorld(line) => Refusal::PackageInWorld(line),
+        Refusal::NoName(line) => Refusal::NoName(line),
+        Refusal::Unmatched(line) => Refusal::Unmatched(line),
+        Refusal::Outside(line) => Refusal::Outside(line),
+        Refusal::Full(table) => Refusal::Full(table),
+        Refusal::TooLong => Refusal::TooLong,
+        Refusal::BadTable(row) => Refusal::BadTable(row),
+        Refusal::NoRoom(needed) => Refusal::NoRoom(needed),
+        Refusal::TooManyBytes(at) => Refusal::TooManyBytes(add(by, at)),
+        Refusal::TenthByte(at) => Refusal::TenthByte(add(by, at)),
+        Refusal::AboveU32(at) => Refusal::AboveU32(add(by, at)),
+        Refusal::NotStrict(rule) => Refusal::NotStrict(rule),
     }
 }
 

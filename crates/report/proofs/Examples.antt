@@ -2,7 +2,6 @@
 use mathlib.Core.Path.{_≡_, refl}
 use mathlib.Core.List.{List, [], _∷_}
 use Rattle.report.specs.Decimal.{digits, decimalOf}
-use Rattle.report.specs.Escape.{shownPlain, shown, escaped}
 use Rattle.report.specs.Texts.{refusedText}
 
 zero-is : decimalOf 0 ≡ 48 ∷ []
@@ -13,11 +12,6 @@ zero-is = refl
 many-are : decimalOf 65536 ≡ 54 ∷ 53 ∷ 53 ∷ 51 ∷ 54 ∷ []
 unfolding decimalOf digits
 many-are = refl
-
--- a, LF, backslash, 0xff
-name-is : escaped (97 ∷ 10 ∷ 92 ∷ 255 ∷ []) ≡ 97 ∷ 92 ∷ 120 ∷ 48 ∷ 97 ∷ 92 ∷ 120 ∷ 53 ∷ 99 ∷ 92 ∷ 120 ∷ 102 ∷ 102 ∷ []
-unfolding shownPlain shown escaped
-name-is = refl
 
 -- refused 14 at 0
 too-long-is : refusedText 14 0 ≡ 114 ∷ 101 ∷ 102 ∷ 117 ∷ 115 ∷ 101 ∷ 100 ∷ 32 ∷ 49 ∷ 52 ∷ 32 ∷ 97 ∷ 116 ∷ 32 ∷ 48 ∷ 10 ∷ []

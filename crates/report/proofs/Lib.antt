@@ -1,9 +1,7 @@
--- Laws that the proofs cite, and what they say of a name that is shown.
+-- Laws that the proofs cite.
 pub mod Lines
 pub mod Decimals
 pub mod Short
-pub mod Escapes
+pub mod Printing
 pub mod Telling
-pub mod Reasons
-pub mod Shown
 pub mod Examples

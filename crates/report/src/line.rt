@@ -1,9 +1,7 @@
 // A short line by value, and what it is put together from.
-use refusal::Slug;
 ghost use mathlib.Core.Path.{_≡_};
 ghost use mathlib.Core.List.{_∷_, []};
 ghost use Prim.Native.Nat.{_+_, _<_};
-ghost use Rattle.table.specs.Table.{rangeOf};
 ghost use Rattle.report.specs.Line.{empty, addByte, added};
 ghost use Rattle.report.specs.Decimal.{decimalOf};
 
@@ -50,13 +48,6 @@ pub(crate) fn begin(bytes: &[u8]) -> Line
         },
         bytes,
     )
-}
-
-pub(crate) fn add_slug(l: Line, word: Slug) -> Line
-    ensures { λ r. ⌜ r ≡ added l (rangeOf (word .bytes) 0 (word .len)) ⌝ }
-{
-    let bytes = word.bytes;
-    add(l, table::range(&bytes, 0, word.len))
 }
 
 fn add_digit(l: Line, d: usize) -> Line

@@ -10,7 +10,7 @@ use borrow.Author.Tests.{lt-leb, le-leb, leb-true}
 use lib.Dec.{leb}
 use lib.ListN.{length, getD, replicate, length-map, List·getD-append}
 use Rattle.refusal.specs.Pick.{pick}
-use Rattle.refusal.specs.Said.{Said, accepted, refused, follow}
+use Rattle.refusal.specs.Said.{Said, accepted, refused, follow, spot, Place}
 use Rattle.refusal.proofs.Following.{never}
 use Rattle.table.specs.Table.{laid, putRow, rangeOf, rowsOf}
 use Rattle.table.specs.Shape.{width, cellIn}
@@ -69,7 +69,7 @@ domains-listed of n l rows e =
 
 -- ---- what the sort said
 module _ (s worlds : List ℕ) (n5 : ℕ) (references : List ℕ) (n6 : ℕ) where
-  pub manifest-bad : (room : ℕ) {m p : ℕ} → manifestTested s worlds n5 references n6 ≡ refused m p
+  pub manifest-bad : (room : ℕ) {m : ℕ} {p : Place} → manifestTested s worlds n5 references n6 ≡ refused m p
       → manifestRows s worlds n5 references n6 room ≡ refused m p
   unfolding manifestRows follow
   manifest-bad room e = rw e
@@ -81,7 +81,7 @@ module _ (s worlds : List ℕ) (n5 : ℕ) (references : List ℕ) (n6 : ℕ) whe
     listed room = rw (good, is)
 
     pub full-rows : (domains : List ℕ) → r ≡ Full
-        → manifestRows s worlds n5 references n6 (roomOf (length domains) (length rows)) ≡ refused 13 7
+        → manifestRows s worlds n5 references n6 (roomOf (length domains) (length rows)) ≡ refused 13 (spot 7)
     unfolding fitted
     full-rows domains e =
         let f : length rows < length (sortedRows s s references k n6) =
@@ -95,7 +95,7 @@ module _ (s worlds : List ℕ) (n5 : ℕ) (references : List ℕ) (n6 : ℕ) whe
       counted = by (leb (length (sortedRows s s references k n6)) (length rows)) refl (sym (ap (saidSorted 7) e) ∙ sorts .answer-is 7)
         where
           by : (b : Bool) → leb (length (sortedRows s s references k n6)) (length rows) ≡ b
-              → accepted n ≡ pick b (accepted (length (sortedRows s s references k n6))) (refused 13 7)
+              → accepted n ≡ pick b (accepted (length (sortedRows s s references k n6))) (refused 13 (spot 7))
               → (n ≡ length (sortedRows s s references k n6)) × (length (sortedRows s s references k n6) ≤ length rows)
           by true q f = (cc, leb-true (length (sortedRows s s references k n6)) (length rows) q)
           by false q f = absurd (never (sym f))
@@ -104,7 +104,7 @@ module _ (s worlds : List ℕ) (n5 : ℕ) (references : List ℕ) (n6 : ℕ) whe
       in-column = sorts .table-is ∙ ap (laid (length rows)) (fitting-room 7 (length rows) (sortedRows s s references k n6) (counted .1))
 
       pub over-rows : (domains : List ℕ) {room : ℕ} → room ≡ roomOf (length domains) (length rows) → room < n
-          → manifestRows s worlds n5 references n6 (roomOf (length domains) (length rows)) ≡ refused 13 7
+          → manifestRows s worlds n5 references n6 (roomOf (length domains) (length rows)) ≡ refused 13 (spot 7)
       unfolding fitted
       over-rows domains q h =
           listed (roomOf (length domains) (length rows))

@@ -8,7 +8,7 @@ use native.Mathlib.Numerals.{add-one}
 use native.Mathlib.Omega.{arith}
 use borrow.Author.Tests.{le-leb, lt-leb}
 use lib.ListN.{length, length-append, length-map}
-use Rattle.refusal.specs.Said.{Said, accepted, refused, follow}
+use Rattle.refusal.specs.Said.{Said, accepted, refused, follow, spot, Place}
 use Rattle.table.specs.Table.{cells, laid, putRow, capacityOf, rangeOf}
 use Rattle.table.specs.Shape.{capacityIn, cellIn}
 use Rattle.table.specs.Listing.{fitted}
@@ -106,7 +106,8 @@ module _ {of : ℕ → ℕ} {good : ℕ → Bool} {n nd nr : ℕ} {domains rows 
       record { count = f .count ∙ ap length e; in-domains = rw (← e, ← p) (f .in-domains); in-rows = rw (← e, ← q) (f .in-rows) }
 
 -- ---- what is told of table 7
-pub requires-stop : {of : ℕ → ℕ} {x : Said (List ℕ)} {domains domains1 rows rows1 : List ℕ} {m p : ℕ} {a : Said ℕ} → x ≡ refused m p
+pub requires-stop : {of : ℕ → ℕ} {x : Said (List ℕ)} {domains domains1 rows rows1 : List ℕ} {m : ℕ} {p : Place} {a : Said ℕ}
+    → x ≡ refused m p
     → a ≡ refused m p → domains1 ≡ laid (length domains) [] → rows1 ≡ laid (length rows) []
     → Requires of x domains domains1 rows rows1 a
 unfolding follow
@@ -118,7 +119,7 @@ room-is nd nr p q = omega (arith, p, q, div-one nd, div-one nr)
 
 module _ {of : ℕ → ℕ} {l domains domains1 rows rows1 : List ℕ} {found : ℕ} (f : Fills of l domains domains1 rows rows1 found)
     {room : ℕ} (is : room ≡ roomOf (length domains) (length rows)) where
-  pub fills-full : room < found → fitted 7 (roomOf (length domains) (length rows)) l ≡ refused 13 7
+  pub fills-full : room < found → fitted 7 (roomOf (length domains) (length rows)) l ≡ refused 13 (spot 7)
   unfolding fitted
   fills-full h = rw (lt-leb (length l) (roomOf (length domains) (length rows)) (omega (arith, is, f .count)))
 

@@ -1,8 +1,4 @@
 // The files that the arguments name.
-use crate::tell::print_written;
-use refusal::Written;
-use report::escape::escape;
-use report::escape::frame;
 ghost use Prim.Native.Nat.{_≤_};
 ghost use lib.ListN.{length};
 
@@ -11,28 +7,29 @@ pub(crate) struct Input {
     pub len: usize,
 }
 
-// A file that an argument names, to its end or until the buffer is full. One that cannot be read is said on standard error.
-pub(crate) fn read_argument(i: usize, buffer: &mut [u8]) -> Input
+// A file that an argument names, to its end or until the buffer is full. One that cannot be read is said on standard error by what it is,
+// as its path may hold any bytes.
+pub(crate) fn read_argument(what: &[u8], i: usize, buffer: &mut [u8]) -> Input
     ensures { λ r. ⌜ r .len ≤ length (now (buffer .exit)) ⌝ }
 {
     let mut path = io::buffer();
     let n = os::arg(i, &mut path);
     if os::errno() != 0 {
-        os::fail(b"argument");
+        os::fail(what);
         return Input {
             failed: true,
             len: 0,
         };
     }
-    read_file(&path[..n], buffer)
+    read_file(what, &path[..n], buffer)
 }
 
-fn read_file(path: &[u8], buffer: &mut [u8]) -> Input
+fn read_file(what: &[u8], path: &[u8], buffer: &mut [u8]) -> Input
     ensures { λ r. ⌜ r .len ≤ length (now (buffer .exit)) ⌝ }
 {
     let fd = os::open_read(path);
     if fd < 0 {
-        say_unreadable(path);
+        os::fail(what);
         return Input {
             failed: true,
             len: 0,
@@ -40,7 +37,7 @@ fn read_file(path: &[u8], buffer: &mut [u8]) -> Input
     }
     let input = read_all(fd, buffer);
     if input.failed {
-        say_unreadable(path);
+        os::fail(what);
     }
     libc::close(fd);
     input
@@ -72,21 +69,4 @@ fn read_all(fd: i32, buffer: &mut [u8]) -> Input
         failed: false,
         len: n,
     }
-}
-
-fn say_unreadable(path: &[u8]) {
-    let mut out = [0u8; 16384];
-    match escape(path, &mut out) {
-        Written::Bytes(n) => os::fail(table::range(&out, 0, n)),
-        Written::Refused(_) => os::fail(b"a file"),
-    }
-}
-
-// What an argument is, and its path.
-pub(crate) fn name_file(what: &[u8], i: usize) {
-    let mut path = io::buffer();
-    let n = os::arg(i, &mut path);
-    let mut out = [0u8; 17000];
-    let written = frame(what, &path[..n], b"\n", &mut out);
-    print_written(written, &out);
 }

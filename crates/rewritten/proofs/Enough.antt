@@ -9,7 +9,7 @@ use lib.ListN.{length}
 use borrow.Author.Tests.{lt-ltb, le-ltb, ltb-true, ltb-false}
 use Rattle.refusal.specs.Pick.{pick}
 use Rattle.refusal.specs.Sizes.{textLimit}
-use Rattle.refusal.specs.Said.{Said, accepted, refused, refusedBy, follow}
+use Rattle.refusal.specs.Said.{Said, accepted, refused, refusedBy, follow, offset, spot, Place, numberAt}
 use Rattle.refusal.specs.declared.Refusal.{Refusal}
 use Rattle.refusal.proofs.Following.{never}
 use Rattle.text.specs.Find.{begins}
@@ -25,49 +25,59 @@ use Rattle.output.specs.Bytes.{roomFor}
 use Rattle.report.specs.Decimal.{decimalOf, digits}
 use Rattle.report.specs.Words.{refusedW}
 use Rattle.report.specs.Texts.{refusedText}
+use Rattle.report.specs.Prints.{Prints, wholeIn}
 use Rattle.report.proofs.Short.{refused-short}
+use Rattle.report.proofs.Printing.{within}
 use Rattle.policy_text.specs.Writer.{form, formLines, unlines, nameLine, written}
 use Rattle.policy_text.proofs.Rewrite.{written-read}
-use Rattle.rewritten.specs.Printed.{fitting, told, toldIn, printedOf, printedIn, enough, Prints}
+use Rattle.rewritten.specs.Printed.{told, toldIn, printedOf, printedIn, enough}
 use Rattle.rewritten.specs.Claims.{Printing}
 use Rattle.rewritten.proofs.Long.{fault-small, all-lines, whole-short, longer-by-half, rewritten-most}
-use Rattle.rewritten.proofs.Telling.{within}
 
 -- ---- where a text is refused: a number of the table, and a line or a byte of a text
-record Placed (n p : ℕ) : Type 0 where
+record Placed (n : ℕ) (p : Place) : Type 0 where
   number : n ≤ 14
-  place : p ≤ 65537
+  place : numberAt p ≤ 65537
 
-run-placed : (n : ℕ) (v : Policy) (ps : List Piece) {k q : ℕ} → n + length ps ≤ 65538 → run obey n v ps ≡ refused k q → Placed k q
+run-placed : (n : ℕ) (v : Policy) (ps : List Piece) {k : ℕ} {q : Place} → n + length ps ≤ 65538 → run obey n v ps ≡ refused k q → Placed k q
 unfolding run
 run-placed n v [] h e = absurd (never (sym e))
 run-placed n v (p ∷ ps) {k} {q} h e = by (fault (policyDirective p)) refl (run-placed (n + 1) (obey (policyDirective p) v) ps (omega arith))
   where
-    by : (f : ℕ) → fault (policyDirective p) ≡ f → (run obey (n + 1) (obey (policyDirective p) v) ps ≡ refused k q → Placed k q) → Placed k q
+    by : (f : ℕ) → fault (policyDirective p) ≡ f → (run obey (n + 1) (obey (policyDirective p) v) ps ≡ refused k q → Placed k q)
+        → Placed k q
     by zero z ih = ih (rw (z, run) at e)
     by (suc m) z ih =
-        let b : refused (suc m) n ≡ refused k q = rw (z, run) at e in
+        let b : refused (suc m) (spot n) ≡ refused k q = rw (z, run) at e in
         let i : suc m ≡ k = cc in
-        let j : n ≡ q = cc in
-        record { number = omega (arith, fault-small p, z, i); place = omega (arith, j) }
+        let j : spot n ≡ q = cc in
+        record { number = omega (arith, fault-small p, z, i); place = omega (arith, ap numberAt j) }
 
-whole-placed : (s : List ℕ) {n p : ℕ} → wholeText s ≡ refused n p → Placed n p
+whole-placed : (s : List ℕ) {n : ℕ} {p : Place} → wholeText s ≡ refused n p → Placed n p
 unfolding wholeText
 whole-placed s {n} {p} e = by (ltb textLimit (length s)) refl (ltb (upTo s) (length s)) refl e
   where
     by : (t : Bool) → ltb textLimit (length s) ≡ t → (u : Bool) → ltb (upTo s) (length s) ≡ u
-        → _≡_ {A = Said (Unit {0})} (pick t (refused 14 0) (pick u (refused 4 (upTo s)) (accepted tt))) (refused n p) → Placed n p
-    by true q u r e = let i : 14 ≡ n = cc in let j : 0 ≡ p = cc in record { number = omega (arith, i); place = omega (arith, j) }
+        → _≡_ {A = Said (Unit {0})} (pick t (refused 14 (spot 0)) (pick u (refused 4 (offset (upTo s))) (accepted tt))) (refused n p)
+        → Placed n p
+    by true q u r e =
+        let i : 14 ≡ n = cc in
+        let j : spot 0 ≡ p = cc in
+        record { number = omega (arith, i); place = omega (arith, ap numberAt j) }
     by false q true r e =
         let i : 4 ≡ n = cc in
-        let j : upTo s ≡ p = cc in
-        record { number = omega (arith, i); place = omega (arith, j, ltb-false textLimit (length s) q, ltb-true (upTo s) (length s) r) }
+        let j : offset (upTo s) ≡ p = cc in
+        record {
+          number = omega (arith, i);
+          place = omega (arith, ap numberAt j, ltb-false textLimit (length s) q, ltb-true (upTo s) (length s) r);
+        }
     by false q false r e = absurd (never (sym e))
 
-unit-free : {m k n p : ℕ} → _≡_ {A = Said Policy} (refused m k) (refused n p) → _≡_ {A = Said (Unit {0})} (refused m k) (refused n p)
-unit-free {m} {k} {n} {p} e = let i : m ≡ n = cc in let j : k ≡ p = cc in rw (i, j)
+unit-free : {m n : ℕ} {k p : Place} → _≡_ {A = Said Policy} (refused m k) (refused n p)
+    → _≡_ {A = Said (Unit {0})} (refused m k) (refused n p)
+unit-free {m} {n} {k} {p} e = let i : m ≡ n = cc in let j : k ≡ p = cc in rw (i, j)
 
-read-placed : (s : List ℕ) {n p : ℕ} → readPolicy s ≡ refused n p → Placed n p
+read-placed : (s : List ℕ) {n : ℕ} {p : Place} → readPolicy s ≡ refused n p → Placed n p
 unfolding readPolicy readWith follow linesOf
 read-placed s {n} {p} e = by (wholeText s) refl e
   where
@@ -76,10 +86,10 @@ read-placed s {n} {p} e = by (wholeText s) refl e
         run-placed 1 zeroPolicy (linesFrom 0 0 s) (omega (arith, whole-short s q, all-lines (length s) 0 s (omega arith) .1)) e
     by (refused m k) q e = whole-placed s (q ∙ unit-free e)
 
-refused-most : (s : List ℕ) {n p : ℕ} → readPolicy s ≡ refused n p → length (refusedText n p) ≤ 53
+refused-most : (s : List ℕ) {n : ℕ} {p : Place} → readPolicy s ≡ refused n p → length (refusedText n (numberAt p)) ≤ 53
 refused-most s {n} {p} e =
     let q = read-placed s e in
-    refused-short n p (omega (arith, q .number)) (omega (arith, q .place))
+    refused-short n (numberAt p) (omega (arith, q .number)) (omega (arith, q .place))
 
 -- ---- into a buffer that is long enough, what is printed is a function of the input alone
 pub enough-room : (s : List ℕ) → length (printedOf s) ≤ enough
@@ -91,7 +101,7 @@ enough-room s = by (readPolicy s) refl
     by (refused n p) e = omega (arith, refused-most s e)
 
 pub same-in-room : (s : List ℕ) (room : ℕ) → enough ≤ room → printedIn room s ≡ printedOf s
-unfolding printedIn printedOf follow roomFor fitting
+unfolding printedIn printedOf follow roomFor wholeIn
 same-in-room s room h = by (readPolicy s) refl
   where
     by : (o : Said Policy) → readPolicy s ≡ o
@@ -99,7 +109,7 @@ same-in-room s room h = by (readPolicy s) refl
     by (accepted p) e =
         let l = rewritten-most s p e in
         rw (written-read s p e room, le-ltb room (length (form (says s p))) (omega arith))
-    by (refused n p) e = rw (le-ltb room (length (refusedText n p)) (omega (arith, refused-most s e)))
+    by (refused n p) e = rw (le-ltb room (length (refusedText n (numberAt p))) (omega (arith, refused-most s e)))
 
 -- the three promises of `rewrite_text`, from the first
 pub promised : (s d : List ℕ) {r : ℕ} {x : List ℕ} → Prints (printedIn (length d) s) d r x
@@ -123,7 +133,7 @@ policy-begins : (s : List ℕ) (p : Policy) → readPolicy s ≡ accepted p → 
 unfolding printedOf follow form formLines unlines nameLine begins
 policy-begins s p e = rw e
 
-refusal-begins : (s : List ℕ) (n p : ℕ) → readPolicy s ≡ refused n p → begins refusedW (printedOf s) ≡ true
+refusal-begins : (s : List ℕ) (n : ℕ) (p : Place) → readPolicy s ≡ refused n p → begins refusedW (printedOf s) ≡ true
 unfolding printedOf follow refusedText begins
 refusal-begins s n p e = rw e
 

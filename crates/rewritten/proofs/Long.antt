@@ -13,7 +13,7 @@ use lib.ListN.{length, take, drop, set, length-append, length-drop, length-take}
 use borrow.Author.Tests.{ltb-true, ltb-false}
 use Rattle.refusal.specs.Pick.{pick}
 use Rattle.refusal.specs.Sizes.{textLimit}
-use Rattle.refusal.specs.Said.{Said, accepted, refused}
+use Rattle.refusal.specs.Said.{Said, accepted, refused, offset, spot}
 use Rattle.refusal.proofs.Following.{never, one-value, followed}
 use Rattle.text.specs.Find.{indexOf, begins, same}
 use Rattle.text.specs.Lines.{endBy, crBefore, lineLen, lineStep}
@@ -359,7 +359,8 @@ unfolding wholeText
 whole-short s e = by (ltb textLimit (length s)) refl e
   where
     by : (t : Bool) → ltb textLimit (length s) ≡ t
-        → _≡_ {A = Said (Unit {0})} (pick t (refused 14 0) (pick (ltb (upTo s) (length s)) (refused 4 (upTo s)) (accepted tt))) (accepted tt)
+        → _≡_ {A = Said (Unit {0})}
+        (pick t (refused 14 (spot 0)) (pick (ltb (upTo s) (length s)) (refused 4 (offset (upTo s))) (accepted tt))) (accepted tt)
         → length s ≤ textLimit
     by true q e = absurd (never e)
     by false q e = ltb-false textLimit (length s) q

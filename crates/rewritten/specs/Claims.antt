@@ -4,7 +4,7 @@ use mathlib.Core.Bool.{true}
 use mathlib.Core.List.{List, _∷_, []}
 use Prim.Native.Nat.{ℕ, _+_, _*_, _≤_, _<_}
 use lib.ListN.{length}
-use Rattle.refusal.specs.Said.{accepted, refused}
+use Rattle.refusal.specs.Said.{accepted, refused, Place}
 use Rattle.refusal.specs.Sizes.{textLimit}
 use Rattle.text.specs.Find.{begins}
 use Rattle.policy.specs.declared.Policy.{Policy}
@@ -23,7 +23,7 @@ pub record Printing : Type 0 where
   pub same-in-room : (s : List ℕ) (room : ℕ) → enough ≤ room → printedIn room s ≡ printedOf s
   -- A policy begins with `policy `, a refusal with `refused `: the two are told apart by their first byte.
   pub policy-begins : (s : List ℕ) (p : Policy) → readPolicy s ≡ accepted p → begins policyW (printedOf s) ≡ true
-  pub refusal-begins : (s : List ℕ) (n p : ℕ) → readPolicy s ≡ refused n p → begins refusedW (printedOf s) ≡ true
+  pub refusal-begins : (s : List ℕ) (n : ℕ) (p : Place) → readPolicy s ≡ refused n p → begins refusedW (printedOf s) ≡ true
   -- A text of more than 65,536 bytes: `refused 14 at 0`, LF.
   pub too-long : (s : List ℕ) → textLimit < length s
       → printedOf s ≡ 114 ∷ 101 ∷ 102 ∷ 117 ∷ 115 ∷ 101 ∷ 100 ∷ 32 ∷ 49 ∷ 52 ∷ 32 ∷ 97 ∷ 116 ∷ 32 ∷ 48 ∷ 10 ∷ []

@@ -7,12 +7,13 @@ ghost use Prim.Native.Nat.{_≤_};
 ghost use lib.ListN.{length};
 ghost use Rattle.refusal.specs.Said.{numberOf, placeOf};
 ghost use Rattle.policy_text.specs.Writer.{written};
+ghost use Rattle.report.specs.Prints.{Prints, wholeIn};
 ghost use Rattle.report.specs.Texts.{refusedText};
-ghost use Rattle.rewritten.specs.Printed.{Prints, fitting, toldIn, printedIn, printedOf, enough};
+ghost use Rattle.rewritten.specs.Printed.{toldIn, printedIn, printedOf, enough};
 
 // The line of a refusal, where there is room for it.
 fn put_refusal(why: Refusal, out: &mut [u8]) -> usize
-    ensures { λ r. ⌜ Prints (fitting (length (now (out .entry))) (refusedText (numberOf why) (placeOf why))) (now (out .entry)) r
+    ensures { λ r. ⌜ Prints (wholeIn (length (now (out .entry))) (refusedText (numberOf why) (placeOf why))) (now (out .entry)) r
         (now (out .exit)) ⌝ }
 {
     let line = report::refused_line(refusal::number(why) as usize, refusal::place(why));

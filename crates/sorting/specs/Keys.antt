@@ -9,7 +9,7 @@ use Rattle.refusal.specs.Pick.{pick}
 use Rattle.text.specs.Order.{cmpNat, andThen, cmpBytes}
 use Rattle.text.specs.declared.order.Order.{Order}
 use Rattle.text.specs.declared.order.Order.the-variants.{Equal}
-use Rattle.refusal.specs.Said.{Said, accepted, refused}
+use Rattle.refusal.specs.Said.{Said, accepted, refused, spot}
 use Rattle.table.specs.Table.{laid, cellOf, rangeOf}
 use Rattle.table.specs.Entries.{finished, fitting}
 use Rattle.sorting.specs.Sort.{sort, selected, upFrom}
@@ -82,7 +82,7 @@ module _ (first second rows : List ℕ) (k : Keys) where
 -- the answer in the paper's words, for a table with the number tn
 abbrev pub saidSorted : ℕ → Sorted → Said ℕ
 saidSorted tn (Rows n) = accepted n
-saidSorted tn Full = refused 13 tn
+saidSorted tn Full = refused 13 (spot tn)
 
 -- a list in a table that is lent: all of it, then zeros; or 13, whatever the table's number, and zeros throughout
 pub record Sorts (l before after : List ℕ) (r : Sorted) : Type 0 where

@@ -8,7 +8,7 @@ use native.Mathlib.Omega.{arith}
 use lib.Dec.{ltb}
 use lib.ListN.{getD}
 use borrow.Author.Tests.{ltb-true}
-use Rattle.refusal.specs.Said.{accepted, follow, onward}
+use Rattle.refusal.specs.Said.{accepted, follow, onward, relocated}
 use Rattle.refusal.proofs.Following.{one-value}
 use Rattle.text.specs.Chars.{codeBy, codeOf, moreBy, more, charsFrom, chars}
 use Rattle.text.specs.Find.{seek, begins, same, indexOf}
@@ -59,11 +59,11 @@ use Rattle.standin.proofs.Theorems.{replacement}
 use Rattle.standin.proofs.Files.{files-told}
 
 -- each number is a byte's
-small : List ℕ → Bool
+unfoldable pub small : List ℕ → Bool
 small [] = true
 small (x ∷ l) = ltb x 256 && small l
 
-small-bytes : (l : List ℕ) → small l ≡ true → Bytes l
+pub small-bytes : (l : List ℕ) → small l ≡ true → Bytes l
 unfolding small
 small-bytes [] h i = omega arith
 small-bytes (x ∷ l) h i = by (ltb x 256) refl (small-bytes l) i h
@@ -107,8 +107,8 @@ readWider = readOf 9 (exportedA ∷ exportedB ∷ [])
 reads : (moduleAt approved limits ≡ accepted readApproved) × (moduleAt wider limits ≡ accepted readWider)
     × (moduleAt elsewhere limits ≡ accepted readApproved)
 unfolding ulebAt u32At toldAt narrowed onward uN twos grown spent byteAt fixedAt takeAt countedAt Reads.checked nameAt moduleAt headerAt
-    magic same walkFrom walk turnOf sectionAt contentsAt addSection capacityOf noTables importsOf exportsOf entriesFrom importAt exportAt
-    descAt funcAt upTo scan seqLen after followers followIn covers utf8Table follow seek begins indexOf
+    relocated magic same walkFrom walk turnOf sectionAt contentsAt addSection capacityOf noTables importsOf exportsOf entriesFrom
+    importAt exportAt descAt funcAt upTo scan seqLen after followers followIn covers utf8Table follow seek begins indexOf
 reads = (refl, refl, refl)
 
 -- ---- the comparisons
@@ -164,8 +164,8 @@ checked : (checkedOf approved (defaultW ++ allow) ≡ accepted (outcome (policyB
     × (checkedOf approved [] ≡ accepted (outcome (policyBy false) (6 ∷ [])))
 unfolding checkedOf readThen heldTo weighed evaluated domainsTest firstPast moduleRows asked importsTested tested firstFrom importFits
     fitted ulebAt u32At toldAt narrowed onward uN twos grown spent byteAt fixedAt takeAt countedAt Reads.checked nameAt moduleAt headerAt
-    magic same walkFrom walk turnOf sectionAt contentsAt addSection capacityOf noTables importsOf exportsOf entriesFrom importAt exportAt
-    descAt funcAt upTo scan seqLen after followers followIn covers utf8Table follow seek begins indexOf
+    relocated magic same walkFrom walk turnOf sectionAt contentsAt addSection capacityOf noTables importsOf exportsOf entriesFrom
+    importAt exportAt descAt funcAt upTo scan seqLen after followers followIn covers utf8Table follow seek begins indexOf
     laid cells importCells cellOf rangeOf kindIs importDomain pathDomain headOf classedBy Classify.passes preview heads
     readPolicy readWith wholeText run zeroPolicy obey linesOf linesFrom lineLen lineStep crBefore policyDirective policyCore policySpoken
     policyWorded defaulted fault trim trimStart trimEnd startLen endLen chars charsFrom more moreBy codeOf codeBy isWhite whites inSome

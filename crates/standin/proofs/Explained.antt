@@ -10,7 +10,7 @@ use lib.ListN.{length, getD}
 use borrow.Author.Tests.{le-leb, lt-ltb, leb-true}
 use Rattle.refusal.specs.Pick.{pick}
 use Rattle.refusal.specs.Sizes.{fileLimit}
-use Rattle.refusal.specs.Said.{Said, accepted, refused, follow}
+use Rattle.refusal.specs.Said.{Said, accepted, refused, follow, spot}
 use Rattle.refusal.proofs.Following.{never, one-value, followed, follow-goes}
 use Rattle.table.specs.Table.{laid, cells, capacityOf}
 use Rattle.table.specs.Shape.{width, limit, fullCells, cellIn}
@@ -42,7 +42,7 @@ finished-few : {R : Type 0} (tn room : ℕ) (rows : List R) {n : ℕ} → finish
 unfolding finished
 finished-few tn room rows {n} e = by (leb (length rows) room) refl e
   where
-    by : (t : Bool) → leb (length rows) room ≡ t → pick t (accepted (length rows)) (refused 13 tn) ≡ accepted n → length rows ≤ room
+    by : (t : Bool) → leb (length rows) room ≡ t → pick t (accepted (length rows)) (refused 13 (spot tn)) ≡ accepted n → length rows ≤ room
     by true q f = leb-true (length rows) room q
     by false q f = absurd (never f)
 
@@ -68,9 +68,9 @@ made b c room8 room9 l e =
     }
   where
     by : (s t : Bool)
-        → pick s (refused 14 0) (pick t (refused 14 0)
+        → pick s (refused 14 (spot 0)) (pick t (refused 14 (spot 0))
         (follow (tablesTested b) (λ u. follow (tablesTested c) (λ v. roomed room8 room9 (lists (viewed b) (viewed c)))))) ≡ accepted l
-        → (pick s (refused 14 0) (pick t (refused 14 0) (follow (tablesTested b) (λ u. tablesTested c))) ≡ accepted tt)
+        → (pick s (refused 14 (spot 0)) (pick t (refused 14 (spot 0)) (follow (tablesTested b) (λ u. tablesTested c))) ≡ accepted tt)
         × (roomed room8 room9 (lists (viewed b) (viewed c)) ≡ accepted l)
     by true t q = absurd (never q)
     by false true q = absurd (never q)

@@ -9,7 +9,7 @@ use lib.ListN.{length}
 use borrow.Author.Tests.{le-ltb}
 use Rattle.refusal.specs.Pick.{pick}
 use Rattle.refusal.specs.Sizes.{fileLimit}
-use Rattle.refusal.specs.Said.{accepted, refused}
+use Rattle.refusal.specs.Said.{accepted, refused, spot}
 use Rattle.refusal.proofs.Following.{never, one-value, followed, follow-goes}
 use Rattle.sorting.specs.Sort.{_∈_}
 use Rattle.wasm.specs.Module.{Sizes, Parsed, moduleAt, moduleOf, countsOf}
@@ -47,7 +47,7 @@ not-long : (f g : List ℕ) (v : Comparison) → comparison f g ≡ accepted v �
 unfolding comparison
 not-long f g v e = by (ltb fileLimit (length f)) (ltb fileLimit (length g)) e
   where
-    by : (s t : Bool) → pick s (refused 14 0) (pick t (refused 14 0) (builds f g)) ≡ accepted v → builds f g ≡ accepted v
+    by : (s t : Bool) → pick s (refused 14 (spot 0)) (pick t (refused 14 (spot 0)) (builds f g)) ≡ accepted v → builds f g ≡ accepted v
     by true t e = absurd (never e)
     by false true e = absurd (never e)
     by false false e = e

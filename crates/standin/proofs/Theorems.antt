@@ -10,7 +10,7 @@ use lib.Dec.{leb, eqb}
 use lib.ListN.{length, length-map}
 use borrow.Author.Tests.{leb-true, leb-false}
 use Rattle.refusal.specs.Pick.{pick, both}
-use Rattle.refusal.specs.Said.{Said, accepted, refused, follow, saidAnswer}
+use Rattle.refusal.specs.Said.{Said, accepted, refused, follow, saidAnswer, spot, Place}
 use Rattle.refusal.specs.declared.Answer.{Answer}
 use Rattle.refusal.proofs.Following.{never, one-value, follow-goes, follow-stops}
 use Rattle.table.specs.Entries.{finished}
@@ -49,8 +49,8 @@ use Rattle.standin.proofs.Domains.{small, meets-allows, allows-meets}
 -- the lists, or 13 at 8 or at 9
 data Roomed (room8 room9 : ℕ) (l : Lists) : Type 0 where
   room : roomed room8 room9 l ≡ accepted l → length (l .exports) ≤ room8 → length (l .needs) ≤ room9 → Roomed room8 room9 l
-  full8 : roomed room8 room9 l ≡ refused 13 8 → room8 < length (l .exports) → Roomed room8 room9 l
-  full9 : roomed room8 room9 l ≡ refused 13 9 → length (l .exports) ≤ room8 → room9 < length (l .needs) → Roomed room8 room9 l
+  full8 : roomed room8 room9 l ≡ refused 13 (spot 8) → room8 < length (l .exports) → Roomed room8 room9 l
+  full9 : roomed room8 room9 l ≡ refused 13 (spot 9) → length (l .exports) ≤ room8 → room9 < length (l .needs) → Roomed room8 room9 l
 
 roomed-as : (room8 room9 : ℕ) (l : Lists) → Roomed room8 room9 l
 roomed-as room8 room9 l = by (leb (length (l .exports)) room8) refl (leb (length (l .needs)) room9) refl
@@ -92,7 +92,7 @@ on-lists : (b c : Build) (room8 room9 : ℕ) {x : Said Lists} → roomed room8 r
     → buildsCompared b c room8 room9 ≡ follow x (λ l. accepted (verdictOn l))
 on-lists b c room8 room9 e = by-lists b c room8 room9 ∙ ap (λ (x : Said Lists). follow x (λ l. accepted (verdictOn l))) e
 
-apart : _≡_ {A = Said Verdict} (refused 13 8) (refused 13 9) → ⊥
+apart : _≡_ {A = Said Verdict} (refused 13 (spot 8)) (refused 13 (spot 9)) → ⊥
 apart e = let z : _≡_ {A = ℕ} 8 9 = cc in omega arith
 
 otherwise : (b c : Build) (room8 room9 : ℕ) → WithRoom b c room8 room9
@@ -209,9 +209,10 @@ roomed-exchanged room8 room9 l =
     (by (length (l .exports)) (length (l .needs)) (leb (length (l .exports)) room8) (leb (length (l .needs)) room9))
   where
     by : (m n : ℕ) (t u : Bool)
-        → follow (pick t (accepted m) (refused 13 8)) (λ x. follow (pick u (accepted n) (refused 13 9)) (λ y. accepted (exchanged l)))
-        ≡ follow (follow (pick t (accepted m) (refused 13 8)) (λ x. follow (pick u (accepted n) (refused 13 9)) (λ y. accepted l)))
-        (λ l. accepted (exchanged l))
+        → follow (pick t (accepted m) (refused 13 (spot 8))) (λ x.
+        follow (pick u (accepted n) (refused 13 (spot 9))) (λ y. accepted (exchanged l)))
+        ≡ follow (follow (pick t (accepted m) (refused 13 (spot 8))) (λ x.
+        follow (pick u (accepted n) (refused 13 (spot 9))) (λ y. accepted l))) (λ l. accepted (exchanged l))
     by m n true true = refl
     by m n true false = refl
     by m n false u = refl
@@ -309,7 +310,7 @@ failSafe =
       comparisons = λ b c room8 room9 n place e lent8 left8 lent9 left9 a h. h .answer-is ∙ sym (follow-stops _ e);
     }
   where
-    evaluation : (n place : ℕ) (r : Evaluation) → EvaluatedAs (refused n place) r → compliant r ≡ true → ⊥
+    evaluation : (n : ℕ) (place : Place) (r : Evaluation) → EvaluatedAs (refused n place) r → compliant r ≡ true → ⊥
     evaluation n place r h k = by (r .answer) (h .answer) k
       where
         by : (a : Answer) → saidAnswer a ≡ refused n place → both (acceptedAs a) (eqb (r .count) 0) ≡ true → ⊥

@@ -6,7 +6,7 @@ use mathlib.Core.Bool.{true}
 use mathlib.Core.List.{List, _∷_}
 use Prim.Native.Nat.{ℕ, _+_, _≤_, _<_}
 use lib.ListN.{length}
-use Rattle.refusal.specs.Said.{Said, accepted, refused, follow}
+use Rattle.refusal.specs.Said.{Said, accepted, refused, follow, spot, Place}
 use Rattle.table.specs.Shape.{limit, capacityIn, cellIn}
 use Rattle.sorting.specs.Sort.{_∈_, Ascending}
 use Rattle.policy.specs.declared.Policy.{Policy}
@@ -50,9 +50,9 @@ pub record WithRoom (b c : Build) (room8 room9 : ℕ) : Type 0 where
   pub same : (buildsCompared b c room8 room9 ≡ buildsCompared b c (limit 8) (limit 9))
       ↔ ((length (exportDiff (view b) (view c)) ≤ room8) × (length (needDiff (view b) (view c)) ≤ room9))
   -- 13 at 8 exactly where the first does not
-  pub full8 : (buildsCompared b c room8 room9 ≡ refused 13 8) ↔ (room8 < length (exportDiff (view b) (view c)))
+  pub full8 : (buildsCompared b c room8 room9 ≡ refused 13 (spot 8)) ↔ (room8 < length (exportDiff (view b) (view c)))
   -- 13 at 9 exactly where the first does, and the second does not
-  pub full9 : (buildsCompared b c room8 room9 ≡ refused 13 9)
+  pub full9 : (buildsCompared b c room8 room9 ≡ refused 13 (spot 9))
       ↔ ((length (exportDiff (view b) (view c)) ≤ room8) × (room9 < length (needDiff (view b) (view c))))
 
 -- two tables with the number t: in the first cell of each of so many rows one has 0 and the other 1, and every other cell is the same
@@ -128,9 +128,9 @@ pub record Explanation : Type 0 where
 -- A refusal is never a pass.
 pub record FailSafe : Type 0 where
   -- A refused evaluation is not compliant.
-  pub evaluation : (n place : ℕ) (r : Evaluation) → EvaluatedAs (refused n place) r → compliant r ≡ true → ⊥
+  pub evaluation : (n : ℕ) (place : Place) (r : Evaluation) → EvaluatedAs (refused n place) r → compliant r ≡ true → ⊥
   -- Where the comparison of any two modules, with any room, is refused, so is every answer that satisfies the promise of
   -- `compare_modules`: it has no verdict.
-  pub comparisons : (b c : Given) (room8 room9 n place : ℕ) → compared b c room8 room9 ≡ refused n place
+  pub comparisons : (b c : Given) (room8 room9 n : ℕ) (place : Place) → compared b c room8 room9 ≡ refused n place
       → (lent8 left8 lent9 left9 : List ℕ) (a : Said Verdict) → Compares (compared b c room8 room9) lent8 left8 lent9 left9 a
       → a ≡ refused n place

@@ -9,10 +9,10 @@ use lib.ListN.{length, length-append}
 use lib.Dec.{eqb, ltb}
 use Rattle.refusal.specs.Pick.{pick}
 use Rattle.refusal.specs.Sizes.{fileLimit}
-use Rattle.refusal.specs.Said.{Said, accepted, refused, refusedBy, follow, Got, got, onward, saidAnswer}
+use Rattle.refusal.specs.Said.{Said, accepted, refused, relocated, refusedBy, follow, Got, got, onward, saidAnswer, spot, Place}
 use Rattle.refusal.specs.declared.Refusal.{Refusal}
 use Rattle.refusal.specs.declared.Answer.{Answer}
-use Rattle.refusal.proofs.Following.{Followed, followed, first-refused, one-value}
+use Rattle.refusal.proofs.Following.{Followed, followed, first-refused, one-value, relocated-got}
 use Rattle.table.specs.Table.{laid, cells}
 use Rattle.table.specs.Shape.{width, limit, capacityIn}
 use Rattle.table.specs.Entries.{entriesFrom}
@@ -29,8 +29,10 @@ use Rattle.wasm.specs.Module.{Tables, Sizes, Inner, Parsed, Lent, Holds, noTabl
 use Rattle.wasm.specs.Module.{contentsAt, addSection, sectionAt, sectionCells, headerAt, moduleAt}
 use Rattle.strict.specs.declared.again.Marks.{Marks}
 use Rattle.strict.specs.Again.{marksAt}
-use Rattle.strict.specs.Rules.{idsOf, kindsOf, exportNames, broken, lowestOf, held, strictAt, ruledBy, judgedBy}
+use Rattle.strict.specs.Rules.{idsOf, kindsOf, exportNames, broken, brokenIn, lowestOf, strictAt, Judged}
+use Rattle.strict.specs.Claims.{Walked}
 use Rattle.strict.proofs.Ruling.{ids-rows, names-rows, kinds-rows}
+use Rattle.strict.proofs.Strictly.{walks-again, clean-strict, broken-refused}
 
 -- ---- the lowest rule
 module _ (a b c d e f g h : Bool) where
@@ -77,19 +79,14 @@ module _ (a b c d e f g h : Bool) where
                 unfolding lowestOf
                 lowest-none q = rw (r1, r2, r3, r4, r5, r6, r7, q)
 
--- ---- the answer that a rule makes
-pub ruled-clean : {r x : ℕ} → r ≡ x → r ≡ 0 → accepted tt ≡ ruledBy x
-unfolding ruledBy
-ruled-clean {r} {x} e q = rw (eq-eqb x 0 (sym e ∙ q))
-
-pub ruled-broken : {r x : ℕ} → r ≡ x → (r ≡ 0 → ⊥) → refused 20 r ≡ ruledBy x
-unfolding ruledBy
-ruled-broken {r} {x} e q = rw (ne-eqb x 0 (λ z. q (e ∙ z)), e)
-
-pub judged-stop : (b : List ℕ) (version : ℕ) (s : List ℕ) (n : ℕ) (e : List ℕ) (k : ℕ) {m p : ℕ} → marksAt b ≡ refused m p
-    → refused m p ≡ judgedBy b version s n e k
-unfolding judgedBy onward
-judged-stop b version s n e k q = rw q
+-- ---- the second walk finds one thing
+pub judged-got : (b : List ℕ) (version : ℕ) (s : List ℕ) (n : ℕ) (e : List ℕ) (k : ℕ) {m : Marks} {d rule : ℕ}
+    → marksAt b ≡ accepted (got m d) → rule ≡ brokenIn b version s n e k m → Judged b version s n e k rule
+judged-got b version s n e k {m} {d} {rule} q r m1 d1 q1 =
+    subst (λ (x : Marks). rule ≡ brokenIn b version s n e k x) (one (one-value (sym q ∙ q1))) r
+  where
+    one : {i j : ℕ} {x y : Marks} → got x i ≡ got y j → x ≡ y
+    one f = cc
 
 -- ---- no more exports than there is room for at the limit
 unfoldable Few : Tables → Type 0
@@ -112,9 +109,9 @@ few-entries {E} read tn room k (suc n) at rows h =
     by : (v : E) (d : ℕ)
         → (length (rows ++ (v ∷ [])) ≤ limit 3 → Gives (Of FewRows) (entriesFrom read tn room n d (rows ++ (v ∷ []))))
         → (t : Bool) → ltb (length rows) room ≡ t
-        → Gives (Of FewRows) (pick t (entriesFrom read tn room n d (rows ++ (v ∷ []))) (refused 13 tn))
+        → Gives (Of FewRows) (pick t (entriesFrom read tn room n d (rows ++ (v ∷ []))) (refused 13 (spot tn)))
     by v d ih true t = ih (omega (arith, ltb-true (length rows) room t, length-append rows (v ∷ [])))
-    by v d ih false t = gives-stop (Of FewRows) 13 tn
+    by v d ih false t = gives-stop (Of FewRows) 13 (spot tn)
 
 few-exports : (s : List ℕ) (base n : ℕ) → Gives (Of FewRows) (exportsOf s base n)
 unfolding exportsOf
@@ -139,9 +136,10 @@ unfolding sectionAt addSection Few FewIn Of Gives
 few-section b z at t h =
     gives-onward (Of Few) (byteAt b at) _ (λ id a e1.
     gives-onward (Of Few) (countedAt b a) _ (λ p next e2.
-    gives-onward (Of Few) (contentsAt id (partBytes b p) (p .from) z t) _ (λ u e e3.
+    gives-onward (Of Few) (relocated (p .from) (contentsAt id (partBytes b p) (p .from) z t)) _ (λ u e e3.
     gives-pick (Of Few) (ltb (length (u .tables .sections)) (capacityIn 1 (z .sections))) _ _
-    (gives-done (Of Few) _ (few-contents id (partBytes b p) (p .from) z t h (got u e) e3)) (gives-stop (Of Few) 13 1))))
+    (gives-done (Of Few) _ (few-contents id (partBytes b p) (p .from) z t h (got u e) (relocated-got (p .from) _ e3)))
+    (gives-stop (Of Few) 13 (spot 1)))))
 
 unfoldable FewRead : Parsed → Type 0
 FewRead m = Few (m .tables)
@@ -149,19 +147,18 @@ FewRead m = Few (m .tables)
 few-module : (b : List ℕ) (z : Sizes) → Gives FewRead (moduleAt b z)
 unfolding moduleAt FewRead Few noTables Of Gives
 few-module b z =
-    gives-pick FewRead (ltb fileLimit (length b)) _ _ (gives-stop FewRead 14 0)
+    gives-pick FewRead (ltb fileLimit (length b)) _ _ (gives-stop FewRead 14 (spot 0))
     (gives-onward FewRead (headerAt b) _ (λ v c e1.
     gives-onward FewRead (walkFrom (sectionAt b z) b c noTables) _ (λ t d e2.
     gives-done FewRead _ (gives-from Few (sectionAt b z) (few-section b z) b c noTables (omega arith) (got t d) e2))))
 
 -- ---- the rules of the rows that the tables hold
 module _ (b : List ℕ) (z : Sizes) where
-  judged-rows : (p : Parsed) (s e : List ℕ) → s ≡ laid (z .sections) (cells sectionCells (p .tables .sections))
-      → e ≡ laid (z .exports) (cells exportCells (p .tables .exports))
-      → judgedBy b (p .version) s (length (p .tables .sections)) e (length (p .tables .exports))
-      ≡ onward (marksAt b) (λ k d. ruledBy (broken b p k))
-  unfolding judgedBy broken idsOf kindsOf exportNames
-  judged-rows p s e hs he =
+  broken-rows : (p : Parsed) (s e : List ℕ) → s ≡ laid (z .sections) (cells sectionCells (p .tables .sections))
+      → e ≡ laid (z .exports) (cells exportCells (p .tables .exports)) → (k : Marks)
+      → brokenIn b (p .version) s (length (p .tables .sections)) e (length (p .tables .exports)) k ≡ broken b p k
+  unfolding broken idsOf kindsOf exportNames
+  broken-rows p s e hs he k =
       rw (
         hs,
         he,
@@ -170,26 +167,11 @@ module _ (b : List ℕ) (z : Sizes) where
         kinds-rows b (z .exports) (p .tables .exports),
       )
 
-  judged-as : (p : Parsed) (s e : List ℕ) {m : Module} → s ≡ laid (z .sections) (cells sectionCells (p .tables .sections))
-      → e ≡ laid (z .exports) (cells exportCells (p .tables .exports)) → moduleOf (length b) p ≡ m
-      → judgedBy b (m .version) s (m .sections) e (m .exports) ≡ onward (marksAt b) (λ k d. ruledBy (broken b p k))
+  broken-as : (p : Parsed) (s e : List ℕ) {m : Module} → s ≡ laid (z .sections) (cells sectionCells (p .tables .sections))
+      → e ≡ laid (z .exports) (cells exportCells (p .tables .exports)) → moduleOf (length b) p ≡ m → (k : Marks)
+      → brokenIn b (m .version) s (m .sections) e (m .exports) k ≡ broken b p k
   unfolding moduleOf countsOf
-  judged-as p s e hs he q = rw (sym q) (judged-rows p s e hs he)
-
-  swap : (x : Said (Got Marks)) (f : Marks → ℕ) (p : Parsed)
-      → follow (onward x (λ k d. ruledBy (f k))) (λ u. accepted p) ≡ onward x (λ k d. pick (eqb (f k) 0) (accepted p) (refused 20 (f k)))
-  unfolding follow onward ruledBy
-  swap (accepted (got k d)) f p = go (eqb (f k) 0) where
-    go : (t : Bool) → follow {X = Unit {0}} (pick t (accepted tt) (refused 20 (f k))) (λ u. accepted p)
-        ≡ pick t (accepted p) (refused 20 (f k))
-    go true = refl
-    go false = refl
-  swap (refused n q) f p = refl
-
-  pub strict-is : (p : Parsed) → moduleAt b z ≡ accepted p
-      → strictAt b z ≡ follow (onward (marksAt b) (λ k d. ruledBy (broken b p k))) (λ u. accepted p)
-  unfolding strictAt held follow
-  strict-is p e = rw e (sym (swap (marksAt b) (broken b p) p))
+  broken-as p s e hs he q k = rw (sym q) (broken-rows p s e hs he k)
 
   module _ {l : Lent} {r : ModuleRead} (h : ModuleIs (length b) z (moduleAt b z) l (saidModule r)) where
     pub strict-stops : {why : Refusal} → r ≡ ModuleRead.Refused why → ModuleIs (length b) z (strictAt b z) l (saidModule r)
@@ -212,23 +194,25 @@ module _ (b : List ℕ) (z : Sizes) where
       few-counted =
           rw (sym (one-value (found .then))) (few-module b z (found .what) (found .first))
 
-      judged-is : judgedBy b (m .version) (l .sections) (m .sections) (l .exports) (m .exports)
-          ≡ onward (marksAt b) (λ k d. ruledBy (broken b (found .what) k))
-      judged-is = judged-as (found .what) (l .sections) (l .exports) (rows .sections-are) (rows .exports-are) (one-value (found .then))
+      walked : (k : Marks) × Walked b z (found .what) k
+      walked = walks-again b z (found .what) (found .first)
 
-      module _ {a : Answer} (judged : saidAnswer a ≡ judgedBy b (m .version) (l .sections) (m .sections) (l .exports) (m .exports)) where
-        pub strict-good : a ≡ Answer.Accepted → ModuleIs (length b) z (strictAt b z) l (accepted m)
-        unfolding follow
+      module _ {rule : ℕ} (judged : Judged b (m .version) (l .sections) (m .sections) (l .exports) (m .exports) rule) where
+        rule-is : rule ≡ broken b (found .what) (walked .0)
+        rule-is =
+            judged (walked .0) (walked .1 .end) (walked .1 .marks-are)
+            ∙ broken-as (found .what) (l .sections) (l .exports) (rows .sections-are) (rows .exports-are) (one-value (found .then)) (walked .0)
+
+        pub strict-good : rule ≡ 0 → ModuleIs (length b) z (strictAt b z) l (accepted m)
         strict-good q =
-            let j = sym (judged ∙ judged-is) ∙ ap saidAnswer q in
-            let s : strictAt b z ≡ moduleAt b z = strict-is (found .what) (found .first) ∙ rw (j, found .first) in
+            let s : strictAt b z ≡ moduleAt b z =
+            clean-strict b z (found .what) (walked .0) (walked .1) (sym rule-is ∙ q) ∙ sym (found .first) in
             subst (λ (x : Said Parsed). ModuleIs (length b) z x l (accepted m)) (sym s)
             (subst (λ (y : Said Module). ModuleIs (length b) z (moduleAt b z) l y) (ap saidModule is) h)
 
-        pub strict-bad : {l1 : Lent} {why : Refusal} → a ≡ Answer.Refused why → Holds l1 z noTables
-            → ModuleIs (length b) z (strictAt b z) l1 (refusedBy why)
+        pub strict-bad : {l1 : Lent} → (rule ≡ 0 → ⊥) → Holds l1 z noTables → ModuleIs (length b) z (strictAt b z) l1 (refused 20 (spot rule))
         unfolding follow tablesOf
         strict-bad q hl =
-            let j = sym (judged ∙ judged-is) ∙ ap saidAnswer q in
-            let s = strict-is (found .what) (found .first) ∙ ap (λ (x : Said (Unit {0})). follow x (λ u. accepted (found .what))) j in
+            let s : strictAt b z ≡ refused 20 (spot rule) =
+            broken-refused b z (found .what) (walked .0) (walked .1) (λ e. q (rule-is ∙ e)) ∙ ap (λ (x : ℕ). refused 20 (spot x)) (sym rule-is) in
             rw s (record { answer-is = refl; tables-are = hl })

@@ -1,17 +1,18 @@
--- Laws of the second walk: a number of one byte, a run of entries, a frame, a custom section. Assumes nothing.
-use Prim.Native.Nat.{ℕ, suc, _+_, _-_, _≤_, _<_}
+-- Laws of the second walk: a number of one byte or two, a run of entries, a frame, a custom section. Assumes nothing.
+use Prim.Native.Nat.{ℕ, suc, _+_, _-_, _*_, _≤_, _<_}
 use native.Mathlib.Omega.{arith}
 use mathlib.Core.Path.{_≡_, sym, _∙_, ap}
 use mathlib.Core.Bool.{true, false}
-use mathlib.Core.List.{List}
+use mathlib.Core.List.{List, _∷_}
 use lib.ListN.{length, getD, drop}
 use lib.Seq.{drop-cons}
-use borrow.Author.Tests.{lt-ltb, le-leb}
-use Rattle.refusal.specs.Said.{Said, accepted, refused, Got, got, onward}
+use borrow.Author.Tests.{lt-ltb, le-ltb, le-leb}
+use Rattle.refusal.specs.Said.{Said, accepted, refused, Got, got, onward, Place}
 use Rattle.refusal.specs.declared.Part.{Part}
 use Rattle.text.specs.Find.{same}
+use Rattle.text.proofs.Laws.{left-next}
 use Rattle.table.specs.Walking.{walkFrom}
-use Rattle.leb.specs.Groups.{uN}
+use Rattle.leb.specs.Groups.{Out, value, uN, grown}
 use Rattle.leb.specs.Reads.{partBytes, toldAt, narrowed, ulebAt, u32At, byteAt, countedAt}
 use Rattle.wasm.specs.Custom.{nameWord}
 use Rattle.strict.specs.declared.again.Marks.{Marks}
@@ -28,6 +29,26 @@ one-byte s at h b =
       le-leb (getD s at 0) 4294967295 (omega arith),
     )
 
+-- and of two
+two-groups : (x y : ℕ) (l : List ℕ) → 128 ≤ x → y < 128 → uN 64 (x ∷ y ∷ l) ≡ value (128 * y + (x - 128)) 2
+unfolding uN grown
+two-groups x y l a c = rw (le-ltb x 128 a, lt-ltb y 128 c, lt-ltb y 144115188075855872 (omega arith))
+
+two-left : (s : List ℕ) (at : ℕ) → at + 1 < length s → drop at s ≡ getD s at 0 ∷ getD s (at + 1) 0 ∷ drop (at + 1 + 1) s
+two-left s at h = left-next s at (omega arith) ∙ ap (λ (l : List ℕ). getD s at 0 ∷ l) (left-next s (at + 1) h)
+
+pub two-bytes : (s : List ℕ) (at : ℕ) {v : ℕ} → at + 1 < length s → 128 ≤ getD s at 0 → getD s at 0 < 256 → getD s (at + 1) 0 < 128
+    → v ≡ getD s at 0 + 128 * getD s (at + 1) 0 - 128 → accepted (got v (at + 2)) ≡ u32At s at
+unfolding u32At ulebAt toldAt onward narrowed
+two-bytes s at {v} h a b c e =
+    let sum : v ≡ 128 * getD s (at + 1) 0 + (getD s at 0 - 128) = omega (arith, e) in
+    rw (
+      sum,
+      two-left s at h,
+      two-groups (getD s at 0) (getD s (at + 1) 0) (drop (at + 1 + 1) s) a c,
+      le-leb (128 * getD s (at + 1) 0 + (getD s at 0 - 128)) 4294967295 (omega arith),
+    )
+
 -- ---- entries
 module _ (read : ℕ → Marks → Said (Got Marks)) (left at : ℕ) (m : Marks) where
   more : 0 < left → left ≡ suc (left - 1)
@@ -37,7 +58,7 @@ module _ (read : ℕ → Marks → Said (Got Marks)) (left at : ℕ) (m : Marks)
   unfolding runFrom
   run-end h = let e : left ≡ 0 = omega arith in rw e
 
-  pub run-stop : {n p : ℕ} → 0 < left → read at m ≡ refused n p → runFrom read left at m ≡ refused n p
+  pub run-stop : {n : ℕ} {p : Place} → 0 < left → read at m ≡ refused n p → runFrom read left at m ≡ refused n p
   unfolding runFrom onward
   run-stop h e = rw (more h, e)
 
@@ -52,7 +73,7 @@ module _ (inside : ℕ → List ℕ → Marks → Said (Got Marks)) (s : List �
   here : r ≡ inside id (partBytes s p) (withNumber m (p .from - a))
   here = told ∙ ap (λ (l : List ℕ). inside id l k) is ∙ ap (inside id (partBytes s p)) short
 
-  pub framed-stop : {n e : ℕ} → r ≡ refused n e → refused n e ≡ framedMarks inside s at m
+  pub framed-stop : {n : ℕ} {e : Place} → r ≡ refused n e → refused n e ≡ framedMarks inside s at m
   unfolding framedMarks onward
   framed-stop e = rw (one, two, sym here ∙ e)
 

@@ -5,11 +5,13 @@ use native.Mathlib.Nat.{lt-of-le-of-lt}
 use mathlib.Core.Path.{_≡_, refl, sym, _∙_, ap}
 use mathlib.Core.Bool.{Bool, true, false}
 use mathlib.Core.List.{List, [], _∷_, map}
-use lib.Bits.{bitAnd, bitXor, and-le-r, xor-lt}
+use lib.Bits.{bitAnd, bitXor, and-le-r}
+use lib.Dec.{ltb}
 use lib.ListN.{length, getD, set, drop, length-set}
 use lib.Seq.{getD-set-same}
-use borrow.Author.Tests.{le-leb, lt-leb}
+use borrow.Author.Tests.{lt-ltb, le-ltb}
 use Rattle.refusal.specs.Pick.{pick}
+use Rattle.refusal.specs.Said.{accepted, refused, got, Place}
 use Rattle.refusal.specs.Each.{Each, each-nil, each-cons}
 use Rattle.text.specs.Find.{same}
 use Rattle.text.proofs.FindLaws.{same-is}
@@ -19,7 +21,8 @@ use Rattle.table.specs.Shape.{width}
 use Rattle.sorting.specs.Sort.{upFrom}
 use Rattle.sorting.specs.Keys.{rowName}
 use Rattle.strict.specs.Rules.{has, different, namesOf}
-use Rattle.strict.specs.Quick.{mixed, endsOf, printOf, Seen, Noted}
+use Rattle.leb.specs.Reads.{fixedAt}
+use Rattle.strict.specs.Quick.{mixed, stirred, fourFound, halfAt, wordAt, together, namePrint, Marked, Noted}
 
 -- ---- prints of what is left of some bytes
 module _ (p : ℕ) (s : List ℕ) (i : ℕ) where
@@ -31,28 +34,34 @@ module _ (p : ℕ) (s : List ℕ) (i : ℕ) where
   unfolding mixed
   mix-end h = rw (left-none s i h)
 
--- the bytes that a print is made of
+-- half a word as it was read, and a number that is none
+module _ (s : List ℕ) (at : ℕ) where
+  pub half-found : {v d : ℕ} → fixedAt s at ≡ accepted (got v d) → v ≡ halfAt s at
+  unfolding halfAt fourFound
+  half-found e = rw e
+
+  pub half-none : {n : ℕ} {p : Place} → fixedAt s at ≡ refused n p → 0 ≡ halfAt s at
+  unfolding halfAt fourFound
+  half-none e = rw e
+
+-- a word of two halves, and what a print is made of
 module _ (s : List ℕ) where
-  pub ends-short : length s ≤ 16 → mixed (length s % 4294967296) s ≡ endsOf s
-  unfolding endsOf
-  ends-short h = simp (le-leb (length s) 16 h)
+  pub word-is : (at : ℕ) {a b r : ℕ} → a ≡ halfAt s at → b ≡ halfAt s (at + 4) → r ≡ stirred a b → r ≡ wordAt s at
+  unfolding wordAt
+  word-is at e f q = rw (q, e, f)
 
-  pub ends-long : {head tail : List ℕ} {p : ℕ} → 16 < length s → head ≡ rangeOf s 0 8 → tail ≡ rangeOf s (length s - 8) 8
-      → p ≡ mixed (length s % 4294967296) head → mixed p tail ≡ endsOf s
-  unfolding endsOf
-  ends-long h a b e = rw (lt-leb (length s) 16 h, e, a, b)
+  pub print-short : (spot : ℕ) {all r : ℕ} → length s < 8 → all ≡ mixed (length s) s → r ≡ stirred all (bitXor all (all / 32768))
+      → r ≡ namePrint spot s
+  unfolding namePrint
+  print-short spot h e q = rw (lt-ltb (length s) 8 h, q, e)
 
--- and the products fit
-pub stir-first : (p : ℕ) → p < 4294967296 → bitXor p (p / 32768) * 2246822519 < 18446744073709551616
-stir-first p h = omega (arith, xor-lt 32 p (p / 32768) h (omega arith))
-
-fold-fits : (p : ℕ) → p < 4294967296 → bitXor p (p / 8192) * 2654435761 < 18446744073709551616
-fold-fits p h = omega (arith, xor-lt 32 p (p / 8192) h (omega arith))
-
-pub stir-second : (p : ℕ)
-    → bitXor (bitXor p (p / 32768) * 2246822519 % 4294967296) (bitXor p (p / 32768) * 2246822519 % 4294967296 / 8192) * 2654435761
-    < 18446744073709551616
-stir-second p = fold-fits (bitXor p (p / 32768) * 2246822519 % 4294967296) (omega arith)
+  pub print-long : (spot : ℕ) {one two three spot1 r : ℕ} → 8 ≤ length s → spot1 ≡ pick (ltb spot (length s - 8)) spot (length s - 8)
+      → one ≡ wordAt s 0 → two ≡ wordAt s spot1 → three ≡ wordAt s (length s - 8)
+      → r ≡ stirred (bitXor (bitXor (bitXor one (two / 8)) (three / 64)) (length s))
+      (bitXor (bitXor (bitXor one (two / 8)) (three / 64)) (length s) / 4294967296)
+      → r ≡ namePrint spot s
+  unfolding namePrint together
+  print-long spot h m e f g q = rw (le-ltb (length s) 8 h, q, e, f, g, m)
 
 -- ---- marks
 in-marks : (a last n : ℕ) → last < n → bitAnd a last < n
@@ -132,7 +141,7 @@ row-named file table j {from} {len} e a b =
     e ∙ ap (λ (x : ℕ). rangeOf file x len) a ∙ ap (rangeOf file (cellOf table (width 3) j 0)) b
 
 -- ---- the names from row i on
-module _ (file table : List ℕ) (n last : ℕ) where
+module _ (file table : List ℕ) (n spot last : ℕ) where
   abbrev nameAt : ℕ → List ℕ
   nameAt i = rowName file table (width 3) 0 1 i
 
@@ -143,7 +152,7 @@ module _ (file table : List ℕ) (n last : ℕ) where
   pub record Looked (i : ℕ) (marks : List ℕ) : Type 0 where
     pub below : i ≤ n
     pub good : different (restFrom i) ≡ true
-    pub seen : Each (λ s. Seen marks last (printOf s)) (restFrom i)
+    pub seen : Each (λ s. Marked marks last (namePrint spot s)) (restFrom i)
 
   rest-none : restFrom n ≡ []
   rest-none = let e : n - n ≡ 0 = omega arith in ap (λ (m : ℕ). map nameAt (upFrom n m)) e
@@ -159,19 +168,19 @@ module _ (file table : List ℕ) (n last : ℕ) where
   look-start marks = record { below = omega arith; good = rw rest-none refl; seen = rw rest-none each-nil }
 
   -- one row more, whose print was new
-  pub look-on : {i j print : ℕ} {name before after : List ℕ} → Looked i before → j + 1 ≡ i → name ≡ nameAt j → print ≡ printOf name
-      → (Seen before last print → ⊥) → Noted before after last print → Looked j after
+  pub look-on : {i j print : ℕ} {name before after : List ℕ} → Looked i before → j + 1 ≡ i → name ≡ nameAt j → print ≡ namePrint spot name
+      → (Marked before last print → ⊥) → Noted before after last print → Looked j after
   unfolding different
   look-on {i} {j} {print} {name} {before} {after} l e is made new noted =
-      let p : print ≡ printOf (nameAt j) = made ∙ ap printOf is in
+      let p : print ≡ namePrint spot (nameAt j) = made ∙ ap (namePrint spot) is in
       let more = rest-more i j e (l .below) in
       let none : has (nameAt j) (restFrom i) ≡ false =
-      has-not (λ s. Seen before last (printOf s)) (nameAt j) (λ s. new (rw p s)) (restFrom i) (l .seen) in
+      has-not (λ s. Marked before last (namePrint spot s)) (nameAt j) (λ s. new (rw p s)) (restFrom i) (l .seen) in
       record {
         below = omega (arith, l .below);
         good = rw (more, none) (l .good);
         seen = rw more
-            (each-cons {e = nameAt j} (rw (sym p) (noted .told)) (each-kept (λ s k. noted .kept (printOf s) k) (l .seen)));
+            (each-cons {e = nameAt j} (rw (sym p) (noted .told)) (each-kept (λ s k. noted .kept (namePrint spot s) k) (l .seen)));
       }
 
   pub look-end : {i : ℕ} {marks : List ℕ} → Looked i marks → i ≤ 0 → different (namesOf file table n) ≡ true

@@ -3,7 +3,7 @@ use Prim.Native.Nat.{ℕ}
 use mathlib.Core.Path.{_≡_, sym, _∙_, ap}
 use mathlib.Core.List.{List}
 use lib.ListN.{length}
-use Rattle.refusal.specs.Said.{Said, accepted, refused, refusedBy, numberOf, follow, saidAnswer}
+use Rattle.refusal.specs.Said.{Said, accepted, refused, refusedBy, numberOf, follow, saidAnswer, Place}
 use Rattle.refusal.specs.declared.Refusal.{Refusal}
 use Rattle.refusal.specs.declared.Answer.{Answer}
 use Rattle.refusal.proofs.Following.{never, followed, first-refused}
@@ -62,7 +62,7 @@ module _ (b : List ℕ) where
   unfolding testedAt
   few-sure = sure-follow _ _ _ _ (strict-sure b few limits (limits-largest few)) (λ m. sure-same _)
 
-  settled : (x : Said (Unit {0})) → x ≡ testedAt b few → ((p : ℕ) → x ≡ refused 13 p → ⊥) → x ≡ testedAt b limits
+  settled : (x : Said (Unit {0})) → x ≡ testedAt b few → ((p : Place) → x ≡ refused 13 p → ⊥) → x ≡ testedAt b limits
   settled x h other = by few-sure
     where
       by : Sure Full (testedAt b few) (testedAt b limits) → x ≡ testedAt b limits
@@ -74,7 +74,7 @@ module _ (b : List ℕ) where
   settled-refused {why = why} h e q other =
       settled (refusedBy why) (sym (ap saidAnswer e) ∙ h) (λ p z. other (let k : numberOf why ≡ 13 = number-of z in q ∙ k))
     where
-      number-of : {n m p o : ℕ} → _≡_ {A = Said (Unit {0})} (refused n p) (refused m o) → n ≡ m
+      number-of : {n m : ℕ} {p o : Place} → _≡_ {A = Said (Unit {0})} (refused n p) (refused m o) → n ≡ m
       number-of z = cc
 
   pub settled-accepted : {r : Answer} → saidAnswer r ≡ testedAt b few → r ≡ Answer.Accepted → saidAnswer r ≡ testedAt b limits

@@ -8,9 +8,9 @@ use mathlib.Core.List.{List, [], _∷_, _++_}
 use lib.ListN.{length, drop}
 use lib.Dec.{eqb, ltb, leb}
 use Rattle.refusal.specs.Pick.{pick}
-use Rattle.refusal.specs.Said.{Said, accepted, refused, Got, got, onward}
+use Rattle.refusal.specs.Said.{Said, accepted, refused, relocated, Got, got, onward, offset, spot, kindAt, Place}
 use Rattle.refusal.specs.declared.Part.{Part}
-use Rattle.refusal.proofs.Following.{never, read-on}
+use Rattle.refusal.proofs.Following.{never, read-on, relocated-got}
 use Rattle.text.specs.Find.{same}
 use Rattle.text.specs.Utf8.{upTo}
 use Rattle.text.specs.Walk.{stop, go, walk}
@@ -38,7 +38,7 @@ sees-done v k d = record { sees = λ w e q. (k, ap (λ (i : ℕ). accepted (got 
   at : {w : _} {e : ℕ} → accepted (got v d) ≡ accepted (got w e) → d ≡ e
   at q = cc
 
-sees-stop : {X : Type 0} (n p : ℕ) (y : Said (Got Marks)) → Sees {X = X} (refused n p) y
+sees-stop : {X : Type 0} (n : ℕ) (p : Place) (y : Said (Got Marks)) → Sees {X = X} (refused n p) y
 sees-stop n p y = record { sees = λ v d q. absurd (never q) }
 
 sees-pick : {X : Type 0} (t : Bool) {x x1 : Said (Got X)} {y y1 : Said (Got Marks)} → Sees x y → Sees x1 y1
@@ -47,7 +47,8 @@ sees-pick true p q = p
 sees-pick false p q = q
 
 -- one more may be refused on the left
-sees-room : {X : Type 0} (t : Bool) (n p : ℕ) {x : Said (Got X)} {y : Said (Got Marks)} → Sees x y → Sees (pick t x (refused n p)) y
+sees-room : {X : Type 0} (t : Bool) (n : ℕ) (p : Place) {x : Said (Got X)} {y : Said (Got Marks)} → Sees x y
+    → Sees (pick t x (refused n p)) y
 sees-room true n p h = h
 sees-room false n p h = sees-stop n p _
 
@@ -89,6 +90,10 @@ sees-map {Y = Y} {x = x} f h =
     at : {w v : Y} {c e : ℕ} → accepted (got w c) ≡ accepted (got v e) → c ≡ e
     at e = cc
 
+-- the left is told from where its whole starts
+sees-moved : {X : Type 0} (by : ℕ) {x : Said (Got X)} {y : Said (Got Marks)} → Sees x y → Sees (relocated by x) y
+sees-moved by {x} h = record { sees = λ v d q. h .sees v d (relocated-got by x q) }
+
 -- ---- runs and walks
 sees-run : {R : Type 0} (read : ℕ → Said (Got R)) (marks : ℕ → Marks → Said (Got Marks)) (tn room : ℕ)
     → ((at : ℕ) (m : Marks) → Sees (read at) (marks at m)) → (n at : ℕ) (rows : List R) (m : Marks)
@@ -96,7 +101,7 @@ sees-run : {R : Type 0} (read : ℕ → Said (Got R)) (marks : ℕ → Marks →
 unfolding entriesFrom runFrom
 sees-run read marks tn room h zero at rows m = sees-done rows m at
 sees-run read marks tn room h (suc n) at rows m =
-    sees-onward _ _ (h at m) (λ row next k. sees-room (ltb (length rows) room) 13 tn
+    sees-onward _ _ (h at m) (λ row next k. sees-room (ltb (length rows) room) 13 (spot tn)
     (sees-run read marks tn room h n next (rows ++ (row ∷ [])) k))
 
 module _ {T : Type 0} (step : ℕ → T → Said (Got T)) (marks : ℕ → Marks → Said (Got Marks))
@@ -135,10 +140,10 @@ counted-too : (s : List ℕ) (at : ℕ) (p : Part) (d : ℕ) → nameAt s at ≡
 unfolding nameAt checked
 counted-too s at p d e =
     let o = read-on (countedAt s at)
-    (λ p next. pick (eqb (upTo (partBytes s p)) (p .len)) (accepted (got p next)) (refused 4 (p .from))) e in
+    (λ p next. pick (eqb (upTo (partBytes s p)) (p .len)) (accepted (got p next)) (refused 4 (offset (p .from)))) e in
     o .first ∙ by (o .what) (o .next) (eqb (upTo (partBytes s (o .what))) (o .what .len)) (o .then)
   where
-    by : (q : Part) (c : ℕ) (t : Bool) → pick t (accepted (got q c)) (refused 4 (q .from)) ≡ accepted (got p d)
+    by : (q : Part) (c : ℕ) (t : Bool) → pick t (accepted (got q c)) (refused 4 (offset (q .from))) ≡ accepted (got p d)
         → accepted (got q c) ≡ accepted (got p d)
     by q c true f = f
     by q c false f = absurd (never f)
@@ -166,22 +171,22 @@ sees-limits s at m =
     sees-onward _ _ (sees-number s a (withFlag m flag)) (λ least b k.
     sees-pick (eqb (flag % 2) 1) (sees-map _ (sees-number s b k)) (sees-done _ k b)))
 
-sees-desc : (s : List ℕ) (kind at : ℕ) (m : Marks) → Sees (descAt s kind at) (descMarks s kind at m)
+sees-desc : (s : List ℕ) (kind i at : ℕ) (m : Marks) → Sees (descAt s kind i at) (descMarks s kind at m)
 unfolding descAt descMarks funcAt tableAt memoryAt globalAt tableMarks globalMarks
-sees-desc s kind at m =
+sees-desc s kind i at m =
     sees-pick (eqb kind 0) (sees-map _ (sees-number s at m))
     (sees-pick (eqb kind 1) (sees-same (byteAt s at) _ _ (λ element a. sees-map _ (sees-limits s a m)))
     (sees-pick (eqb kind 2) (sees-map _ (sees-limits s at m))
     (sees-pick (eqb kind 3)
     (sees-same (byteAt s at) _ _ (λ type a. sees-same (byteAt s a) _ _ (λ mutable b. sees-done _ (withFlag m mutable) b)))
-    (sees-stop 5 kind _))))
+    (sees-stop 5 (kindAt kind i) _))))
 
 sees-import : (s : List ℕ) (base at : ℕ) (m : Marks) → Sees (importAt s base at) (importMarks s at m)
 unfolding importAt importMarks
 sees-import s base at m =
     sees-onward _ _ (sees-name s at m) (λ p a k.
     sees-onward _ _ (sees-name s a k) (λ f b l.
-    sees-same (byteAt s b) _ _ (λ kind d. sees-map _ (sees-desc s kind d l))))
+    sees-same (byteAt s b) _ _ (λ kind d. sees-map _ (sees-desc s kind b d l))))
 
 sees-export : (s : List ℕ) (base at : ℕ) (m : Marks) → Sees (exportAt s base at) (exportMarks s at m)
 unfolding exportAt exportMarks
@@ -223,7 +228,8 @@ unfolding subsectionAt subsectionMarks framedMarks
 sees-subsection s base n at t m =
     sees-same (byteAt s at) _ _ (λ id a.
     sees-same (countedAt s a) _ _ (λ p next.
-    sees-onward _ _ (sees-told id (partBytes s p) (base + p .from) n t (withNumber m (p .from - a))) (λ u e k. sees-done u k next)))
+    sees-onward _ _ (sees-moved (p .from) (sees-told id (partBytes s p) (base + p .from) n t (withNumber m (p .from - a)))) (λ u e k.
+    sees-done u k next)))
 
 sees-custom : (s : List ℕ) (base n : ℕ) (t : Names) (m : Marks) → Sees (customAt s base n t) (customMarks s m)
 unfolding customAt customMarks
@@ -248,8 +254,8 @@ unfolding sectionAt sectionMarks framedMarks addSection
 sees-section b z at t m =
     sees-same (byteAt b at) _ _ (λ id a.
     sees-same (countedAt b a) _ _ (λ p next.
-    sees-onward _ _ (sees-contents id (partBytes b p) (p .from) z t (withNumber m (p .from - a))) (λ u e k.
-    sees-room (ltb (length (u .tables .sections)) (capacityIn 1 (z .sections))) 13 1 (sees-done _ k next))))
+    sees-onward _ _ (sees-moved (p .from) (sees-contents id (partBytes b p) (p .from) z t (withNumber m (p .from - a)))) (λ u e k.
+    sees-room (ltb (length (u .tables .sections)) (capacityIn 1 (z .sections))) 13 (spot 1) (sees-done _ k next))))
 
 pub sees-sections : (b : List ℕ) (z : Sizes) (at : ℕ) (t : Tables) (m : Marks)
     → Sees (walkFrom (sectionAt b z) b at t) (walkFrom (sectionMarks b) b at m)
@@ -259,7 +265,7 @@ sees-sections b z at t m = sees-from (sectionAt b z) (sectionMarks b) (sees-sect
 fixed-next : (s : List ℕ) (at v d : ℕ) → fixedAt s at ≡ accepted (got v d) → d ≡ at + 4
 unfolding fixedAt
 fixed-next s at v d e = by _ (leb (at + 4) (length s)) e where
-  by : (w : ℕ) (t : Bool) → pick t (accepted (got w (at + 4))) (refused 1 at) ≡ accepted (got v d) → d ≡ at + 4
+  by : (w : ℕ) (t : Bool) → pick t (accepted (got w (at + 4))) (refused 1 (offset at)) ≡ accepted (got v d) → d ≡ at + 4
   by w true f = cc
   by w false f = absurd (never f)
 
@@ -270,15 +276,16 @@ header-next b v c e =
     let t = take-in b 0 4 (o .what) (o .next) (o .first) in
     by (o .next) (t .next) (same magic (partBytes b (o .what))) (o .then)
   where
-    last : (w d : ℕ) (t : Bool) → pick t (refused 2 4) (accepted (got w d)) ≡ accepted (got v c) → d ≡ c
+    last : (w d : ℕ) (t : Bool) → pick t (refused 2 (offset 4)) (accepted (got w d)) ≡ accepted (got v c) → d ≡ c
     last w d true f = absurd (never f)
     last w d false f = cc
 
     by : (a : ℕ) → a ≡ 0 + 4 → (t : Bool)
-        → pick t (onward (fixedAt b a) (λ v d. pick (eqb v 0) (refused 2 4) (accepted (got v d)))) (refused 2 0) ≡ accepted (got v c)
+        → pick t (onward (fixedAt b a) (λ v d. pick (eqb v 0) (refused 2 (offset 4)) (accepted (got v d)))) (refused 2 (offset 0))
+        ≡ accepted (got v c)
         → c ≡ 8
     by a h true f =
-        let o = read-on (fixedAt b a) (λ v d. pick (eqb v 0) (refused 2 4) (accepted (got v d))) f in
+        let o = read-on (fixedAt b a) (λ v d. pick (eqb v 0) (refused 2 (offset 4)) (accepted (got v d))) f in
         let k = fixed-next b a (o .what) (o .next) (o .first) in
         let l = last (o .what) (o .next) (eqb (o .what) 0) (o .then) in
         omega (arith, k, l, h)

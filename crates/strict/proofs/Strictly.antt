@@ -10,7 +10,7 @@ use lib.ListN.{length}
 use lib.Dec.{eqb, ltb}
 use Rattle.refusal.specs.Pick.{pick}
 use Rattle.refusal.specs.Sizes.{fileLimit}
-use Rattle.refusal.specs.Said.{Said, accepted, refused, follow, got, onward}
+use Rattle.refusal.specs.Said.{Said, accepted, refused, follow, got, onward, spot}
 use Rattle.refusal.proofs.Following.{never, one-value, followed, read-on}
 use Rattle.table.specs.Walking.{walkFrom}
 use Rattle.wasm.specs.Module.{Parsed, Sizes, noTables, sectionAt, headerAt, moduleAt}
@@ -26,7 +26,7 @@ unfolding moduleAt marksAt
 walks-again b z m e = by (ltb fileLimit (length b)) e
   where
     by : (t : Bool)
-        → pick t (refused 14 0) (onward (headerAt b) (λ v c. onward (walkFrom (sectionAt b z) b c noTables) (λ t d.
+        → pick t (refused 14 (spot 0)) (onward (headerAt b) (λ v c. onward (walkFrom (sectionAt b z) b c noTables) (λ t d.
         accepted (record { version = v; tables = t })))) ≡ accepted m → (k : Marks) × Walked b z m k
     by true f = absurd (never f)
     by false f =
@@ -82,7 +82,7 @@ strict-clean b z m e =
     by (o .what) (w .what) (w .next) (o .first) (w .first) (eqb (broken b (o .what) (w .what)) 0) refl (w .then)
   where
     by : (p : Parsed) (k : Marks) (d : ℕ) → moduleAt b z ≡ accepted p → marksAt b ≡ accepted (got k d)
-        → (t : Bool) → eqb (broken b p k) 0 ≡ t → pick t (accepted p) (refused 20 (broken b p k)) ≡ accepted m
+        → (t : Bool) → eqb (broken b p k) 0 ≡ t → pick t (accepted p) (refused 20 (spot (broken b p k))) ≡ accepted m
         → (k : Marks) × Walked b z m k × (broken b m k ≡ 0)
     by p k d f g true t q =
         let z : p ≡ m = one-value q in (
@@ -104,14 +104,14 @@ strict-refuses b z n p e = by (moduleAt b z) refl e
     rule m k h (inr q) =
         let f = sym e ∙ broken-refused b z m k h q in
         let a : n ≡ 20 = cc in
-        let c : p ≡ broken b m k = cc in
+        let c : p ≡ spot (broken b m k) = cc in
         record {
           rows = m;
           marks = k;
           walked = h;
           number-is = a;
           place-is = c;
-          rule = (omega (arith, positive (broken b m k) q), omega (arith, broken-few b m k));
+          rule = (positive (broken b m k) q, omega (arith, broken-few b m k));
         }
       where
         positive : (i : ℕ) → (i ≡ 0 → ⊥) → 1 ≤ i

@@ -1,12 +1,13 @@
 -- docs/RULES.md, "Strict reading", rules 2, 5 and 8: a second walk over what the plain reader decodes, a definition beside each of
--- its own (`wasm`, specs/Entry to Module), with what holds so far. Assumes nothing.
+-- its own (`wasm`, specs/Entry to Module), with what holds so far. It follows an accepted plain read, so that none of its own refusals is
+-- ever told and no place of them is moved (proofs/Seeing). Assumes nothing.
 use Prim.Native.Nat.{ℕ, zero, suc, _-_, _%_}
 use mathlib.Core.Bool.{true, false}
 use mathlib.Core.List.{List}
 use lib.ListN.{length}
 use lib.Dec.{leb, eqb}
 use Rattle.refusal.specs.Pick.{pick}
-use Rattle.refusal.specs.Said.{Said, accepted, refused, refusedBy, Got, got, onward}
+use Rattle.refusal.specs.Said.{Said, accepted, refused, refusedBy, Got, got, onward, kindAt}
 use Rattle.refusal.specs.declared.Refusal.{Refusal}
 use Rattle.refusal.specs.declared.Refusal.the-variants.{UnexpectedEof}
 use Rattle.text.specs.Find.{same}
@@ -59,7 +60,7 @@ descMarks s kind at m =
     (pick (eqb kind 1) (tableMarks s at m)
     (pick (eqb kind 2) (limitsMarks s at m)
     (pick (eqb kind 3) (globalMarks s at m)
-    (refused 5 kind))))
+    (refused 5 (kindAt kind at)))))
 
 unfoldable pub importMarks : List ℕ → ℕ → Marks → Said (Got Marks)
 importMarks s at m =

@@ -6,7 +6,7 @@ use mathlib.Core.Logic.{_⊎_}
 use mathlib.Core.List.{List, [], _∷_}
 use lib.Dec.{eqb}
 use Rattle.refusal.specs.Pick.{pick}
-use Rattle.refusal.specs.Said.{accepted, refused, got}
+use Rattle.refusal.specs.Said.{accepted, refused, got, spot, Place}
 use Rattle.wasm.specs.Module.{Parsed, Sizes, moduleAt}
 use Rattle.strict.specs.declared.again.Marks.{Marks}
 use Rattle.strict.specs.Again.{marksAt}
@@ -38,20 +38,21 @@ CleanStrict = (b : List ℕ) (z : Sizes) (m : Parsed) (k : Marks) → Walked b z
 -- and what breaks one is 20 at the lowest
 abbrev pub BrokenRefused : Type 0
 BrokenRefused =
-    (b : List ℕ) (z : Sizes) (m : Parsed) (k : Marks) → Walked b z m k → (broken b m k ≡ 0 → ⊥) → strictAt b z ≡ refused 20 (broken b m k)
+    (b : List ℕ) (z : Sizes) (m : Parsed) (k : Marks) → Walked b z m k → (broken b m k ≡ 0 → ⊥)
+    → strictAt b z ≡ refused 20 (spot (broken b m k))
 
 -- a refusal of the rules: 20 at the lowest rule that is broken, 1 to 8, of a file that is read plainly
-pub record Ruled (b : List ℕ) (z : Sizes) (n p : ℕ) : Type 0 where
+pub record Ruled (b : List ℕ) (z : Sizes) (n : ℕ) (p : Place) : Type 0 where
   pub rows : Parsed
   pub marks : Marks
   pub walked : Walked b z rows marks
   pub number-is : n ≡ 20
-  pub place-is : p ≡ broken b rows marks
-  pub rule : (1 ≤ p) × (p ≤ 8)
+  pub place-is : p ≡ spot (broken b rows marks)
+  pub rule : (1 ≤ broken b rows marks) × (broken b rows marks ≤ 8)
 
 -- a refusal is the plain one, or one of the rules
 abbrev pub StrictRefuses : Type 0
-StrictRefuses = (b : List ℕ) (z : Sizes) (n p : ℕ) → strictAt b z ≡ refused n p → (moduleAt b z ≡ refused n p) ⊎ Ruled b z n p
+StrictRefuses = (b : List ℕ) (z : Sizes) (n : ℕ) (p : Place) → strictAt b z ≡ refused n p → (moduleAt b z ≡ refused n p) ⊎ Ruled b z n p
 
 -- ---- room: larger tables give the same, and what some tables accept, tables at the limits do
 abbrev pub StrictLarger : Type 0
@@ -59,7 +60,7 @@ StrictLarger = (b : List ℕ) (z w : Sizes) (m : Parsed) → Larger z w → stri
 
 abbrev pub StrictRefusedSame : Type 0
 StrictRefusedSame =
-    (b : List ℕ) (z w : Sizes) (n p : ℕ) → Larger z w → (n ≡ 13 → ⊥) → strictAt b z ≡ refused n p → strictAt b w ≡ refused n p
+    (b : List ℕ) (z w : Sizes) (n : ℕ) (p : Place) → Larger z w → (n ≡ 13 → ⊥) → strictAt b z ≡ refused n p → strictAt b w ≡ refused n p
 
 abbrev pub StrictLimits : Type 0
 StrictLimits = (b : List ℕ) (z : Sizes) (m : Parsed) → strictAt b z ≡ accepted m → strictAt b limits ≡ accepted m
@@ -78,4 +79,4 @@ oneOf n [] = false
 oneOf n (m ∷ l) = pick (eqb n m) true (oneOf n l)
 
 abbrev pub PlainNumbers : Type 0
-PlainNumbers = (b : List ℕ) (z : Sizes) (n p : ℕ) → moduleAt b z ≡ refused n p → oneOf n plainRefusals ≡ true
+PlainNumbers = (b : List ℕ) (z : Sizes) (n : ℕ) (p : Place) → moduleAt b z ≡ refused n p → oneOf n plainRefusals ≡ true

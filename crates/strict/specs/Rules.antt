@@ -1,10 +1,11 @@
 -- docs/RULES.md, "Strict reading": the eight rules, the lowest one that a file breaks, and what a strict read answers. Assumes nothing.
 use Prim.Native.Nat.{ℕ}
+use mathlib.Core.Path.{_≡_}
 use mathlib.Core.Bool.{Bool, true, false}
 use mathlib.Core.List.{List, [], _∷_, map}
 use lib.Dec.{leb, ltb, eqb}
 use Rattle.refusal.specs.Pick.{pick, both}
-use Rattle.refusal.specs.Said.{Said, accepted, refused, follow, onward}
+use Rattle.refusal.specs.Said.{Said, accepted, refused, follow, got, onward, spot}
 use Rattle.text.specs.Find.{same}
 use Rattle.table.specs.Table.{cellOf, rangeOf, rowsOf}
 use Rattle.table.specs.Shape.{width}
@@ -66,7 +67,7 @@ broken b m k =
 
 -- what was read, unless a rule is broken: 20, at the rule
 unfoldable pub held : List ℕ → Parsed → Marks → Said Parsed
-held b m k = pick (eqb (broken b m k) 0) (accepted m) (refused 20 (broken b m k))
+held b m k = pick (eqb (broken b m k) 0) (accepted m) (refused 20 (spot (broken b m k)))
 
 -- a strict read: the plain one first; where it accepts, the second walk and the rules
 unfoldable pub strictAt : List ℕ → Sizes → Said Parsed
@@ -94,9 +95,7 @@ brokenIn b version sections n exports k m =
     lowestOf (eqb version 1) (m .short) (noneAbove 12 (columnOf sections (width 1) 0 n)) (ordered (columnOf sections (width 1) 0 n))
     (m .used) (different (namesOf b exports k)) (noneAbove 3 (columnOf exports (width 3) 2 k)) (m .plain)
 
--- and what the second walk and the rules say of them
-unfoldable pub ruledBy : ℕ → Said (Unit {0})
-ruledBy rule = pick (eqb rule 0) (accepted tt) (refused 20 rule)
-
-unfoldable pub judgedBy : List ℕ → ℕ → List ℕ → ℕ → List ℕ → ℕ → Said (Unit {0})
-judgedBy b version sections n exports k = onward (marksAt b) (λ m d. ruledBy (brokenIn b version sections n exports k m))
+-- a number is that rule, with the marks of the second walk
+abbrev pub Judged : List ℕ → ℕ → List ℕ → ℕ → List ℕ → ℕ → ℕ → Type 0
+Judged b version sections n exports k rule =
+    (m : Marks) (d : ℕ) → marksAt b ≡ accepted (got m d) → rule ≡ brokenIn b version sections n exports k m

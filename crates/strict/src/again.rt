@@ -5,6 +5,7 @@ use leb::PartRead;
 use leb::U32Read;
 use refusal::Refusal;
 ghost use mathlib.Core.Path.{_≡_};
+ghost use Prim.Native.Nat.{_<_};
 ghost use lib.ListN.{length};
 ghost use Rattle.leb.specs.Reads.{u32At, countedAt};
 ghost use Rattle.leb.specs.Answers.{answerFrom, saidU32, saidPart};
@@ -22,6 +23,9 @@ const LAST_FLAG: u8 = 1;
 
 // From here on a byte of a number is followed by another.
 const MORE: u8 = 128;
+
+// What one is worth in the second byte of a number.
+const GROUP: u32 = 128;
 
 // Where the sections start: after the magic and the version.
 const HEADER: usize = 8;
@@ -89,7 +93,13 @@ impl Marks {
     }
 }
 
-// As `uleb128_u32`; a number of one byte, as nearly every one is, is told at once.
+fn wide(b: u8) -> u32
+    ensures { λ r. ⌜ (r ≡ b) × (r < 256) ⌝ }
+{
+    b as u32
+}
+
+// As `uleb128_u32`; a number of one byte or two, as nearly every one is, is told at once.
 fn read_number(s: &[u8], c: Cursor) -> U32Read
     ensures { λ r. ⌜ saidU32 r ≡ answerFrom (c .at) (u32At (now (s .entry)) (c .at)) ⌝ }
 {
@@ -98,6 +108,13 @@ fn read_number(s: &[u8], c: Cursor) -> U32Read
         let byte = s[at];
         if byte < MORE {
             return U32Read::Read(byte as u32, Cursor { at: at + 1 });
+        }
+        if at + 1 < s.len() {
+            let high = s[at + 1];
+            if high < MORE {
+                let sum = wide(byte) + GROUP * wide(high);
+                return U32Read::Read(sum - GROUP, Cursor { at: at + 2 });
+            }
         }
     }
     c.uleb128_u32(s)
@@ -188,7 +205,7 @@ fn mark_desc(s: &[u8], kind: u8, c: Cursor, m: Marks) -> Marked
         1 => mark_table(s, c, m),
         2 => mark_limits(s, c, m),
         3 => mark_global(s, c, m),
-        _ => Marked::Refused(Refusal::MalformedSection(kind as usize)),
+        _ => Marked::Refused(Refusal::MalformedSection(kind as usize, c.at)),
     }
 }
 

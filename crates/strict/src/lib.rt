@@ -24,7 +24,7 @@ ghost use Rattle.refusal.specs.Said.{saidAnswer};
 ghost use Rattle.table.specs.Shape.{limit};
 ghost use Rattle.wasm.specs.Module.{sizes, lend, Holds, noTables, saidModule, ModuleIs};
 ghost use Rattle.conform.specs.Sound.{few, limits};
-ghost use Rattle.strict.specs.Rules.{strictAt, judgedBy, testedAt};
+ghost use Rattle.strict.specs.Rules.{strictAt, Judged, testedAt};
 
 fn clear(sections: &mut [usize], imports: &mut [usize], exports: &mut [usize], names: &mut [usize])
     ensures { λ _. ⌜ Holds (lend (now (sections .exit)) (now (imports .exit)) (now (exports .exit)) (now (names .exit)))
@@ -36,7 +36,8 @@ fn clear(sections: &mut [usize], imports: &mut [usize], exports: &mut [usize], n
     table::clear(names);
 }
 
-// The second walk, and the rules: n rows of table 1 and k of table 3 are what a plain read left.
+// The second walk, and the rules: n rows of table 1 and k of table 3 are what a plain read left. The lowest rule that is broken, 0
+// where none is. The walk is refused nowhere where a plain read is not: what is told then is of no account.
 fn judge<'a, 'b>(
     file: &'a [u8],
     version: u32,
@@ -44,19 +45,13 @@ fn judge<'a, 'b>(
     n: usize,
     exports: &'b [usize],
     k: usize,
-) -> Answer
+) -> usize
     requires { ⌜ k ≤ limit 3 ⌝ }
-    ensures { λ r. ⌜ saidAnswer r ≡ judgedBy (now (file .entry)) version (now (sections .entry)) n (now (exports .entry)) k ⌝ }
+    ensures { λ r. ⌜ Judged (now (file .entry)) version (now (sections .entry)) n (now (exports .entry)) k r ⌝ }
 {
     match mark_sections(file) {
-        Marked::Refused(why) => Answer::Refused(why),
-        Marked::Read(m, _) => {
-            let rule = lowest(file, version, sections, n, exports, k, m);
-            if rule == 0 {
-                return Answer::Accepted;
-            }
-            Answer::Refused(Refusal::NotStrict(rule))
-        }
+        Marked::Refused(_) => 0,
+        Marked::Read(m, _) => lowest(file, version, sections, n, exports, k, m),
     }
 }
 
@@ -77,13 +72,12 @@ pub fn read_strict(
     let ModuleRead::Module(m) = read else {
         return read;
     };
-    match judge(file, m.version, sections, m.sections, exports, m.exports) {
-        Answer::Accepted => read,
-        Answer::Refused(why) => {
-            clear(sections, imports, exports, names);
-            ModuleRead::Refused(why)
-        }
+    let rule = judge(file, m.version, sections, m.sections, exports, m.exports);
+    if rule == 0 {
+        return read;
     }
+    clear(sections, imports, exports, names);
+    ModuleRead::Refused(Refusal::NotStrict(rule))
 }
 
 // Whether the file is read strictly, with tables at the limits: 13 is a file beyond them.

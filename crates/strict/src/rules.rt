@@ -1,5 +1,7 @@
 // The eight rules, of the rows that a plain read leaves and of the marks of the second walk.
 use crate::again::Marks;
+use crate::quick::FIRST_SPOT;
+use crate::quick::parting_of;
 use crate::quick::surely_differ;
 use sorting::Sorted;
 use table::shape::EXPORT_WIDTH;
@@ -81,17 +83,11 @@ fn in_order(sections: &[usize], n: usize) -> bool
     rank.good
 }
 
-// The first n export names are all different. Where a quick look does not tell, as many are left when repeats are dropped.
-fn names_differ(file: &[u8], exports: &[usize], n: usize) -> bool
+// The first n export names are all different: as many are left when they are sorted and repeats are dropped.
+fn sorted_differ(file: &[u8], exports: &[usize], n: usize) -> bool
     requires { ⌜ n ≤ limit 3 ⌝ }
     ensures { λ r. ⌜ r ≡ different (namesOf (now (file .entry)) (now (exports .entry)) n) ⌝ }
 {
-    if n < 2 {
-        return true;
-    }
-    if surely_differ(file, exports, n) {
-        return true;
-    }
     let mut sorted = [0usize; MAX_EXPORTS];
     match sorting::sort(
         file,
@@ -104,6 +100,28 @@ fn names_differ(file: &[u8], exports: &[usize], n: usize) -> bool
         Sorted::Rows(k) => k == n,
         Sorted::Full => false,
     }
+}
+
+// The same by quick looks, at the ends of the names and then where two of them part; they are sorted where these do not tell. A function
+// that calls itself is not merged with the ones that it calls: so the pages of marks and of the sort are not touched where they are not used.
+fn names_differ(file: &[u8], sort: bool, exports: &[usize], n: usize) -> bool
+    requires { ⌜ n ≤ limit 3 ⌝ }
+    ensures { λ r. ⌜ r ≡ different (namesOf (now (file .entry)) (now (exports .entry)) n) ⌝ }
+{
+    if n < 2 {
+        return true;
+    }
+    if sort {
+        return sorted_differ(file, exports, n);
+    }
+    if surely_differ(file, exports, n, FIRST_SPOT) {
+        return true;
+    }
+    let spot = parting_of(file, exports, n);
+    if surely_differ(file, exports, n, spot) {
+        return true;
+    }
+    names_differ(file, true, exports, n)
 }
 
 // The lowest rule that is broken, of n rows of table 1, k rows of table 3 and the marks; 0 where none is.
@@ -134,7 +152,7 @@ pub(crate) fn lowest<'a, 'b>(
     if !m.used {
         return 5;
     }
-    if !names_differ(file, exports, k) {
+    if !names_differ(file, false, exports, k) {
         return 6;
     }
     if !at_most(exports, EXPORT_WIDTH, 2, k, LAST_KIND) {

@@ -7,7 +7,7 @@ use lib.ListN.{length, drop}
 use lib.Dec.{ltb}
 use Rattle.refusal.specs.Pick.{pick}
 use Rattle.refusal.specs.Each.{Each, each-nil, each-cons}
-use Rattle.refusal.specs.Said.{Said, accepted, refused, follow, Got, got, onward}
+use Rattle.refusal.specs.Said.{Said, accepted, refused, follow, Got, got, onward, spot, Place}
 use Rattle.refusal.proofs.Following.{never, followed, read-on}
 use Rattle.text.specs.Walk.{stop, go, walk}
 use Rattle.table.specs.Entries.{entriesFrom}
@@ -26,7 +26,7 @@ module _ {T : Type 0} (P : T → Type 0) where
   unfolding Gives
   gives-done t h u q = let k : t ≡ u = cc in subst P k h
 
-  pub gives-stop : (n p : ℕ) → Gives P (refused n p)
+  pub gives-stop : (n : ℕ) (p : Place) → Gives P (refused n p)
   unfolding Gives
   gives-stop n p t e = absurd (never e)
 
@@ -75,4 +75,4 @@ module _ {E : Type 0} (P : E → Type 0) (read : ℕ → Said (Got E)) (good : (
   gives-entries (suc n) at rows h =
       gives-onward (Of (Each P)) (read at) _
       (λ v next e. gives-pick (Of (Each P)) (ltb (length rows) room) _ _
-      (gives-entries n next (rows ++ (v ∷ [])) (each-snoc P rows v h (good at (got v next) e))) (gives-stop (Of (Each P)) 13 tn))
+      (gives-entries n next (rows ++ (v ∷ [])) (each-snoc P rows v h (good at (got v next) e))) (gives-stop (Of (Each P)) 13 (spot tn)))

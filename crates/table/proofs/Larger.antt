@@ -10,8 +10,8 @@ use lib.ListN.{length, drop}
 use lib.Dec.{ltb}
 use borrow.Author.Tests.{lt-ltb, ltb-true}
 use Rattle.refusal.specs.Pick.{pick}
-use Rattle.refusal.specs.Said.{Said, accepted, refused, follow, Got, got, onward}
-use Rattle.refusal.proofs.Following.{never}
+use Rattle.refusal.specs.Said.{Said, accepted, refused, relocated, movedBy, follow, Got, got, onward, spot, Place}
+use Rattle.refusal.proofs.Following.{never, relocated-stop}
 use Rattle.text.specs.Walk.{stop, go, walk}
 use Rattle.table.specs.Table.{capacityOf}
 use Rattle.table.specs.Entries.{entriesFrom}
@@ -20,7 +20,7 @@ use Rattle.table.specs.Walking.{turnOf, walkFrom}
 -- y is x, unless x is a refusal with a number that is spared
 pub data Sure (spared : ℕ → Type 0) {T : Type 0} (x y : Said T) : Type 0 where
   same : x ≡ y → Sure spared x y
-  spare : (n p : ℕ) → spared n → x ≡ refused n p → Sure spared x y
+  spare : (n : ℕ) (p : Place) → spared n → x ≡ refused n p → Sure spared x y
 
 -- every refusal; want of room
 abbrev pub Any : ℕ → Type 0
@@ -37,6 +37,11 @@ module _ {S : ℕ → Type 0} {T : Type 0} where
   sure-pick true x x1 y y1 p q = p
   sure-pick false x x1 y y1 p q = q
 
+  -- told from where a part's whole starts
+  pub sure-moved : (by : ℕ) {x y : Said T} → Sure S x y → Sure S (relocated by x) (relocated by y)
+  sure-moved by (same e) = same (ap (λ (z : Said T). relocated by z) e)
+  sure-moved by (spare n p s e) = spare n (movedBy by p) s (relocated-stop by e)
+
   -- whatever x accepts, y accepts the same
   pub accepts-too : {x y : Said T} → Sure S x y → (t : T) → x ≡ accepted t → y ≡ accepted t
   accepts-too (same q) t e = sym q ∙ e
@@ -49,11 +54,11 @@ module _ {T : Type 0} where
 
   -- a test for room
   pub sure-room : (n room room1 p : ℕ) (x x1 : Said T) → room ≤ room1 → Sure Full x x1
-      → Sure Full (pick (ltb n room) x (refused 13 p)) (pick (ltb n room1) x1 (refused 13 p))
+      → Sure Full (pick (ltb n room) x (refused 13 (spot p))) (pick (ltb n room1) x1 (refused 13 (spot p)))
   sure-room n room room1 p x x1 h s = by (ltb n room) refl where
-    by : (b : Bool) → ltb n room ≡ b → Sure Full (pick b x (refused 13 p)) (pick (ltb n room1) x1 (refused 13 p))
+    by : (b : Bool) → ltb n room ≡ b → Sure Full (pick b x (refused 13 (spot p))) (pick (ltb n room1) x1 (refused 13 (spot p)))
     by true q = let k : n < room1 = omega (arith, ltb-true n room q) in rw (lt-ltb n room1 k) s
-    by false q = spare 13 p refl refl
+    by false q = spare 13 (spot p) refl refl
 
 -- one after another
 module _ {S : ℕ → Type 0} {X T : Type 0} where

@@ -5,21 +5,21 @@ use mathlib.Core.Bool.{Bool, true, false}
 use mathlib.Core.List.{List, [], _∷_}
 use lib.ListN.{drop}
 use Rattle.refusal.specs.Pick.{pick}
-use Rattle.refusal.specs.Said.{Said, accepted, refused, follow, Got, got, onward}
+use Rattle.refusal.specs.Said.{Said, accepted, refused, follow, Got, got, onward, Place}
 use Rattle.refusal.proofs.Following.{never}
 use Rattle.text.specs.Walk.{stop, go, walk}
 use Rattle.table.specs.Walking.{turnOf, walkFrom}
 
 -- a refusal's number has the property P
 pub record Numbers {X : Type 0} (P : ℕ → Type 0) (x : Said X) : Type 0 where
-  pub number : (n p : ℕ) → x ≡ refused n p → P n
+  pub number : (n : ℕ) (p : Place) → x ≡ refused n p → P n
 
 pub fine : {X : Type 0} {P : ℕ → Type 0} (v : X) → Numbers P (accepted v)
 fine v = record { number = λ n p e. absurd (never (sym e)) }
 
-pub off : {X : Type 0} {P : ℕ → Type 0} (n p : ℕ) → P n → Numbers {X = X} P (refused n p)
+pub off : {X : Type 0} {P : ℕ → Type 0} (n : ℕ) (p : Place) → P n → Numbers {X = X} P (refused n p)
 off {X} {P} n p h = record { number = λ m q e. by e } where
-  by : {m q : ℕ} → _≡_ {A = Said X} (refused n p) (refused m q) → P m
+  by : {m : ℕ} {q : Place} → _≡_ {A = Said X} (refused n p) (refused m q) → P m
   by {m} e = let k : n ≡ m = cc in subst P k h
 
 pub choice : {X : Type 0} {P : ℕ → Type 0} (t : Bool) {x y : Said X} → Numbers P x → Numbers P y → Numbers P (pick t x y)

@@ -9,7 +9,7 @@ use lib.Dec.{leb}
 use borrow.Author.Tests.{lt-ltb, le-ltb, le-leb, lt-leb, leb-false}
 use Rattle.refusal.specs.Pick.{pick}
 use Rattle.refusal.proofs.Following.{never}
-use Rattle.refusal.specs.Said.{Said, accepted, refused, Got, got, onward}
+use Rattle.refusal.specs.Said.{Said, accepted, refused, Got, got, onward, spot, Place}
 use Rattle.table.specs.Table.{Lies, laid, cells, putRow}
 use Rattle.table.specs.Told.{ReaderTells}
 use Rattle.table.specs.Entries.{entriesFrom, finished, fitting}
@@ -24,12 +24,12 @@ module _ {R : Type 0} (read : ℕ → Said (Got R)) (tn room left at : ℕ) (row
   unfolding entriesFrom
   entries-whole h = let e : left ≡ 0 = omega arith in rw e
 
-  pub entries-bad : (n p : ℕ) → 0 < left → read at ≡ refused n p → entriesFrom read tn room left at rows ≡ refused n p
+  pub entries-bad : (n : ℕ) (p : Place) → 0 < left → read at ≡ refused n p → entriesFrom read tn room left at rows ≡ refused n p
   unfolding entriesFrom onward
   entries-bad n p h e = rw (more h, e)
 
   pub entries-full : (row : R) (next : ℕ) → 0 < left → read at ≡ accepted (got row next) → room ≤ length rows
-      → entriesFrom read tn room left at rows ≡ refused 13 tn
+      → entriesFrom read tn room left at rows ≡ refused 13 (spot tn)
   unfolding entriesFrom onward
   entries-full row next h e f = rw (more h, e, le-ltb _ _ f)
 
@@ -56,11 +56,11 @@ module _ {R : Type 0} (f : R → List ℕ) (w : ℕ) (wide : (r : R) → length 
     held-whole l =
         tell-got (h .rows) at (sym (h .goes-on) ∙ entries-whole read tn room left at (h .rows) l) (h .count-is) (h .table-is)
 
-    pub held-bad : {P : List R → Type 0} {n p : ℕ} → 0 < left → read at ≡ refused n p → ReaderTells length P all (refused n p)
+    pub held-bad : {P : List R → Type 0} {n : ℕ} {p : Place} → 0 < left → read at ≡ refused n p → ReaderTells length P all (refused n p)
     held-bad {n = n} {p = p} l e = tell-stop (sym (h .goes-on) ∙ entries-bad read tn room left at (h .rows) n p l e)
 
     pub held-full : {P : List R → Type 0} {row : R} {next : ℕ} → 0 < left → read at ≡ accepted (got row next) → room ≤ k
-        → ReaderTells length P all (refused 13 tn)
+        → ReaderTells length P all (refused 13 (spot tn))
     held-full {row = row} {next = next} l e m =
         tell-stop
         (sym (h .goes-on)
@@ -87,14 +87,15 @@ module _ {R : Type 0} (tn room : ℕ) (rows : List R) where
   unfolding finished
   finished-room h = rw (le-leb (length rows) room h)
 
-  pub finished-full : room < length rows → finished tn room rows ≡ refused 13 tn
+  pub finished-full : room < length rows → finished tn room rows ≡ refused 13 (spot tn)
   unfolding finished
   finished-full h = rw (lt-leb (length rows) room h)
 
-  pub full-exactly : finished tn room rows ≡ refused 13 tn → room < length rows
+  pub full-exactly : finished tn room rows ≡ refused 13 (spot tn) → room < length rows
   unfolding finished
   full-exactly e = by (leb (length rows) room) refl e where
-    by : (t : Bool) → leb (length rows) room ≡ t → pick t (accepted (length rows)) (refused 13 tn) ≡ refused 13 tn → room < length rows
+    by : (t : Bool) → leb (length rows) room ≡ t → pick t (accepted (length rows)) (refused 13 (spot tn)) ≡ refused 13 (spot tn)
+        → room < length rows
     by true q f = absurd (never (sym f))
     by false q f = leb-false (length rows) room q
 

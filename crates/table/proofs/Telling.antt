@@ -1,14 +1,15 @@
 -- Laws of `ReaderTells`: how a promise is made, followed and read. Assumes nothing.
 use Prim.Native.Nat.{ℕ, _≤_, _<_}
-use mathlib.Core.Path.{_≡_, refl, sym, _∙_}
-use Rattle.refusal.specs.Said.{Said, accepted, refused, refusedBy, Got, got, onward}
+use mathlib.Core.Path.{_≡_, refl, sym, _∙_, ap}
+use Rattle.refusal.specs.Said.{Said, accepted, refused, refusedBy, relocated, movedOn, Got, got, onward, Place}
 use Rattle.refusal.specs.declared.Refusal.{Refusal}
-use Rattle.refusal.proofs.Following.{never}
+use Rattle.refusal.proofs.Following.{never, relocated-got, relocated-on}
+use Rattle.refusal.proofs.Known.{moved-said}
 use Rattle.table.specs.Told.{mapped, ReaderTells, Passed, Ends}
 
 module _ {T A : Type 0} {f : T → A} {P : T → Type 0} where
   -- a promise is made
-  pub tell-stop : {x : Said (Got T)} {n p : ℕ} → x ≡ refused n p → ReaderTells f P x (refused n p)
+  pub tell-stop : {x : Said (Got T)} {n : ℕ} {p : Place} → x ≡ refused n p → ReaderTells f P x (refused n p)
   unfolding mapped
   tell-stop e = record { answer-is = rw e; holds = λ t d q. absurd (never (sym e ∙ q)) }
 
@@ -39,7 +40,7 @@ pub record Read {T A : Type 0} (f : T → A) (P : T → Type 0) (x : Said (Got T
 
 module _ {T A : Type 0} {f : T → A} {P : T → Type 0} {x : Said (Got T)} {a : Said (Got A)} where
   -- a promise is read
-  pub told-stop : {n p : ℕ} → ReaderTells f P x a → a ≡ refused n p → x ≡ refused n p
+  pub told-stop : {n : ℕ} {p : Place} → ReaderTells f P x a → a ≡ refused n p → x ≡ refused n p
   unfolding mapped
   told-stop {n} {p} h q = by x (sym q ∙ h .answer-is) where
     by : (y : Said (Got T)) → refused n p ≡ mapped f y → y ≡ refused n p
@@ -54,7 +55,7 @@ module _ {T A : Type 0} {f : T → A} {P : T → Type 0} {x : Said (Got T)} {a :
     by (refused n k) w e = absurd (never (sym e))
 
   -- a promise follows another
-  pub tell-after-stop : {U B : Type 0} {g : U → B} {Q : U → Type 0} (k : T → ℕ → Said (Got U)) {n p : ℕ}
+  pub tell-after-stop : {U B : Type 0} {g : U → B} {Q : U → Type 0} (k : T → ℕ → Said (Got U)) {n : ℕ} {p : Place}
       → ReaderTells f P x a → a ≡ refused n p → ReaderTells g Q (onward x k) (refused n p)
   unfolding onward
   tell-after-stop k h q = let e = told-stop h q in tell-stop (rw e)
@@ -63,6 +64,32 @@ module _ {T A : Type 0} {f : T → A} {P : T → Type 0} {x : Said (Got T)} {a :
       → ReaderTells f P x a → a ≡ accepted (got m d)
       → ((t : T) → x ≡ accepted (got t d) → m ≡ f t → P t → ReaderTells g Q (k t d) b) → ReaderTells g Q (onward x k) b
   tell-after k h q on = let o = told-got h q in tell-next k (o .is) (on (o .what) (o .is) (o .value) (o .held))
+
+-- a promise on a part, told from where the part's whole starts
+map-moved : {T A : Type 0} (f : T → A) (by : ℕ) (x : Said (Got T)) → relocated by (mapped f x) ≡ mapped f (relocated by x)
+unfolding relocated mapped
+map-moved f by (accepted (got t d)) = refl
+map-moved f by (refused n p) = refl
+
+module _ {T A : Type 0} {f : T → A} {P : T → Type 0} {x : Said (Got T)} {a : Said (Got A)} (by : ℕ) (h : ReaderTells f P x a) where
+  pub tell-moved : ReaderTells f P (relocated by x) (relocated by a)
+  tell-moved =
+      record {
+        answer-is = ap (λ (y : Said (Got A)). relocated by y) (h .answer-is) ∙ map-moved f by x;
+        holds = λ t d q. h .holds t d (relocated-got by x q);
+      }
+
+module _ {T A : Type 0} {f : T → A} {P : T → Type 0} {x : Said (Got T)} {a : Said (Got A)} (by : ℕ) (h : ReaderTells f P x a) where
+  pub tell-moved-stop : {U B : Type 0} {g : U → B} {Q : U → Type 0} (k : T → ℕ → Said (Got U)) {v : Refusal} (w : Refusal)
+      → a ≡ refusedBy w → v ≡ movedOn by w → ReaderTells g Q (onward (relocated by x) k) (refusedBy v)
+  tell-moved-stop k w e q =
+      rw q (tell-after-stop k (tell-moved by h) (ap (λ (y : Said (Got A)). relocated by y) e ∙ sym (moved-said by w)))
+
+  pub tell-moved-on : {U B : Type 0} {g : U → B} {Q : U → Type 0} (k : T → ℕ → Said (Got U)) {m : A} {d : ℕ} {b : Said (Got B)}
+      → a ≡ accepted (got m d)
+      → ((t : T) → x ≡ accepted (got t d) → m ≡ f t → P t → ReaderTells g Q (k t d) b) → ReaderTells g Q (onward (relocated by x) k) b
+  tell-moved-on k q on =
+      tell-after k (tell-moved by h) (relocated-on by q) (λ t e v g. on t (relocated-got by x e) v g)
 
 -- no two answers are told of one outcome
 pub told-unique : {T A : Type 0} {f : T → A} {P Q : T → Type 0} {x : Said (Got T)} {a b : Said (Got A)}

@@ -5,7 +5,7 @@ use Prim.Native.Nat.{ℕ, suc, _+_, _-_, _≤_, _<_}
 use native.Mathlib.Nat.{sub-zero}
 use native.Mathlib.Omega.{arith}
 use borrow.Author.Tests.{lt-ltb, le-ltb}
-use Rattle.refusal.specs.Said.{accepted, refused}
+use Rattle.refusal.specs.Said.{accepted, refused, spot}
 use Rattle.table.specs.Testing.{bad, firstFrom, tested, countFrom}
 
 one-left : (i n : ℕ) → i < n → n - i ≡ suc (n - (i + 1))
@@ -15,7 +15,7 @@ none-left : (i n : ℕ) → n ≤ i → n - i ≡ 0
 none-left i n h = omega arith
 
 module _ (test : ℕ → Bool) (i n : ℕ) where
-  first-bad : i < n → test i ≡ true → refused 15 i ≡ firstFrom test i (n - i)
+  first-bad : i < n → test i ≡ true → refused 15 (spot i) ≡ firstFrom test i (n - i)
   unfolding firstFrom
   first-bad h e = rw (one-left i n h, e)
 
@@ -40,7 +40,7 @@ module _ (test : ℕ → Bool) (i n : ℕ) where
   count-end h = rw (none-left i n h)
 
 -- a stated count above the capacity, and one that is not
-tested-over : (room n : ℕ) (test : ℕ → Bool) → room < n → refused 15 room ≡ tested room n test
+tested-over : (room n : ℕ) (test : ℕ → Bool) → room < n → refused 15 (spot room) ≡ tested room n test
 unfolding tested
 tested-over room n test h = rw (lt-ltb room n h)
 
@@ -53,8 +53,8 @@ tested-rows room n test h = rw (le-ltb room n h)
 pub record Walked (room n : ℕ) (good : ℕ → Bool) (i : ℕ) : Type 0 where
   pub left : tested room n (bad good) ≡ firstFrom (bad good) i (n - i)
 
-pub walk-over : (room n : ℕ) (good : ℕ → Bool) {r : ℕ} → r ≡ room → r < n → refused 15 r ≡ tested room n (bad good)
-walk-over room n good e h = ap (refused 15) e ∙ tested-over room n (bad good) (omega (arith, e))
+pub walk-over : (room n : ℕ) (good : ℕ → Bool) {r : ℕ} → r ≡ room → r < n → refused 15 (spot r) ≡ tested room n (bad good)
+walk-over room n good e h = ap (λ (i : ℕ). refused 15 (spot i)) e ∙ tested-over room n (bad good) (omega (arith, e))
 
 module _ {room n : ℕ} {good : ℕ → Bool} where
   pub walk-starts : {r : ℕ} → r ≡ room → n ≤ r → Walked room n good 0
@@ -63,7 +63,7 @@ module _ {room n : ℕ} {good : ℕ → Bool} where
 
   module _ {i : ℕ} (w : Walked room n good i) where
     module _ (h : i < n) {r : Bool} (e : r ≡ good i) where
-      pub walk-stops : r ≡ false → refused 15 i ≡ tested room n (bad good)
+      pub walk-stops : r ≡ false → refused 15 (spot i) ≡ tested room n (bad good)
       walk-stops q = first-bad (bad good) i n h (rw (← e, q)) ∙ sym (w .left)
 
       pub walk-goes : r ≡ true → Walked room n good (i + 1)

@@ -7,7 +7,7 @@ use lib.ListN.{length, drop}
 use native.Mathlib.Omega.{arith}
 use Rattle.text.specs.Walk.{walk}
 use Rattle.text.proofs.WalkLaws.{walk-go, walk-stop, walk-done}
-use Rattle.refusal.specs.Said.{Said, accepted, refused, Got, got}
+use Rattle.refusal.specs.Said.{Said, accepted, refused, Got, got, Place}
 use Rattle.table.specs.Told.{ReaderTells}
 use Rattle.table.specs.Walking.{turnOf, walkFrom}
 use Rattle.table.proofs.Telling.{tell-stop, tell-got, told-stop, told-got}
@@ -17,7 +17,7 @@ module _ {T : Type 0} (step : ℕ → T → Said (Got T)) (b : List ℕ) (at : �
   unfolding walkFrom
   from-end h = walk-done (λ st i rest. turnOf i (step i st)) (λ st i. accepted (got st i)) b t at h
 
-  pub from-stop : (n p : ℕ) → at < length b → step at t ≡ refused n p → walkFrom step b at t ≡ refused n p
+  pub from-stop : (n : ℕ) (p : Place) → at < length b → step at t ≡ refused n p → walkFrom step b at t ≡ refused n p
   unfolding walkFrom turnOf
   from-stop n p h e =
       walk-stop (λ st i rest. turnOf i (step i st)) (λ st i. accepted (got st i)) b t at (refused n p) h (rw e)
@@ -51,7 +51,7 @@ module _ {Z T A : Type 0} {f : T → A} (step : Z → ℕ → T → Said (Got T)
       subst (λ (y : Z). (t : T) → n ≡ f t → Q y t → ReaderTells f (Q1 y) (step y at t) a) same told
       (g .state) (g .value) (g .held)
 
-  pub going-off : {P : T → Type 0} {m p : ℕ} → at < length b → a ≡ refused m p → ReaderTells f P all (refused m p)
+  pub going-off : {P : T → Type 0} {m : ℕ} {p : Place} → at < length b → a ≡ refused m p → ReaderTells f P all (refused m p)
   going-off {m = m} {p = p} h q = tell-stop (sym (g .goes-on) ∙ from-stop (step z) b at (g .state) m p h (told-stop here q))
 
   pub going-on : {m : A} {d : ℕ} → a ≡ accepted (got m d) → at < d → d ≤ length b → Going f (Q1 z) m (step z) b all d

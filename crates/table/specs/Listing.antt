@@ -6,12 +6,12 @@ use Prim.Native.Nat.{ℕ}
 use lib.Dec.{leb}
 use lib.ListN.{length}
 use Rattle.refusal.specs.Pick.{pick}
-use Rattle.refusal.specs.Said.{Said, accepted, refused, follow}
+use Rattle.refusal.specs.Said.{Said, accepted, refused, follow, spot}
 use Rattle.table.specs.Table.{laid}
 
 -- a finished list in a table with the number tn and so much room; 13, at the table's number, where it has more rows
 unfoldable pub fitted : ℕ → ℕ → List ℕ → Said (List ℕ)
-fitted tn room l = pick (leb (length l) room) (accepted l) (refused 13 tn)
+fitted tn room l = pick (leb (length l) room) (accepted l) (refused 13 (spot tn))
 
 -- after a refusal the table is zero throughout
 abbrev pub rowsIn : Said (List ℕ) → List ℕ

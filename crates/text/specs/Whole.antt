@@ -5,14 +5,14 @@ use lib.Dec.{ltb}
 use lib.ListN.{length}
 use Rattle.refusal.specs.Pick.{pick}
 use Rattle.refusal.specs.Sizes.{textLimit}
-use Rattle.refusal.specs.Said.{Said, accepted, refused}
+use Rattle.refusal.specs.Said.{Said, accepted, refused, offset, spot}
 use Rattle.text.specs.Utf8.{upTo}
 
 -- 14 above 65,536 bytes; then 4, at the bytes before the first ill-formed sequence
 unfoldable pub wholeText : List ℕ → Said (Unit {0})
 wholeText s =
-    pick (ltb textLimit (length s)) (refused 14 0)
-    (pick (ltb (upTo s) (length s)) (refused 4 (upTo s))
+    pick (ltb textLimit (length s)) (refused 14 (spot 0))
+    (pick (ltb (upTo s) (length s)) (refused 4 (offset (upTo s)))
     (accepted tt))
 
 -- an answer without its value

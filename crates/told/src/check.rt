@@ -1,4 +1,5 @@
 // What verdicts tell.
+use crate::policies::beside_of;
 use crate::policies::number_of;
 use crate::policies::place_of;
 use verdicts::Evaluation;
@@ -6,7 +7,7 @@ use verdicts::Verdict;
 ghost use mathlib.Core.Path.{_≡_};
 ghost use Rattle.refusal.specs.Said.{saidAnswer};
 ghost use Rattle.verdicts.specs.Evaluate.{compliant};
-ghost use Rattle.told.specs.Policies.{numberIn, placeIn};
+ghost use Rattle.told.specs.Policies.{numberIn, placeIn, besideIn};
 ghost use Rattle.told.specs.Check.{verdictTold, evaluationAs};
 
 #[repr(C)]
@@ -21,6 +22,7 @@ pub struct VerdictTold {
 pub struct EvaluationTold {
     pub number: u32,
     pub place: usize,
+    pub offset: usize,
     pub verdicts: [VerdictTold; 7],
     pub set: u32,
     pub count: usize,
@@ -39,11 +41,12 @@ fn verdict_of(v: Verdict) -> VerdictTold
 
 pub fn evaluation_of(e: Evaluation) -> EvaluationTold
     ensures { λ r. ⌜ r ≡ evaluationAs (numberIn (saidAnswer (e .answer))) (placeIn (saidAnswer (e .answer)))
-        (e .verdicts) (e .set) (e .count) (compliant e) ⌝ }
+        (besideIn (saidAnswer (e .answer))) (e .verdicts) (e .set) (e .count) (compliant e) ⌝ }
 {
     let answer = e.answer;
     let number = number_of(answer);
     let place = place_of(answer);
+    let offset = beside_of(answer);
     let compliant = verdicts::is_compliant(e);
     let a = verdict_of(e.verdicts[0]);
     let b = verdict_of(e.verdicts[1]);
@@ -55,6 +58,7 @@ pub fn evaluation_of(e: Evaluation) -> EvaluationTold
     EvaluationTold {
         number,
         place,
+        offset,
         verdicts: [a, b, c, d, f, g, h],
         set: e.set,
         count: e.count,

@@ -8,7 +8,7 @@ use refusal::Written;
 ghost use mathlib.Core.Path.{_≡_};
 ghost use Rattle.refusal.specs.Said.{saidAnswer, saidWritten};
 ghost use Rattle.policy_text.specs.Token.{saidToken};
-ghost use Rattle.told.specs.Policies.{numberIn, placeIn, noToken, tokenTold, tokenAsked, writtenTold};
+ghost use Rattle.told.specs.Policies.{numberIn, placeIn, besideIn, noToken, tokenTold, tokenAsked, writtenTold};
 
 // Where a token was found: its range, and the offset from which the next is looked for.
 #[repr(C)]
@@ -43,6 +43,16 @@ pub fn place_of(a: Answer) -> usize
     match a {
         Answer::Accepted => 0,
         Answer::Refused(why) => refusal::place(why),
+    }
+}
+
+// The offset beside 5.
+pub fn beside_of(a: Answer) -> usize
+    ensures { λ r. ⌜ r ≡ besideIn (saidAnswer a) ⌝ }
+{
+    match a {
+        Answer::Accepted => 0,
+        Answer::Refused(why) => refusal::beside(why),
     }
 }
 

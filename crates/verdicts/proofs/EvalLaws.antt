@@ -12,7 +12,7 @@ use lib.Seq.{take-suc, getD-take, length-take-le}
 use borrow.Author.Tests.{lt-ltb, le-ltb, ltb-false}
 use native.Mathlib.Nat.{div-one, min-le-left}
 use Rattle.refusal.specs.Pick.{pick, both}
-use Rattle.refusal.specs.Said.{Said, accepted, refused, refusedBy, follow, saidAnswer}
+use Rattle.refusal.specs.Said.{Said, accepted, refused, refusedBy, follow, saidAnswer, spot, Place}
 use Rattle.refusal.specs.declared.Answer.{Answer}
 use Rattle.refusal.specs.declared.Refusal.{Refusal}
 use Rattle.refusal.proofs.Following.{never}
@@ -61,7 +61,7 @@ module _ (ns : List ℕ) (n room : ℕ) (is : room ≡ capacityIn 7 (length ns))
   unfolding capacityOf
   room-is = is ∙ ap (λ (k : ℕ). min k (limit 7)) (div-one (length ns))
 
-  pub test-room : room < n → refused 15 room ≡ domainsTest ns n
+  pub test-room : room < n → refused 15 (spot room) ≡ domainsTest ns n
   unfolding domainsTest
   test-room h = rw (← room-is, lt-ltb room n h)
 
@@ -70,7 +70,7 @@ module _ (ns : List ℕ) (n room : ℕ) (is : room ≡ capacityIn 7 (length ns))
     room-fits = omega (arith, room-is, min-le-left (length ns) (limit 7))
 
     module _ (row : ℕ) (at : row ≡ firstPast (take n ns)) where
-      pub test-row : row < n → refused 15 row ≡ domainsTest ns n
+      pub test-row : row < n → refused 15 (spot row) ≡ domainsTest ns n
       unfolding domainsTest
       test-row h = rw (← room-is, le-ltb room n fits, ← at, lt-ltb row n h)
 
@@ -88,7 +88,8 @@ domains-good ns n e = by (ltb (min (length ns) (limit 7)) n) refl (ltb (firstPas
   where
     by : (t : Bool) → ltb (min (length ns) (limit 7)) n ≡ t → (u : Bool) → ltb (firstPast (take n ns)) n ≡ u
         → _≡_ {A = Said (Unit {0})}
-        (pick t (refused 15 (min (length ns) (limit 7))) (pick u (refused 15 (firstPast (take n ns))) (accepted tt))) (accepted tt)
+        (pick t (refused 15 (spot (min (length ns) (limit 7)))) (pick u (refused 15 (spot (firstPast (take n ns)))) (accepted tt)))
+        (accepted tt)
         → Domains ns n
     by true p u q e = absurd (never e)
     by false p true q e = absurd (never e)
@@ -195,7 +196,7 @@ module _ (ns : List ℕ) (n : ℕ) (p : Policy) {a : Answer} {r : Evaluation} (t
   evaluated-bad {w} e q = let z : domainsTest ns n ≡ refusedBy w = sym tested ∙ ap saidAnswer e in rw z q
 
 -- ---- a refused evaluation is never compliant
-pub refused-never : {r : Evaluation} {k n : ℕ} → EvaluatedAs (refused k n) r → compliant r ≡ false
+pub refused-never : {r : Evaluation} {k : ℕ} {n : Place} → EvaluatedAs (refused k n) r → compliant r ≡ false
 unfolding compliant
 refused-never {r} {k} {n} e = by (r .answer) (e .answer)
   where

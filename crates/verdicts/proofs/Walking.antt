@@ -12,7 +12,7 @@ use lib.Dec.{ltb, eqb}
 use lib.ListN.{length, getD, take, replicate, length-take, length-map}
 use lib.Seq.{take-suc, take-all, getD-take, length-take-le}
 use Rattle.refusal.specs.Pick.{pick, both}
-use Rattle.refusal.specs.Said.{Said, accepted, refused, follow}
+use Rattle.refusal.specs.Said.{Said, accepted, refused, follow, spot}
 use Rattle.table.specs.Table.{capacityOf}
 use Rattle.table.specs.Shape.{limit, capacityIn}
 use Rattle.verdicts.specs.Evaluate.{firstPast, domainsTest, evaluated, outcome, outcomeBy, sevenOf, verdictFor, EvaluatedAs}
@@ -178,10 +178,10 @@ finish-is ns n t p w =
     rw (r, g, n′) (by e g (ltb (min (length ns) (limit 7)) n) (ltb (firstPast (take n ns)) n) refl)
   where
     by : seen ns n (length ns) ≡ take n ns → t .good ≡ firstPast (take n ns) → (a b : Bool) → ltb (firstPast (take n ns)) n ≡ b
-        → pick a (refused 15 (min (length ns) (limit 7))) (pick b (refused 15 (firstPast (take n ns)))
+        → pick a (refused 15 (spot (min (length ns) (limit 7)))) (pick b (refused 15 (spot (firstPast (take n ns))))
         (accepted (outcomeBy (sevenOf (λ (d : ℕ). verdictFor p d (getD (t .many) d 0))))))
-        ≡ follow {X = Unit {0}} (pick a (refused 15 (min (length ns) (limit 7)))
-        (pick b (refused 15 (firstPast (take n ns))) (accepted tt)))
+        ≡ follow {X = Unit {0}} (pick a (refused 15 (spot (min (length ns) (limit 7))))
+        (pick b (refused 15 (spot (firstPast (take n ns)))) (accepted tt)))
         (λ ok. accepted (outcome p (take n ns)))
     by e g true b s = refl
     by e g false true s = refl
@@ -242,12 +242,12 @@ module _ (t : Tally) (i d : ℕ) where
       step-counts l = rw (counts-yes l)
 
 module _ (t : Tally) (p : Policy) {r : Evaluation} where
-  pub finish-room : t .room < t .stated → EvaluatedAs (refused 15 (t .room)) r → EvaluatedAs (finishOf t p) r
+  pub finish-room : t .room < t .stated → EvaluatedAs (refused 15 (spot (t .room))) r → EvaluatedAs (finishOf t p) r
   unfolding finishOf
   finish-room h e = rw (lt-ltb (t .room) (t .stated) h) e
 
   module _ (h : t .stated ≤ t .room) where
-    pub finish-row : t .good < t .stated → EvaluatedAs (refused 15 (t .good)) r → EvaluatedAs (finishOf t p) r
+    pub finish-row : t .good < t .stated → EvaluatedAs (refused 15 (spot (t .good))) r → EvaluatedAs (finishOf t p) r
     unfolding finishOf
     finish-row k e = rw (le-ltb (t .room) (t .stated) h, lt-ltb (t .good) (t .stated) k) e
 

@@ -6,7 +6,7 @@ use Prim.Native.Nat.{ℕ, zero, suc, _+_, _*_, _^_, min}
 use lib.Dec.{eqb, ltb}
 use lib.ListN.{length, take, getD}
 use Rattle.refusal.specs.Pick.{pick, both, oneIf}
-use Rattle.refusal.specs.Said.{Said, accepted, refused, follow, saidAnswer}
+use Rattle.refusal.specs.Said.{Said, accepted, refused, follow, saidAnswer, spot}
 use Rattle.refusal.specs.declared.Answer.{Answer}
 use Rattle.text.specs.Whole.{withoutValue}
 use Rattle.table.specs.Shape.{limit}
@@ -76,8 +76,8 @@ firstPast (x ∷ ns) = pick (ltb 6 x) zero (suc (firstPast ns))
 
 unfoldable pub domainsTest : List ℕ → ℕ → Said (Unit {0})
 domainsTest ns n =
-    pick (ltb (min (length ns) (limit 7)) n) (refused 15 (min (length ns) (limit 7)))
-    (pick (ltb (firstPast (take n ns)) n) (refused 15 (firstPast (take n ns)))
+    pick (ltb (min (length ns) (limit 7)) n) (refused 15 (spot (min (length ns) (limit 7))))
+    (pick (ltb (firstPast (take n ns)) n) (refused 15 (spot (firstPast (take n ns))))
     (accepted tt))
 
 unfoldable pub evaluated : List ℕ → ℕ → Policy → Said Outcome

@@ -5,7 +5,7 @@ use Prim.Native.Nat.{ℕ, _+_, _^_, _≤_, _<_}
 use lib.Dec.{ltb, eqb}
 use lib.ListN.{getD, set, replicate}
 use Rattle.refusal.specs.Pick.{pick, both}
-use Rattle.refusal.specs.Said.{Said, accepted, refused}
+use Rattle.refusal.specs.Said.{Said, accepted, refused, spot}
 use Rattle.table.specs.Shape.{capacityIn}
 use Rattle.verdicts.specs.Evaluate.{Outcome, outcomeBy, sevenOf, verdictFor}
 use Rattle.policy.specs.declared.Policy.{Policy}
@@ -27,8 +27,8 @@ tallyStep t i d = pick (counts t i d) (countedIn t i d) t
 
 unfoldable pub finishOf : Tally → Policy → Said Outcome
 finishOf t p =
-    pick (ltb (t .room) (t .stated)) (refused 15 (t .room))
-    (pick (ltb (t .good) (t .stated)) (refused 15 (t .good))
+    pick (ltb (t .room) (t .stated)) (refused 15 (spot (t .room)))
+    (pick (ltb (t .good) (t .stated)) (refused 15 (spot (t .good)))
     (accepted (outcomeBy (sevenOf (λ (d : ℕ). verdictFor p d (getD (t .many) d 0))))))
 
 -- what is counted fits: no domain is counted more often than there were records

@@ -4,7 +4,7 @@ use mathlib.Core.Path.{_≡_, refl, sym, _∙_, ap, subst}
 use mathlib.Core.List.{List}
 use borrow.Author.Tests.{lt-ltb, le-ltb}
 use lib.ListN.{length}
-use Rattle.refusal.specs.Said.{Said, accepted, refused, refusedBy, follow, Got, got, onward}
+use Rattle.refusal.specs.Said.{Said, accepted, refused, refusedBy, follow, Got, got, onward, spot, Place}
 use Rattle.refusal.specs.declared.Refusal.{Refusal}
 use Rattle.refusal.specs.Sizes.{fileLimit}
 use Rattle.table.specs.Told.{ReaderTells}
@@ -16,11 +16,13 @@ use Rattle.wasm.specs.Module.{Tables, countsOf, Sizes, Lent, Holds, noTa
 use Rattle.wasm.specs.Module.{tablesOf, ModuleIs}
 
 module _ (b : List ℕ) (z : Sizes) where
-  pub module-long : (l : Lent) → fileLimit < length b → Holds l z noTables → ModuleIs (length b) z (moduleAt b z) l (refused 14 0)
+  pub module-long : (l : Lent) → fileLimit < length b → Holds l z noTables
+      → ModuleIs (length b) z (moduleAt b z) l (refused 14 (spot 0))
   unfolding moduleAt tablesOf follow
   module-long l h q = rw (lt-ltb _ _ h) (record { answer-is = refl; tables-are = q })
 
-  stopped : (l : Lent) (m p : ℕ) → moduleAt b z ≡ refused m p → Holds l z noTables → ModuleIs (length b) z (moduleAt b z) l (refused m p)
+  stopped : (l : Lent) (m : ℕ) (p : Place) → moduleAt b z ≡ refused m p → Holds l z noTables
+      → ModuleIs (length b) z (moduleAt b z) l (refused m p)
   unfolding tablesOf follow
   stopped l m p e h = rw e (record { answer-is = refl; tables-are = h })
 
@@ -50,8 +52,8 @@ module _ (b : List ℕ) (z : Sizes) where
             tables-are = o .held;
           })
 
-      pub module-stop : (l1 : Lent) (m p : ℕ) → a ≡ refused m p → Holds l1 z noTables → ModuleIs (length b) z (moduleAt b z) l1
-          (refused m p)
+      pub module-stop : (l1 : Lent) (m : ℕ) (p : Place) → a ≡ refused m p → Holds l1 z noTables
+          → ModuleIs (length b) z (moduleAt b z) l1 (refused m p)
       unfolding moduleAt onward
       module-stop l1 m p q h =
           let w : walkFrom (sectionAt b z) b at noTables ≡ refused m p = told-stop here q in

@@ -5,14 +5,15 @@ use mathlib.Core.Bool.{true, false}
 use mathlib.Core.List.{List}
 use native.Mathlib.Nat.{add-sub-cancel-left}
 use lib.ListN.{length, take, drop}
-use Rattle.refusal.specs.Said.{Said, accepted, refused, Got, got, onward}
+use Rattle.refusal.specs.Said.{Said, accepted, refused, refusedBy, movedOn, Got, got, onward, Place}
 use Rattle.refusal.specs.declared.Part.{Part}
+use Rattle.refusal.specs.declared.Refusal.{Refusal}
 use Rattle.refusal.proofs.Following.{read-on}
 use Rattle.text.specs.Find.{same}
 use Rattle.table.specs.Table.{laid, cells}
 use Rattle.table.specs.Told.{mapped, ReaderTells}
 use Rattle.table.specs.Walking.{walkFrom}
-use Rattle.table.proofs.Telling.{tell-got, tell-next, tell-after, tell-after-stop}
+use Rattle.table.proofs.Telling.{tell-got, tell-next, tell-after, tell-after-stop, tell-moved-stop, tell-moved-on}
 use Rattle.leb.specs.Reads.{partBytes, byteAt, countedAt, nameAt}
 use Rattle.wasm.specs.declared.entry.Symbol.{Symbol}
 use Rattle.wasm.specs.declared.custom.Named.{Named}
@@ -68,14 +69,15 @@ module _ (s : List ℕ) (base z at : ℕ) (t : Names) (id a next : ℕ) (p : Par
   here : ReaderTells namedOf Q (toldBy id (partBytes s p) (base + p .from) z t) r
   here = rw is at told
 
-  pub subsection-stop : {P : Names → Type 0} {m k : ℕ} → r ≡ refused m k → ReaderTells namedOf P (subsectionAt s base z at t) (refused m k)
+  pub subsection-stop : {P : Names → Type 0} {v : Refusal} (w : Refusal) → r ≡ refusedBy w → v ≡ movedOn (p .from) w
+      → ReaderTells namedOf P (subsectionAt s base z at t) (refusedBy v)
   unfolding subsectionAt
-  subsection-stop e = tell-next _ one (tell-next _ two (tell-after-stop _ here e))
+  subsection-stop w e m = tell-next _ one (tell-next _ two (tell-moved-stop (p .from) here _ w e m))
 
   pub subsection-got : {n : Named} {d : ℕ} → r ≡ accepted (got n d)
       → ReaderTells namedOf Q (subsectionAt s base z at t) (accepted (got n next))
   unfolding subsectionAt
-  subsection-got e = tell-next _ one (tell-next _ two (tell-after _ here e (λ u x v h. tell-got u next refl v h)))
+  subsection-got e = tell-next _ one (tell-next _ two (tell-moved-on (p .from) here _ e (λ u x v h. tell-got u next refl v h)))
 
 -- a custom section whose name was read; q is the name's bytes as the code cut them out
 module _ (s : List ℕ) (base z : ℕ) (t : Names) (p : Part) (at : ℕ) (first : nameAt s 0 ≡ accepted (got p at)) (q : List ℕ)
@@ -90,7 +92,8 @@ module _ (s : List ℕ) (base z : ℕ) (t : Names) (p : Part) (at : ℕ) (first 
 
   module _ (name-section : same nameWord q ≡ true) (table : List ℕ) {a : Said (Got Named)}
       (told : ReaderTells namedOf (NamesHeld table z) (walkFrom (subsectionAt s base z) s at t) a) where
-    pub custom-stop : {P : CustomSaid → Type 0} {m k : ℕ} → a ≡ refused m k → ReaderTells customOf P (customAt s base z t) (refused m k)
+    pub custom-stop : {P : CustomSaid → Type 0} {m : ℕ} {k : Place} → a ≡ refused m k
+        → ReaderTells customOf P (customAt s base z t) (refused m k)
     unfolding customAt
     custom-stop e =
         let o : same nameWord (partBytes s p) ≡ true = rw (sym is) name-section in

@@ -8,15 +8,16 @@ use borrow.Author.Tests.{lt-ltb, le-ltb}
 use lib.ListN.{length, length-append}
 use lib.Dec.{ltb, eqb}
 use Rattle.refusal.specs.Pick.{pick}
-use Rattle.refusal.specs.Said.{Said, accepted, refused, Got, got, onward}
+use Rattle.refusal.specs.Said.{Said, accepted, refused, refusedBy, movedOn, Got, got, onward, spot, Place}
 use Rattle.refusal.specs.declared.Part.{Part}
+use Rattle.refusal.specs.declared.Refusal.{Refusal}
 use Rattle.refusal.proofs.Following.{never}
 use Rattle.table.specs.Table.{Lies, laid, cells, putRow}
 use Rattle.table.specs.Shape.{width, limit, capacityIn}
 use Rattle.table.specs.Told.{ReaderTells, Passed, Ends}
 use Rattle.table.proofs.Cells.{room-row}
 use Rattle.table.proofs.Laws.{put-row-laid}
-use Rattle.table.proofs.Telling.{tell-got, tell-stop, tell-next, tell-after, tell-after-stop}
+use Rattle.table.proofs.Telling.{tell-got, tell-stop, tell-next, tell-after, tell-after-stop, tell-moved-stop, tell-moved-on}
 use Rattle.leb.specs.Reads.{part, partBytes, byteAt, countedAt}
 use Rattle.wasm.specs.declared.entry.Import.{Import}
 use Rattle.wasm.specs.declared.entry.Export.{Export}
@@ -36,7 +37,8 @@ module _ (id : ℕ) (s : List ℕ) (base : ℕ) (z : Sizes) (t : Tables) where
     zero-here : ReaderTells customOf (CustomHeld table (z .names)) (customAt s base (z .names) (t .names)) a
     zero-here = subst (λ (y : ℕ). ReaderTells customOf (CustomHeld table y) (customAt s base y (t .names)) a) (sym same) told
 
-    pub zero-stop : {P : Inner → Type 0} {n p : ℕ} → a ≡ refused n p → ReaderTells contentsOf P (contentsAt id s base z t) (refused n p)
+    pub zero-stop : {P : Inner → Type 0} {n : ℕ} {p : Place} → a ≡ refused n p
+        → ReaderTells contentsOf P (contentsAt id s base z t) (refused n p)
     unfolding contentsAt
     zero-stop e = rw is (tell-after-stop _ zero-here e)
 
@@ -57,7 +59,8 @@ module _ (id : ℕ) (s : List ℕ) (base : ℕ) (z : Sizes) (t : Tables) where
     two-here : ReaderTells length (Lies importCells (z .imports) table) (importsOf s base (z .imports)) a
     two-here = subst (λ (y : ℕ). ReaderTells length (Lies importCells y table) (importsOf s base y) a) (sym same) told
 
-    pub two-stop : {P : Inner → Type 0} {n p : ℕ} → a ≡ refused n p → ReaderTells contentsOf P (contentsAt id s base z t) (refused n p)
+    pub two-stop : {P : Inner → Type 0} {n : ℕ} {p : Place} → a ≡ refused n p
+        → ReaderTells contentsOf P (contentsAt id s base z t) (refused n p)
     unfolding contentsAt
     two-stop e = rw is (tell-after-stop _ two-here e)
 
@@ -77,7 +80,8 @@ module _ (id : ℕ) (s : List ℕ) (base : ℕ) (z : Sizes) (t : Tables) where
     seven-here : ReaderTells length (Lies exportCells (z .exports) table) (exportsOf s base (z .exports)) a
     seven-here = subst (λ (y : ℕ). ReaderTells length (Lies exportCells y table) (exportsOf s base y) a) (sym same) told
 
-    pub seven-stop : {P : Inner → Type 0} {n p : ℕ} → a ≡ refused n p → ReaderTells contentsOf P (contentsAt id s base z t) (refused n p)
+    pub seven-stop : {P : Inner → Type 0} {n : ℕ} {p : Place} → a ≡ refused n p
+        → ReaderTells contentsOf P (contentsAt id s base z t) (refused n p)
     unfolding contentsAt
     seven-stop e = rw is (tell-after-stop _ seven-here e)
 
@@ -130,7 +134,7 @@ module _ (n : ℕ) (row : Section) (next : ℕ) (t : Tables) (k : ℕ) (m : Coun
   unfolding countsOf
   count = e ∙ ap (λ (x : Counts). x .sections) c
 
-  pub take-full : {P : Tables → Type 0} → capacityIn 1 n ≤ k → ReaderTells countsOf P (addSection n row next t) (refused 13 1)
+  pub take-full : {P : Tables → Type 0} → capacityIn 1 n ≤ k → ReaderTells countsOf P (addSection n row next t) (refused 13 (spot 1))
   unfolding addSection
   take-full h = let f : capacityIn 1 n ≤ length (t .sections) = omega (arith, count) in tell-stop (rw (le-ltb _ _ f))
 
@@ -155,7 +159,7 @@ add-keeps n row next t u d e = by (ltb (length (t .sections)) (capacityIn 1 n)) 
   t1 : Tables
   t1 = withSection t row
 
-  by : (b : Bool) → pick b (accepted (got t1 next)) (refused 13 1) ≡ accepted (got u d)
+  by : (b : Bool) → pick b (accepted (got t1 next)) (refused 13 (spot 1)) ≡ accepted (got u d)
       → (u .imports ≡ t .imports) × (u .exports ≡ t .exports) × (u .names ≡ t .names)
   by true q =
       let k : t1 ≡ u = cc in
@@ -186,9 +190,10 @@ module _ (b : List ℕ) (z : Sizes) (t : Tables) (at id a next : ℕ) (p : Part)
   here : ReaderTells contentsOf (InsideOf i e f z) (contentsAt id (partBytes b p) (p .from) z t) r
   here = rw cut at told
 
-  pub section-stop : {P : Tables → Type 0} {m k : ℕ} → r ≡ refused m k → ReaderTells countsOf P (sectionAt b z at t) (refused m k)
+  pub section-stop : {P : Tables → Type 0} {v : Refusal} (w : Refusal) → r ≡ refusedBy w → v ≡ movedOn (p .from) w
+      → ReaderTells countsOf P (sectionAt b z at t) (refusedBy v)
   unfolding sectionAt
-  section-stop q = tell-next _ one (tell-next _ two (tell-after-stop _ here q))
+  section-stop w q m = tell-next _ one (tell-next _ two (tell-moved-stop (p .from) here _ w q m))
 
   pub section-got : (s s1 : List ℕ) (u : Contents) (d : ℕ) {y : Said (Got Counts)} → r ≡ accepted (got u d)
       → s ≡ laid (z .sections) (cells sectionCells (t .sections))
@@ -198,7 +203,7 @@ module _ (b : List ℕ) (z : Sizes) (t : Tables) (at id a next : ℕ) (p : Part)
       → ReaderTells countsOf (Holds (lend s1 i e f) z) (sectionAt b z at t) y
   unfolding sectionAt contentsOf InsideOf
   section-got s s1 u d {y} q h taken =
-      tell-next _ one (tell-next _ two (tell-after _ here q (λ w x v k.
+      tell-next _ one (tell-next _ two (tell-moved-on (p .from) here _ q (λ w x v k.
       let keep = contents-keep id (partBytes b p) (p .from) z t w d x in
       let n : w .name ≡ u .name = sym (ap (λ (c : Contents). c .name) v) in
       let g = taken (w .tables) (ap (λ (c : Contents). c .counts) v)

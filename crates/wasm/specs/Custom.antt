@@ -7,7 +7,7 @@ use mathlib.Core.List.{List, [], _∷_}
 use lib.ListN.{length}
 use lib.Dec.{eqb}
 use Rattle.refusal.specs.Pick.{pick}
-use Rattle.refusal.specs.Said.{Said, accepted, refusedBy, Got, got, onward}
+use Rattle.refusal.specs.Said.{Said, accepted, refusedBy, relocated, Got, got, onward}
 use Rattle.refusal.specs.declared.Part.{Part}
 use Rattle.text.specs.Find.{same}
 use Rattle.table.specs.Table.{laid, cells}
@@ -48,12 +48,13 @@ toldBy id s base n t =
     accepted (got (record { label = t .label; symbols = rows }) e)))
     (accepted (got t 0)))
 
--- the subsection at an offset of the name section's payload: an id, a size, and its bytes, whole
+-- the subsection at an offset of the name section's payload: an id, a size, and its bytes, whole; what they refuse is told from where
+-- the payload starts
 unfoldable pub subsectionAt : List ℕ → ℕ → ℕ → ℕ → Names → Said (Got Names)
 subsectionAt s base n at t =
     onward (byteAt s at) (λ id a.
     onward (countedAt s a) (λ p next.
-    onward (toldBy id (partBytes s p) (base + p .from) n t) (λ u e. accepted (got u next))))
+    onward (relocated (p .from) (toldBy id (partBytes s p) (base + p .from) n t)) (λ u e. accepted (got u next))))
 
 -- the bytes of `name`
 unfoldable pub nameWord : List ℕ

@@ -1,11 +1,12 @@
 -- docs/RULES.md, "The module": entries of sections, read at an offset of the bytes s, which start at `base` in the file. An entry and the
--- offset after it, or a refusal. The specification's own grammar of entries stands in Grammar.antt. Assumes nothing.
+-- offset after it, or a refusal, whose offset is one of s too: sections move it. The specification's own grammar of entries stands in
+-- Grammar.antt. Assumes nothing.
 use Prim.Native.Nat.{ℕ, _+_, _%_}
 use mathlib.Core.Bool.{true, false}
 use mathlib.Core.List.{List}
 use lib.Dec.{eqb}
 use Rattle.refusal.specs.Pick.{pick}
-use Rattle.refusal.specs.Said.{Said, accepted, refused, refusedBy, Got, got, onward}
+use Rattle.refusal.specs.Said.{Said, accepted, refused, refusedBy, Got, got, onward, kindAt}
 use Rattle.refusal.specs.declared.Part.{Part}
 use Rattle.refusal.specs.declared.Refusal.{Refusal}
 use Rattle.refusal.specs.declared.Refusal.the-variants.{UnexpectedEof}
@@ -42,14 +43,14 @@ memoryAt s at = onward (limitsAt s at) (λ l a. accepted (got (Desc.Memory l) a)
 unfoldable pub globalAt : List ℕ → ℕ → Said (Got Desc)
 globalAt s at = onward (byteAt s at) (λ type a. onward (byteAt s a) (λ mutable b. accepted (got (Desc.Global type mutable) b)))
 
--- by the kind byte; any other kind is 5, and its place is the byte itself
-unfoldable pub descAt : List ℕ → ℕ → ℕ → Said (Got Desc)
-descAt s kind at =
+-- by the kind byte, which lies at k; any other kind is 5, its place is the byte itself, and its offset comes beside it
+unfoldable pub descAt : List ℕ → ℕ → ℕ → ℕ → Said (Got Desc)
+descAt s kind k at =
     pick (eqb kind 0) (funcAt s at)
     (pick (eqb kind 1) (tableAt s at)
     (pick (eqb kind 2) (memoryAt s at)
     (pick (eqb kind 3) (globalAt s at)
-    (refused 5 kind))))
+    (refused 5 (kindAt kind k)))))
 
 -- a range of the bytes as a range of the file
 abbrev pub moved : ℕ → Part → Part
@@ -61,7 +62,7 @@ importAt s base at =
     onward (nameAt s at) (λ m a.
     onward (nameAt s a) (λ f b.
     onward (byteAt s b) (λ kind d.
-    onward (descAt s kind d) (λ desc e.
+    onward (descAt s kind b d) (λ desc e.
     accepted (got (record { «module» = moved base m; field = moved base f; kind = kind; desc = desc }) e)))))
 
 -- a name, a kind, an index

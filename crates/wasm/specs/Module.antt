@@ -7,7 +7,7 @@ use lib.ListN.{length}
 use lib.Dec.{ltb, eqb}
 use Rattle.refusal.specs.Pick.{pick}
 use Rattle.refusal.specs.Sizes.{fileLimit}
-use Rattle.refusal.specs.Said.{Said, accepted, refused, refusedBy, follow, Got, got, onward}
+use Rattle.refusal.specs.Said.{Said, accepted, refused, refusedBy, relocated, follow, Got, got, onward, offset, spot}
 use Rattle.refusal.specs.declared.Part.{Part}
 use Rattle.refusal.specs.declared.Refusal.{Refusal}
 use Rattle.refusal.specs.declared.Refusal.the-variants.{UnexpectedEof}
@@ -87,14 +87,16 @@ contentsAt id s base z t =
 
 -- a section's row is added if table 1, of n cells, has room for it
 unfoldable pub addSection : ℕ → Section → ℕ → Tables → Said (Got Tables)
-addSection n row next t = pick (ltb (length (t .sections)) (capacityIn 1 n)) (accepted (got (withSection t row) next)) (refused 13 1)
+addSection n row next t =
+    pick (ltb (length (t .sections)) (capacityIn 1 n)) (accepted (got (withSection t row) next)) (refused 13 (spot 1))
 
--- the section at an offset of the file: an id, a size, and a payload that is whole; the row is taken after the contents
+-- the section at an offset of the file: an id, a size, and a payload that is whole; what its contents refuse is told from where the
+-- file starts; the row is taken after the contents
 unfoldable pub sectionAt : List ℕ → Sizes → ℕ → Tables → Said (Got Tables)
 sectionAt b z at t =
     onward (byteAt b at) (λ id a.
     onward (countedAt b a) (λ p next.
-    onward (contentsAt id (partBytes b p) (p .from) z t) (λ u e.
+    onward (relocated (p .from) (contentsAt id (partBytes b p) (p .from) z t)) (λ u e.
     addSection (z .sections) (record { id = id; from = p .from; size = p .len; name = u .name }) next (u .tables))))
 
 unfoldable pub magic : List ℕ
@@ -105,8 +107,8 @@ unfoldable pub headerAt : List ℕ → Said (Got ℕ)
 headerAt b =
     onward (takeAt b 0 4) (λ p c.
     pick (same magic (partBytes b p))
-    (onward (fixedAt b c) (λ v d. pick (eqb v 0) (refused 2 4) (accepted (got v d))))
-    (refused 2 0))
+    (onward (fixedAt b c) (λ v d. pick (eqb v 0) (refused 2 (offset 4)) (accepted (got v d))))
+    (refused 2 (offset 0)))
 
 -- a module that was read
 pub record Parsed : Type 0 where
@@ -116,7 +118,7 @@ pub record Parsed : Type 0 where
 -- the file: 14 first, then the header, then section after section
 unfoldable pub moduleAt : List ℕ → Sizes → Said Parsed
 moduleAt b z =
-    pick (ltb fileLimit (length b)) (refused 14 0)
+    pick (ltb fileLimit (length b)) (refused 14 (spot 0))
     (onward (headerAt b) (λ v c.
     onward (walkFrom (sectionAt b z) b c noTables) (λ t d.
     accepted (record { version = v; tables = t }))))

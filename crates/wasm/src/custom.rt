@@ -94,7 +94,7 @@ fn read_subsection(s: &[u8], base: usize, c: Cursor, n: Named, names: &mut [usiz
     let from = p.from;
     let end = from + p.len;
     match read_told(id, &s[from..end], base + from, n, names) {
-        NamedRead::Refused(r) => NamedRead::Refused(r),
+        NamedRead::Refused(r) => NamedRead::Refused(refusal::moved(from, r)),
         NamedRead::Read(m, _) => NamedRead::Read(m, next),
     }
 }

@@ -180,16 +180,16 @@ fn read_global(s: &[u8], c: Cursor) -> DescRead
     DescRead::Read(Desc::Global(value, mutable), next)
 }
 
-// Any other kind is refused before anything after it is read.
-fn read_desc(s: &[u8], kind: u8, c: Cursor) -> DescRead
-    ensures { λ r. ⌜ saidDesc r ≡ descAt (now (s .entry)) kind (c .at) ⌝ }
+// Any other kind is refused before anything after it is read; `at` is where the kind byte lies.
+fn read_desc(s: &[u8], kind: u8, at: usize, c: Cursor) -> DescRead
+    ensures { λ r. ⌜ saidDesc r ≡ descAt (now (s .entry)) kind at (c .at) ⌝ }
 {
     match kind {
         0 => read_func(s, c),
         1 => read_table(s, c),
         2 => read_memory(s, c),
         3 => read_global(s, c),
-        _ => DescRead::Refused(Refusal::MalformedSection(kind as usize)),
+        _ => DescRead::Refused(Refusal::MalformedSection(kind as usize, at)),
     }
 }
 
@@ -220,7 +220,7 @@ pub(crate) fn read_import(s: &[u8], base: usize, c: Cursor) -> ImportRead
     let ByteRead::Read(kind, after_kind) = three else {
         return ImportRead::Refused(three.why());
     };
-    let four = read_desc(s, kind, after_kind);
+    let four = read_desc(s, kind, after_field.at, after_kind);
     let DescRead::Read(desc, next) = four else {
         return ImportRead::Refused(four.why());
     };

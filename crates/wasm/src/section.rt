@@ -200,7 +200,7 @@ fn read_section(
     let size = p.len;
     let end = from + size;
     match read_contents(id, &file[from..end], from, n, imports, exports, names) {
-        ContentsRead::Refused(r) => CountsRead::Refused(r),
+        ContentsRead::Refused(r) => CountsRead::Refused(refusal::moved(from, r)),
         ContentsRead::Read(u, _) => {
             let name = u.name;
             let counts = u.counts;

@@ -8,12 +8,12 @@ use mathlib.Core.List.{List}
 use borrow.Author.Tests.{eqb-true, eqb-false}
 use lib.Dec.{eqb}
 use lib.ListN.{length, drop}
-use Rattle.refusal.specs.Said.{refused}
+use Rattle.refusal.specs.Said.{refused, offset, Place}
 use Rattle.refusal.proofs.Following.{never}
 use Rattle.leb.specs.Groups.{uN, sN}
 use Rattle.leb.specs.Reads.{ulebAt, u32At, slebAt}
 use Rattle.leb.proofs.Conform.{u64-read}
-use Rattle.which.specs.Claims.{GoOn, Eleventh, Tenth, Missing, WhichWay, Apart}
+use Rattle.which.specs.Claims.{GoOn, Eleventh, Tenth, Missing, WhichWay, Excluding}
 use Rattle.which.proofs.Sorting.{Comes, Fits, Exceeds, unsigned-comes, Any, None, signed-comes}
 use Rattle.which.proofs.Telling.{long-told, large-told, short-told, told-only}
 use Rattle.which.proofs.Narrowed.{u32-passes, counted-passes, name-passes, above-out, above-in}
@@ -25,7 +25,7 @@ module _ (s : List ℕ) (at p : ℕ) where
   fit : (n : ℕ) → Fits n → Exceeds n → ⊥
   fit n a b = omega (arith, a, b)
 
-  eleventh : (ulebAt s at ≡ refused 17 p) ↔ ((p ≡ at) × Eleventh (drop at s))
+  eleventh : (ulebAt s at ≡ refused 17 (offset p)) ↔ ((p ≡ at) × Eleventh (drop at s))
   unfolding ulebAt
   eleventh =
       let t = long-told fit at p (drop at s) unsigned in (
@@ -33,7 +33,7 @@ module _ (s : List ℕ) (at p : ℕ) where
         λ h. t .1 (h .0, h .1 .there, h .1 .going, h .1 .fits),
       )
 
-  tenth : (ulebAt s at ≡ refused 18 p) ↔ ((p ≡ at) × Tenth (drop at s))
+  tenth : (ulebAt s at ≡ refused 18 (offset p)) ↔ ((p ≡ at) × Tenth (drop at s))
   unfolding ulebAt
   tenth =
       let t = large-told fit at p (drop at s) unsigned in (
@@ -41,7 +41,7 @@ module _ (s : List ℕ) (at p : ℕ) where
         λ h. t .1 (h .0, h .1 .there, h .1 .going, h .1 .large),
       )
 
-  missing : (ulebAt s at ≡ refused 1 p) ↔ ((p ≡ at + length (drop at s)) × Missing (drop at s))
+  missing : (ulebAt s at ≡ refused 1 (offset p)) ↔ ((p ≡ at + length (drop at s)) × Missing (drop at s))
   unfolding ulebAt
   missing =
       let t = short-told fit at p (drop at s) unsigned in (
@@ -49,24 +49,24 @@ module _ (s : List ℕ) (at p : ℕ) where
         λ h. t .1 (h .0, h .1 .few, h .1 .going, h .1 .fits),
       )
 
-  u64-refusals : (n : ℕ) → ulebAt s at ≡ refused n p → (n ≡ 1) ⊎ ((n ≡ 17) ⊎ (n ≡ 18))
+  u64-refusals : (n : ℕ) (q : Place) → ulebAt s at ≡ refused n q → (n ≡ 1) ⊎ ((n ≡ 17) ⊎ (n ≡ 18))
   unfolding ulebAt
-  u64-refusals n e = by (told-only fit at p (drop at s) n unsigned e) where
+  u64-refusals n q e = by (told-only fit at p (drop at s) n q unsigned e) where
     by : {M : Type 0} → (n ≡ 1) ⊎ ((n ≡ 17) ⊎ ((n ≡ 18) × M)) → (n ≡ 1) ⊎ ((n ≡ 17) ⊎ (n ≡ 18))
     by (inl q) = inl q
     by (inr (inl q)) = inr (inl q)
     by (inr (inr q)) = inr (inr (q .0))
 
   -- an unsigned number is never 19
-  not-above : ulebAt s at ≡ refused 19 p → ⊥
-  not-above e = by 19 refl (u64-refusals 19 e) where
+  not-above : ulebAt s at ≡ refused 19 (offset p) → ⊥
+  not-above e = by 19 refl (u64-refusals 19 (offset p) e) where
     by : (n : ℕ) → n ≡ 19 → (n ≡ 1) ⊎ ((n ≡ 17) ⊎ (n ≡ 18)) → ⊥
     by n h (inl q) = omega (arith, h, q)
     by n h (inr (inl q)) = omega (arith, h, q)
     by n h (inr (inr q)) = omega (arith, h, q)
 
-  one-of-three : (n : ℕ) → u32At s at ≡ refused n p → (n ≡ 1) ⊎ ((n ≡ 17) ⊎ ((n ≡ 18) ⊎ (n ≡ 19)))
-  one-of-three n e = by (eqb n 19) refl where
+  one-of-three : (n : ℕ) (q : Place) → u32At s at ≡ refused n q → (n ≡ 1) ⊎ ((n ≡ 17) ⊎ ((n ≡ 18) ⊎ (n ≡ 19)))
+  one-of-three n q e = by (eqb n 19) refl where
     other : (n ≡ 1) ⊎ ((n ≡ 17) ⊎ (n ≡ 18)) → (n ≡ 1) ⊎ ((n ≡ 17) ⊎ ((n ≡ 18) ⊎ (n ≡ 19)))
     other (inl q) = inl q
     other (inr (inl q)) = inr (inl q)
@@ -74,7 +74,7 @@ module _ (s : List ℕ) (at p : ℕ) where
 
     by : (t : Bool) → eqb n 19 ≡ t → (n ≡ 1) ⊎ ((n ≡ 17) ⊎ ((n ≡ 18) ⊎ (n ≡ 19)))
     by true t = inr (inr (inr (eqb-true n 19 t)))
-    by false t = other (u64-refusals n (u32-passes s at p n (eqb-false n 19 t) .0 e))
+    by false t = other (u64-refusals n q (u32-passes s at n q (eqb-false n 19 t) .0 e))
 
   signed : Comes Any None 9 (drop at s) (sN 64 (drop at s))
   signed = signed-comes 9 (drop at s)
@@ -82,22 +82,22 @@ module _ (s : List ℕ) (at p : ℕ) where
   any : (n : ℕ) → Any n → None n → ⊥
   any n a b = b
 
-  signed-eleventh : (slebAt s at ≡ refused 17 p) ↔ ((p ≡ at) × (11 ≤ length (drop at s)) × GoOn 10 (drop at s))
+  signed-eleventh : (slebAt s at ≡ refused 17 (offset p)) ↔ ((p ≡ at) × (11 ≤ length (drop at s)) × GoOn 10 (drop at s))
   unfolding slebAt
   signed-eleventh =
       let t = long-told any at p (drop at s) signed in
       (λ e. let h = t .0 e in (h .0, h .1, h .2), λ h. t .1 (h .0, h .1, h .2, tt))
 
-  signed-missing : (slebAt s at ≡ refused 1 p)
+  signed-missing : (slebAt s at ≡ refused 1 (offset p))
       ↔ ((p ≡ at + length (drop at s)) × (length (drop at s) ≤ 10) × GoOn (length (drop at s)) (drop at s))
   unfolding slebAt
   signed-missing =
       let t = short-told any at p (drop at s) signed in
       (λ e. let h = t .0 e in (h .0, h .1, h .2), λ h. t .1 (h .0, h .1, h .2, tt))
 
-  s64-refusals : (n : ℕ) → slebAt s at ≡ refused n p → (n ≡ 1) ⊎ (n ≡ 17)
+  s64-refusals : (n : ℕ) (q : Place) → slebAt s at ≡ refused n q → (n ≡ 1) ⊎ (n ≡ 17)
   unfolding slebAt
-  s64-refusals n e = by (told-only any at p (drop at s) n signed e) where
+  s64-refusals n q e = by (told-only any at p (drop at s) n q signed e) where
     by : (n ≡ 1) ⊎ ((n ≡ 17) ⊎ ((n ≡ 18) × ⊥)) → (n ≡ 1) ⊎ (n ≡ 17)
     by (inl q) = inl q
     by (inr (inl q)) = inr q
@@ -110,17 +110,17 @@ module _ (s : List ℕ) (at p : ℕ) where
     missing = missing;
     u64-refusals = u64-refusals;
     above = (above-out s at p not-above, above-in s at p);
-    u32-passes = u32-passes s at p;
+    u32-passes = u32-passes s at;
     one-of-three = one-of-three;
-    counted-passes = counted-passes s at p;
-    name-passes = name-passes s at p;
+    counted-passes = counted-passes s at;
+    name-passes = name-passes s at;
     signed-eleventh = signed-eleventh;
     signed-missing = signed-missing;
     s64-refusals = s64-refusals;
   }
 
 -- l itself is read at 0
-pub all-apart : (l : List ℕ) → Apart l
+pub all-apart : (l : List ℕ) → Excluding l
 all-apart l = record {
   eleventh-tenth = λ a b. omega (arith, a .fits, b .large);
   eleventh-good = λ v k a u. never (sym (eleventh l 0 0 .1 (refl, a)) ∙ u64-read l 0 v k u);

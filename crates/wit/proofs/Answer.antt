@@ -3,7 +3,7 @@ use Prim.Native.Nat.{ℕ, _+_, _≤_, _<_}
 use mathlib.Core.Path.{_≡_, refl, sym, _∙_, ap, subst}
 use mathlib.Core.List.{List}
 use lib.ListN.{length, drop}
-use Rattle.refusal.specs.Said.{Said, accepted, refused, refusedBy, follow, Got, got, onward, saidAnswer}
+use Rattle.refusal.specs.Said.{Said, accepted, refused, refusedBy, follow, Got, got, onward, saidAnswer, Place}
 use Rattle.refusal.specs.declared.Answer.{Answer}
 use Rattle.refusal.specs.declared.Refusal.{Refusal}
 use Rattle.text.specs.Lines.{lineLen, lineStep}
@@ -42,7 +42,7 @@ line-told s at e next d k m {z} {before} {after} {a} ke kn kd km steps t c h =
     record { answer-is = r .answer-is; holds = r .holds }
 
 -- a line that is refused ends the whole; the end of the text closes an open world
-pub lines-off : (s : List ℕ) (z : ManifestSizes) {P : State → Type 0} {m p : ℕ}
+pub lines-off : (s : List ℕ) (z : ManifestSizes) {P : State → Type 0} {m : ℕ} {p : Place}
     → ReaderTells knownOf P (walkFrom (lineAt s z) s 0 start) (refused m p) → ReaderTells knownOf P (linesAt s z) (refused m p)
 unfolding linesAt
 lines-off s z told = tell-after-stop _ told refl
@@ -57,7 +57,7 @@ lines-told s at z z1 k l l1 {a} g h same steps =
 
 -- ---- the whole text
 module _ (s : List ℕ) (z : ManifestSizes) where
-  stopped : (l : ManifestLent) (m p : ℕ) → manifestAt s z ≡ refused m p → ManifestHolds l z start
+  stopped : (l : ManifestLent) (m : ℕ) (p : Place) → manifestAt s z ≡ refused m p → ManifestHolds l z start
       → ManifestIs z (manifestAt s z) l (refused m p)
   unfolding manifestHeld follow
   stopped l m p e h = rw e (record { answer-is = refl; tables-are = h })
@@ -87,7 +87,7 @@ module _ (s : List ℕ) (z : ManifestSizes) where
           let w : linesAt s z ≡ accepted (got (o .what) d) = o .is in
           rw (whole, w) (record { answer-is = ap accepted (e ∙ ap manifestKnown (o .value)); tables-are = o .held })
 
-      pub manifest-stop : (l1 : ManifestLent) (m p : ℕ) → a ≡ refused m p → ManifestHolds l1 z start
+      pub manifest-stop : (l1 : ManifestLent) (m : ℕ) (p : Place) → a ≡ refused m p → ManifestHolds l1 z start
           → ManifestIs z (manifestAt s z) l1 (refused m p)
       unfolding manifestAt onward follow
       manifest-stop l1 m p q h =

@@ -8,7 +8,7 @@ use lib.Dec.{eqb, ltb}
 use lib.ListN.{length, drop, length-append}
 use borrow.Author.Tests.{ltb-true, eqb-false}
 use Rattle.refusal.specs.Pick.{pick}
-use Rattle.refusal.specs.Said.{Said, accepted, refused, Got, got}
+use Rattle.refusal.specs.Said.{Said, accepted, refused, Got, got, spot}
 use Rattle.refusal.specs.declared.Part.{Part}
 use Rattle.text.specs.Lines.{lineStep}
 use Rattle.table.specs.Shape.{capacityIn}
@@ -123,13 +123,13 @@ module _ (s : List ℕ) (z : ManifestSizes) where
   unfolding closeAt Of
   close-keeps next t h = by (t .world .given) refl where
     put : (b : Bool) → ltb (length (t .worlds)) (capacityIn 5 (z .worlds)) ≡ b → t .world .given ≡ true
-        → Gives (Of Shut) (pick b (accepted (got (worldClosed t) next)) (refused 13 5))
+        → Gives (Of Shut) (pick b (accepted (got (worldClosed t) next)) (refused 13 (spot 5)))
     put true e g = gives-done (Of Shut) (got (worldClosed t) next) (kept-closed t h g (ltb-true _ _ e))
-    put false e g = gives-stop (Of Shut) 13 5
+    put false e g = gives-stop (Of Shut) 13 (spot 5)
 
     by : (b : Bool) → t .world .given ≡ b
         → Gives (Of Shut) (pick b
-        (pick (ltb (length (t .worlds)) (capacityIn 5 (z .worlds))) (accepted (got (worldClosed t) next)) (refused 13 5))
+        (pick (ltb (length (t .worlds)) (capacityIn 5 (z .worlds))) (accepted (got (worldClosed t) next)) (refused 13 (spot 5)))
         (accepted (got t next)))
     by true g = put (ltb (length (t .worlds)) (capacityIn 5 (z .worlds))) refl g
     by false g = gives-done (Of Shut) (got t next) (record { kept = h; none = h .open-ok .missing g })
@@ -157,8 +157,8 @@ module _ (s : List ℕ) (z : ManifestSizes) where
   open-keeps name next t h c =
       gives-onward (Of Kept) (closeAt z next t) _ (λ u at e. by u at (close-shut next t h u at e) (eqb (name .len) 0) refl) where
         by : (u : State) (at : ℕ) → Shut u → (b : Bool) → eqb (name .len) 0 ≡ b
-            → Gives (Of Kept) (pick b (refused 10 (u .line)) (accepted (got (withWorld name u) at)))
-        by u at o true e = gives-stop (Of Kept) 10 (u .line)
+            → Gives (Of Kept) (pick b (refused 10 (spot (u .line))) (accepted (got (withWorld name u) at)))
+        by u at o true e = gives-stop (Of Kept) 10 (spot (u .line))
         by u at o false e =
             gives-done (Of Kept) (got (withWorld name u) at) (kept-opened name u o c (positive (name .len) (eqb-false (name .len) 0 e)))
 
@@ -197,7 +197,7 @@ module _ (s : List ℕ) (z : ManifestSizes) where
   unfolding obeyAt Of referAt
   obey-keeps Blank next t c h = gives-done (Of Kept) (got t next) h
   obey-keeps (Package p) next t c h =
-      inside-keeps (t .world .given) _ _ (λ g. gives-stop (Of Kept) 9 (t .line))
+      inside-keeps (t .world .given) _ _ (λ g. gives-stop (Of Kept) 9 (spot (t .line)))
       (λ g. gives-done (Of Kept) (got (withPackage p t) next) (record {
         package-clean = mark-set c;
         open-ok = h .open-ok;
@@ -209,17 +209,17 @@ module _ (s : List ℕ) (z : ManifestSizes) where
       }))
   obey-keeps (World p) next t c h = open-keeps p next t h c
   obey-keeps Close next t c h =
-      inside-keeps (t .world .given) _ _ (λ g. shut-kept _ (close-keeps next t h)) (λ g. gives-stop (Of Kept) 11 (t .line))
+      inside-keeps (t .world .given) _ _ (λ g. shut-kept _ (close-keeps next t h)) (λ g. gives-stop (Of Kept) 11 (spot (t .line)))
   obey-keeps (Refer export path signature) next t c h =
       inside-keeps (t .world .given) _ _
       (λ g. inside-keeps (ltb (length (t .references)) (capacityIn 6 (z .references))) _ _
       (λ f. gives-done (Of Kept) (got (referred t (rowOf t export path signature)) next)
       (kept-referred t export path signature h g (c .0) (c .1) (ltb-true _ _ f)))
-      (λ f. gives-stop (Of Kept) 13 6))
-      (λ g. gives-stop (Of Kept) 12 (t .line))
+      (λ f. gives-stop (Of Kept) 13 (spot 6)))
+      (λ g. gives-stop (Of Kept) 12 (spot (t .line)))
   obey-keeps Brace next t c h =
-      inside-keeps (t .world .given) _ _ (λ g. gives-done (Of Kept) (got t next) h) (λ g. gives-stop (Of Kept) 6 (t .line))
-  obey-keeps Other next t c h = gives-stop (Of Kept) 6 (t .line)
+      inside-keeps (t .world .given) _ _ (λ g. gives-done (Of Kept) (got t next) h) (λ g. gives-stop (Of Kept) 6 (spot (t .line)))
+  obey-keeps Other next t c h = gives-stop (Of Kept) 6 (spot (t .line))
 
   line-keeps : (at : ℕ) (t : State) → Kept t → Gives (Of Kept) (lineAt s z at t)
   unfolding lineAt

@@ -7,7 +7,7 @@ use native.Mathlib.Omega.{arith}
 use borrow.Author.Tests.{lt-ltb, le-ltb, eq-eqb, ne-eqb}
 use lib.ListN.{length, length-append}
 use Rattle.refusal.specs.Pick.{pick}
-use Rattle.refusal.specs.Said.{Said, accepted, refused, Got, got}
+use Rattle.refusal.specs.Said.{Said, accepted, refused, Got, got, spot, Place}
 use Rattle.refusal.specs.declared.Part.{Part}
 use Rattle.table.specs.Table.{laid, cells, putRow}
 use Rattle.table.specs.Shape.{width, limit, capacityIn}
@@ -88,7 +88,7 @@ module _ {z : ManifestSizes} {t : State} {k : Known} (c : k ≡ knownOf t) {w l 
   close-none e = on-false _ _ _ (given-is e) (tell-got t next refl c h)
 
   pub close-full : {P : State → Type 0} → k .world .given ≡ true → capacityIn 5 (z .worlds) ≤ k .worlds
-      → ReaderTells knownOf P (closeAt z next t) (refused 13 5)
+      → ReaderTells knownOf P (closeAt z next t) (refused 13 (spot 5))
   unfolding closeAt
   close-full e m =
       let f : capacityIn 5 (z .worlds) ≤ length (t .worlds) = omega (arith, worlds-is) in
@@ -113,7 +113,7 @@ module _ {z : ManifestSizes} {t : State} {k : Known} (c : k ≡ knownOf t) {w l 
 
   -- ---- a reference of the open world
   pub refer-full : {P : State → Type 0} (out : Bool) (path : Part) (sign : Mark) → capacityIn 6 (z .references) ≤ k .references
-      → ReaderTells knownOf P (referAt z out path sign next t) (refused 13 6)
+      → ReaderTells knownOf P (referAt z out path sign next t) (refused 13 (spot 6))
   unfolding referAt
   refer-full out path sign m =
       let f : capacityIn 6 (z .references) ≤ length (t .references) = omega (arith, references-is) in
@@ -145,12 +145,13 @@ module _ {z : ManifestSizes} {t : State} {k : Known} (c : k ≡ knownOf t) {w l 
     unfolding obeyAt
     obey-blank e = rw e (tell-got t next refl c h)
 
-    pub obey-other : {P : State → Type 0} → d ≡ Other → ReaderTells knownOf P (obeyAt z d next t) (refused 6 (k .line))
+    pub obey-other : {P : State → Type 0} → d ≡ Other → ReaderTells knownOf P (obeyAt z d next t) (refused 6 (spot (k .line)))
     unfolding obeyAt
     obey-other e = rw (e, line-is) (tell-stop refl)
 
     module _ (g : k .world .given ≡ true) where
-      pub in-package : {P : State → Type 0} (p : Part) → d ≡ Package p → ReaderTells knownOf P (obeyAt z d next t) (refused 9 (k .line))
+      pub in-package : {P : State → Type 0} (p : Part) → d ≡ Package p
+          → ReaderTells knownOf P (obeyAt z d next t) (refused 9 (spot (k .line)))
       unfolding obeyAt
       in-package p e = rw (e, line-is, given-is g) (tell-stop refl)
 
@@ -176,31 +177,31 @@ module _ {z : ManifestSizes} {t : State} {k : Known} (c : k ≡ knownOf t) {w l 
           rw e (on-false _ _ _ (given-is g)
           (tell-got _ next refl (q ∙ ap (packaged p) c) (record { worlds-are = h .worlds-are; references-are = h .references-are })))
 
-      pub out-close : {P : State → Type 0} → d ≡ Close → ReaderTells knownOf P (obeyAt z d next t) (refused 11 (k .line))
+      pub out-close : {P : State → Type 0} → d ≡ Close → ReaderTells knownOf P (obeyAt z d next t) (refused 11 (spot (k .line)))
       unfolding obeyAt
       out-close e = rw (e, line-is, given-is g) (tell-stop refl)
 
       pub out-refer : {P : State → Type 0} (out : Bool) (path : Part) (sign : Mark) → d ≡ Refer out path sign
-          → ReaderTells knownOf P (obeyAt z d next t) (refused 12 (k .line))
+          → ReaderTells knownOf P (obeyAt z d next t) (refused 12 (spot (k .line)))
       unfolding obeyAt
       out-refer out path sign e = rw (e, line-is, given-is g) (tell-stop refl)
 
-      pub out-brace : {P : State → Type 0} → d ≡ Brace → ReaderTells knownOf P (obeyAt z d next t) (refused 6 (k .line))
+      pub out-brace : {P : State → Type 0} → d ≡ Brace → ReaderTells knownOf P (obeyAt z d next t) (refused 6 (spot (k .line)))
       unfolding obeyAt
       out-brace e = rw (e, line-is, given-is g) (tell-stop refl)
 
 -- ---- a world opens, after what closing the one before came to
 module _ (z : ManifestSizes) (t : State) (next : ℕ) {a : Said (Got Known)} {w l : List ℕ}
     (told : ReaderTells knownOf (ManifestHolds (lendManifest w l) z) (closeAt z next t) a) (name : Part) where
-  pub open-stop : {P : State → Type 0} {m p : ℕ} → a ≡ refused m p → ReaderTells knownOf P (openAt z name next t) (refused m p)
+  pub open-stop : {P : State → Type 0} {m : ℕ} {p : Place} → a ≡ refused m p → ReaderTells knownOf P (openAt z name next t) (refused m p)
   unfolding openAt
   open-stop e = tell-after-stop _ told e
 
   module _ {n : Known} {d : ℕ} (e : a ≡ accepted (got n d)) where
-    pub open-nameless : {P : State → Type 0} → name .len ≡ 0 → ReaderTells knownOf P (openAt z name next t) (refused 10 (n .line))
+    pub open-nameless : {P : State → Type 0} → name .len ≡ 0 → ReaderTells knownOf P (openAt z name next t) (refused 10 (spot (n .line)))
     unfolding openAt
     open-nameless {P} q =
-        tell-after _ told e (λ u x v h. rw (eq-eqb _ _ q) (tell-stop (ap (refused 10) (sym (line-is v h next)))))
+        tell-after _ told e (λ u x v h. rw (eq-eqb _ _ q) (tell-stop (ap (λ (i : ℕ). refused 10 (spot i)) (sym (line-is v h next)))))
 
     pub open-named : (m : Known) → (name .len ≡ 0 → ⊥) → m ≡ opened name n
         → ReaderTells knownOf (ManifestHolds (lendManifest w l) z) (openAt z name next t) (accepted (got m d))

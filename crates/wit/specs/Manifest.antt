@@ -6,7 +6,7 @@ use mathlib.Core.List.{List, [], _∷_, _++_}
 use lib.ListN.{length, drop}
 use lib.Dec.{ltb, eqb}
 use Rattle.refusal.specs.Pick.{pick, oneIf}
-use Rattle.refusal.specs.Said.{Said, accepted, refused, refusedBy, follow, Got, got, onward}
+use Rattle.refusal.specs.Said.{Said, accepted, refused, refusedBy, follow, Got, got, onward, spot}
 use Rattle.refusal.specs.declared.Part.{Part}
 use Rattle.text.specs.Lines.{lineLen, lineStep}
 use Rattle.table.specs.Table.{laid, cells}
@@ -84,20 +84,20 @@ pub record ManifestSizes : Type 0 where
 unfoldable pub closeAt : ManifestSizes → ℕ → State → Said (Got State)
 closeAt z next t =
     pick (t .world .given)
-    (pick (ltb (length (t .worlds)) (capacityIn 5 (z .worlds))) (accepted (got (worldClosed t) next)) (refused 13 5))
+    (pick (ltb (length (t .worlds)) (capacityIn 5 (z .worlds))) (accepted (got (worldClosed t) next)) (refused 13 (spot 5)))
     (accepted (got t next))
 
 -- the world before it closes first; then a name that is empty is 10
 unfoldable pub openAt : ManifestSizes → Part → ℕ → State → Said (Got State)
 openAt z name next t =
     onward (closeAt z next t) (λ u at.
-    pick (eqb (name .len) 0) (refused 10 (u .line)) (accepted (got (withWorld name u) at)))
+    pick (eqb (name .len) 0) (refused 10 (spot (u .line))) (accepted (got (withWorld name u) at)))
 
 -- 13 where table 6 is full
 unfoldable pub referAt : ManifestSizes → Bool → Part → Mark → ℕ → State → Said (Got State)
 referAt z export path signature next t =
     pick (ltb (length (t .references)) (capacityIn 6 (z .references)))
-    (accepted (got (referred t (rowOf t export path signature)) next)) (refused 13 6)
+    (accepted (got (referred t (rowOf t export path signature)) next)) (refused 13 (spot 6))
 
 -- one thing in a world, another outside
 abbrev pub inWorld : State → Said (Got State) → Said (Got State) → Said (Got State)
@@ -105,12 +105,12 @@ inWorld t a b = pick (t .world .given) a b
 
 unfoldable pub obeyAt : ManifestSizes → Directive → ℕ → State → Said (Got State)
 obeyAt z Blank next t = accepted (got t next)
-obeyAt z (Package p) next t = inWorld t (refused 9 (t .line)) (accepted (got (withPackage p t) next))
+obeyAt z (Package p) next t = inWorld t (refused 9 (spot (t .line))) (accepted (got (withPackage p t) next))
 obeyAt z (World p) next t = openAt z p next t
-obeyAt z Close next t = inWorld t (closeAt z next t) (refused 11 (t .line))
-obeyAt z (Refer export path signature) next t = inWorld t (referAt z export path signature next t) (refused 12 (t .line))
-obeyAt z Brace next t = inWorld t (accepted (got t next)) (refused 6 (t .line))
-obeyAt z Other next t = refused 6 (t .line)
+obeyAt z Close next t = inWorld t (closeAt z next t) (refused 11 (spot (t .line)))
+obeyAt z (Refer export path signature) next t = inWorld t (referAt z export path signature next t) (refused 12 (spot (t .line)))
+obeyAt z Brace next t = inWorld t (accepted (got t next)) (refused 6 (spot (t .line)))
+obeyAt z Other next t = refused 6 (spot (t .line))
 
 -- the line that begins at an offset of the text
 abbrev pub linePiece : List ℕ → ℕ → Piece

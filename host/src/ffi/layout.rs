@@ -17,12 +17,27 @@ macro_rules! as_in_c {
     };
 }
 
-pub const INTERFACE: u32 = 2;
+pub const INTERFACE: u32 = 3;
+
+pub mod stack {
+    #![allow(missing_docs)]
+    pub const NUMBER: usize = 4096;
+    pub const POLICY: usize = 4096;
+    pub const TOKEN: usize = 4096;
+    pub const TOKENS: usize = 4096;
+    pub const REWRITE: usize = 4096;
+    pub const CHECK: usize = 196608;
+    pub const STRICT: usize = 335872;
+    pub const MODULE: usize = 188416;
+    pub const MANIFEST: usize = 77824;
+    pub const COMPARE: usize = 712704;
+}
 
 as_in_c! {
-    Answer, 16;
+    Answer, 24;
     number: 0, 4;
     place: 8, 8;
+    offset: 16, 8;
 }
 
 as_in_c! {
@@ -66,29 +81,31 @@ as_in_c! {
 }
 
 as_in_c! {
-    Told<Evaluation>, 152;
+    ToldOf<Evaluation>, 160;
     number: 0, 4;
     place: 8, 8;
-    answer.verdicts: 16, 112;
-    answer.set: 128, 4;
-    answer.count: 136, 8;
-    answer.compliant: 144, 1;
+    offset: 16, 8;
+    answer.verdicts: 24, 112;
+    answer.set: 136, 4;
+    answer.count: 144, 8;
+    answer.compliant: 152, 1;
 }
 
 as_in_c! {
-    Told<Module>, 96;
+    ToldOf<Module>, 104;
     number: 0, 4;
     place: 8, 8;
-    answer.version: 16, 4;
-    answer.length: 24, 8;
-    answer.named: 32, 1;
-    answer.start: 40, 8;
-    answer.size: 48, 8;
-    answer.sections: 56, 8;
-    answer.imports: 64, 8;
-    answer.exports: 72, 8;
-    answer.symbols: 80, 8;
-    answer.bytes: 88, 8;
+    offset: 16, 8;
+    answer.version: 24, 4;
+    answer.length: 32, 8;
+    answer.named: 40, 1;
+    answer.start: 48, 8;
+    answer.size: 56, 8;
+    answer.sections: 64, 8;
+    answer.imports: 72, 8;
+    answer.exports: 80, 8;
+    answer.symbols: 88, 8;
+    answer.bytes: 96, 8;
 }
 
 as_in_c! {
@@ -106,12 +123,13 @@ as_in_c! {
 }
 
 as_in_c! {
-    Told<Comparison>, 56;
+    ToldOf<Comparison>, 64;
     number: 0, 4;
     place: 8, 8;
-    answer.exports: 16, 8;
-    answer.capabilities: 24, 8;
-    answer.compatible: 32, 1;
-    answer.reasons: 40, 8;
-    answer.bytes: 48, 8;
+    offset: 16, 8;
+    answer.exports: 24, 8;
+    answer.capabilities: 32, 8;
+    answer.compatible: 40, 1;
+    answer.reasons: 48, 8;
+    answer.bytes: 56, 8;
 }

@@ -6,6 +6,7 @@ use std::mem::MaybeUninit;
 pub struct ModuleTold {
     pub number: u32,
     pub place: usize,
+    pub offset: usize,
     pub version: u32,
     pub length: usize,
     pub named: bool,
@@ -100,6 +101,7 @@ pub struct VerdictTold {
 pub struct EvaluationTold {
     pub number: u32,
     pub place: usize,
+    pub offset: usize,
     pub verdicts: [VerdictTold; 7],
     pub set: u32,
     pub count: usize,
@@ -121,6 +123,7 @@ pub struct ComparedTold {
 pub struct ComparisonTold {
     pub number: u32,
     pub place: usize,
+    pub offset: usize,
     pub exports: usize,
     pub capabilities: usize,
     pub compatible: bool,

@@ -60,21 +60,21 @@ fn files(court: &mut Court, cells: [u64; 2], baseline: &[u8], candidate: &[u8]) 
 
 /// Tables 2 and 3, cells and counts.
 #[derive(Clone, Default)]
-struct Tables {
+pub struct Tables {
     imports: Vec<u64>,
     exports: Vec<u64>,
     counts: [u64; 2],
 }
 
 impl Tables {
-    fn of(imports: Vec<u64>, exports: Vec<u64>) -> Tables {
+    pub fn of(imports: Vec<u64>, exports: Vec<u64>) -> Tables {
         let counts = [imports.len() as u64 / 5, exports.len() as u64 / 4];
         Tables { imports, exports, counts }
     }
 }
 
 /// The numbers of a case that hands in both modules' tables.
-fn numbers(first: &[u64], b: &Tables, c: &Tables) -> Vec<u64> {
+pub fn numbers(first: &[u64], b: &Tables, c: &Tables) -> Vec<u64> {
     let lengths = [&b.imports, &b.exports, &c.imports].map(|t| t.len() as u64);
     [first, &b.counts, &c.counts, &lengths, &b.imports, &b.exports, &c.imports, &c.exports].concat()
 }

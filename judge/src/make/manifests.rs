@@ -100,6 +100,12 @@ pub fn fixed(court: &mut Court) {
             }
         }
     }
+    // braces with blanks between them: only those at the very end are taken off
+    for line in ["import a", "import a: b", "export a", "world a"] {
+        for braces in ["{{", "{ {", " { {", " { { {", "{ {{ ", "{ } {"] {
+            hear(court, format!("world w\n{line}{braces}\n").as_bytes(), ROOMY);
+        }
+    }
     // every reference that is listed above, and a world of every name
     for r in REFERENCES {
         for word in ["import ", "export "] {

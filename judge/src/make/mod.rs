@@ -1,12 +1,16 @@
 //! The inputs: exhaustive short ones, good ones made by a grammar, damaged copies. A round of seeded ones is the same for the same seed.
 mod bad;
 mod contrasts;
+mod lengths;
 mod manifests;
 mod modules;
 mod numbers;
+mod places;
 mod policies;
+mod scale;
 mod strict;
 mod tables;
+mod words;
 
 use crate::case::{Call, Case};
 use crate::random::Random;
@@ -20,9 +24,13 @@ pub fn fixed(court: &mut Court) {
     policies::fixed(court);
     manifests::fixed(court);
     modules::fixed(court);
+    places::fixed(court);
     strict::fixed(court);
     tables::fixed(court);
     contrasts::fixed(court);
+    lengths::fixed(court);
+    scale::fixed(court);
+    words::fixed(court);
 }
 
 pub fn seeded(court: &mut Court, seed: u64) {
@@ -59,6 +67,12 @@ pub fn seeded(court: &mut Court, seed: u64) {
         court.hear(Case::new(Call::Check, &[], &[&file, &text]));
     }
     strict::seeded(court, r);
+}
+
+/// Bytes in hex; H is the header, N is a custom section's name `name` with its length.
+pub fn bytes(words: &str) -> Vec<u8> {
+    let words = words.replace('H', "00 61 73 6d 01 00 00 00").replace('N', "04 6e 61 6d 65");
+    words.split(' ').map(|b| u8::from_str_radix(b, 16).expect("bytes in hex")).collect()
 }
 
 /// Every string over the alphabet of exactly this length.

@@ -201,6 +201,17 @@ pub fn fixed(court: &mut Court) {
             }
         }
     }
+    for (first, second) in [("allow", "deny"), ("deny", "allow"), ("allow", "allow"), ("deny", "deny")] {
+        text(court, format!("default {first}\ndefault {second}").as_bytes());
+    }
+    // two rules of one domain: the later one's stance and list
+    for first in ["allow env", "deny env: a", "allow env: a, b"] {
+        for second in ["allow env", "deny env", "deny env:", "deny env: c", "allow env: a"] {
+            for between in ["\n", "\nallow fs: x\n"] {
+                text(court, format!("{first}{between}{second}").as_bytes());
+            }
+        }
+    }
     for source in SOURCES {
         for field in FIELDS {
             court.hear(Case::new(Call::Import, &[], &[source.as_bytes(), field.as_bytes()]));

@@ -25,7 +25,7 @@ pub fn fixed(court: &mut Court) {
     rooms(court);
 }
 
-/// The design's worked cases, each with its answer; H is the header, N is a custom section's name `name` with its length.
+/// The design's worked cases, each with its answer.
 const WORKED: [(&str, &str, &str); 23] = [
     ("R02-1", "H", "accepted"),
     ("R02-3", "H 01 80 80 80 80 80 00", "refused 20 at 2"),
@@ -41,7 +41,7 @@ const WORKED: [(&str, &str, &str); 23] = [
     ("R02-23", "H 00 0f N 01 08 01 80 80 80 80 00 01 66", "accepted"),
     ("R02-25", "H 00 0e N 02 07 80 80 80 80 80 80 00", "accepted"),
     ("R02-27", "H 00 0b N 00 04 01 6d 00 00", "accepted"),
-    ("R02-29", "H 00 06 N 00", "refused 1 at 6"),
+    ("R02-29", "H 00 06 N 00", "refused 1 at 16"),
     ("R02-31", "H 02 0e 01 01 6d 01 66 02 01 00 80 80 80 80 80 00", "refused 20 at 2"),
     ("R02-33", "H 00 02 01 78 01 01 00 00 02 01 78 02 01 00 00 02 01 78", "accepted"),
     ("R02-35", "H 07 07 02 00 00 00 00 00 00", "refused 20 at 6"),
@@ -55,8 +55,7 @@ const WORKED: [(&str, &str, &str); 23] = [
 /// The judge's own rules are held to the stated answers too.
 fn worked(court: &mut Court) {
     for (id, bytes, answer) in WORKED {
-        let bytes = bytes.replace('H', "00 61 73 6d 01 00 00 00").replace('N', "04 6e 61 6d 65");
-        let file: Vec<u8> = bytes.split(' ').map(|b| u8::from_str_radix(b, 16).expect("bytes in hex")).collect();
+        let file = super::bytes(bytes);
         let said = strict::answer(&file);
         if said != answer {
             court.differ(&format!("the judge's own rules say {said} of {id}, which is stated as {answer}"));
@@ -367,12 +366,24 @@ fn full_tables(court: &mut Court) {
     }
 }
 
-/// Lists of names around the sizes of the quick look's marks, which a long name enters with both ends: names that differ at one end, or in
-/// the middle alone; all different, and two of them equal.
+/// Lists of names around the sizes of the quick look's marks, which a long name enters with both ends and eight bytes between: names that
+/// differ at one end, in the middle alone, after more than a block, or in two places of which no look sees both; all different, and two of
+/// them equal.
 fn looked(court: &mut Court) {
     for n in [2, 3, 15, 16, 17, 127, 128, 129, 1024] {
-        for (before, after) in [("", ""), ("before--before--", ""), ("", "--behind--behind"), ("before--", "--behind")] {
-            let list: Vec<(Vec<u8>, u8)> = (0..n).map(|i| (format!("{before}{i:04}{after}").into_bytes(), 0)).collect();
+        let block = &"-".repeat(65)[..];
+        for (before, between, after) in [
+            ("", "", ""),
+            ("before--before--", "", ""),
+            ("", "", "--behind--behind"),
+            ("before--", "", "--behind"),
+            ("before--before--", "", "--behind--behind"),
+            (block, "", block),
+            ("before--before--", "--between--", "--behind--behind"),
+            (block, block, block),
+        ] {
+            let name = |i: usize| format!("{before}{:02}{between}{:02}{after}", i / 32, i % 32);
+            let list: Vec<(Vec<u8>, u8)> = (0..n).map(|i| (name(i).into_bytes(), 0)).collect();
             hear(court, &exported(&list), FULL);
             for (i, j) in [(0, 1), (0, n - 1), (n - 2, n - 1)] {
                 let mut equal = list.clone();

@@ -5,14 +5,15 @@ use Rattle.review.proofs.review_all.Statement.{statement}
 use Rattle.review.proofs.review_all.Tie as tie
 
 abbrev Inv-loop : tie.InvT-loop
-Inv-loop p baseline bi nbi be nbe i₀ i-end i = Unit {0}
+Inv-loop no-text text no-baseline baseline i₀ t6 t7 i-end i = Unit {0}
 
 abbrev μ-loop : tie.MeasureT-loop
-μ-loop p baseline bi nbi be nbe i₀ i-end i = i-end - i
+μ-loop no-text text no-baseline baseline i₀ t6 t7 i-end i = i-end - i
 
 pub review-all-spec : {M : Type 1} → statement M
 review-all-spec =
     tie.close
     (tie.spec
-    Inv-loop μ-loop (λ c κs. search needs) (λ c. search needs) (λ c κs. search needs) (λ c. search needs)
-    (λ c. search needs) (λ c. search needs) (λ c. search needs))
+    Inv-loop μ-loop (λ c κs. search needs) (λ c. search needs) (λ c. search needs) (λ c κs. search needs) (λ c. search needs)
+    (λ c κs. search needs) (λ c κs. search needs) (λ c. search needs) (λ c. search needs) (λ c. search needs)
+    (λ c. search needs))

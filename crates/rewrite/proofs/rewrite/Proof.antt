@@ -4,7 +4,7 @@ use native.Mathlib.Omega.{arith}
 use lib.Seq.{length-take-le}
 use borrow.Author.Needs.{needs}
 use Rattle.rewritten.specs.Printed.{printedOf}
-use Rattle.rewritten.proofs.Telling.{printed}
+use Rattle.report.proofs.Printing.{printed}
 use Rattle.rewrite.proofs.rewrite.Statement.{statement}
 use Rattle.rewrite.proofs.rewrite.Tie as tie
 

@@ -8,7 +8,7 @@ use Rattle.refusal.specs.Said.{numberOf, placeOf}
 use Rattle.report.specs.Texts.{refusedText}
 use Rattle.report.proofs.Telling.{line-text}
 use Rattle.report.proofs.Short.{refused-short}
-use Rattle.rewritten.proofs.Telling.{no-room, all-put}
+use Rattle.report.proofs.Printing.{no-room, all-put}
 use Rattle.rewritten.proofs.put_refusal.Statement.{statement}
 use Rattle.rewritten.proofs.put_refusal.Tie as tie
 

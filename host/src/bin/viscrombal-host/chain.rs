@@ -3,7 +3,7 @@
 //! The theorem is `OfFiles` in crates/standin/specs/Claims.antt, which speaks of files and of what `viscrombal_compare` and
 //! `viscrombal_check` answer: along a chain of such steps, of any length, the last build can stand in for the first (`series`), meets
 //! every policy that the first meets (`policies`), and passes the whole check under every text under which the first does (`checks`).
-//! The last is compared and checked all the same, so that a reader sees both.
+//! The last is compared and checked all the same, so that a reader sees both. By which steps it came to differ from the first: steps.rs.
 
 use std::io::Write;
 use std::path::{Path, PathBuf};
@@ -17,6 +17,7 @@ use crate::check::{self, Checked};
 use crate::compare;
 use crate::files::{self, or_stop, Asked, Stop};
 use crate::json::Object;
+use crate::steps::{self, Difference, Steps};
 use crate::work::Progress;
 use crate::{json, show, Status};
 
@@ -52,6 +53,7 @@ struct Ends<'a> {
     first_passes: bool,
     last_passes: bool,
     last_stands_in: bool,
+    differences: Vec<Difference>,
 }
 
 /// Reads the policy, then build after build.
@@ -80,12 +82,14 @@ fn follow<'a>(out: &mut Vec<u8>, builds: &'a [PathBuf], policy: &Policy, options
     let first = Build::read(&builds[0], options.strict)?;
     let mut last: Option<Build> = None;
     let mut unbroken = true;
+    let mut steps = Steps::default();
     for (step, path) in builds.iter().enumerate().skip(1) {
         progress.say(step, builds.len() - 1, &show::path(path));
         let before = last.as_ref().unwrap_or(&first);
         let build = Build::read(path, options.strict)?;
         let answer = build.against(before)?;
         unbroken &= answer.is_compatible();
+        steps.add(step, &answer);
         if options.json {
             let object = Object::default().raw("step", step).path("baseline", before.path).path("candidate", path);
             writeln!(out, "{}", compare::tell(&answer, object).done())?;
@@ -98,6 +102,7 @@ fn follow<'a>(out: &mut Vec<u8>, builds: &'a [PathBuf], policy: &Policy, options
         last = Some(build);
     }
     let last = last.as_ref().unwrap_or(&first);
+    let ends = last.against(&first)?;
     Ok(Ends {
         first: first.path,
         last: last.path,
@@ -105,7 +110,8 @@ fn follow<'a>(out: &mut Vec<u8>, builds: &'a [PathBuf], policy: &Policy, options
         unbroken,
         first_passes: first.checked(policy)?.verdict.is_compliant(),
         last_passes: last.checked(policy)?.verdict.is_compliant(),
-        last_stands_in: last.against(&first)?.is_compatible(),
+        last_stands_in: ends.is_compatible(),
+        differences: steps.between(&ends),
     })
 }
 
@@ -143,7 +149,7 @@ impl Ends<'_> {
             (true, false) => "the chain is unbroken, but its first build does not pass",
             (false, _) => "the chain is broken: the theorem gives nothing for its last build",
         };
-        format!("\n{chain}\n{}", show::table(&rows))
+        format!("{}\n{chain}\n{}", steps::words(self.first, self.last, &self.differences), show::table(&rows))
     }
 
     fn tell(&self, object: Object) -> Object {
@@ -151,6 +157,7 @@ impl Ends<'_> {
         let object = object.str("answer", if self.unbroken { "unbroken" } else { "broken" }).raw("unbroken", self.unbroken);
         let given = self.given().iter().map(|part| json::string(part));
         let object = object.raw("theorem", json::array(given)).raw("last_stands_in", self.last_stands_in);
+        let object = steps::tell(&self.differences, object);
         object.raw("first_compliant", self.first_passes).raw("last_compliant", self.last_passes).raw("strict", self.strict)
     }
 }

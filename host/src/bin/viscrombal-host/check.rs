@@ -62,7 +62,7 @@ pub fn run(out: &mut dyn Write, modules: &[PathBuf], path: &Path, options: Optio
             if options.json {
                 progress.clear();
                 let object = asked.tell(Object::default().path("file", &modules[i]));
-                writeln!(out, "{}", told(object, &answer, options.strict))?;
+                writeln!(out, "{}", told(object, &modules[i], &answer, options))?;
             } else {
                 answers.push(answer);
             }
@@ -72,7 +72,7 @@ pub fn run(out: &mut dyn Write, modules: &[PathBuf], path: &Path, options: Optio
     )?;
     drop(progress);
     if !options.json {
-        write!(out, "{}\n{}", stated(&policy, path), report(modules, &answers, options.strict))?;
+        write!(out, "{}\n{}", stated(&policy, path), report(modules, &answers, options))?;
     }
     Ok(status)
 }
@@ -100,12 +100,12 @@ fn stance(allow: bool) -> &'static str {
 }
 
 /// The table of all files, why those that are not compliant are not, and how many there are of each.
-fn report(modules: &[PathBuf], answers: &[Result<Checked, Trouble>], strict: bool) -> String {
+fn report(modules: &[PathBuf], answers: &[Result<Checked, Trouble>], options: Options) -> String {
     let mut rows = vec![["file", "bytes"].into_iter().chain(Domain::EVERY.map(Domain::slug)).chain(["verdict"]).map(Into::into).collect()];
     let mut why = String::new();
     let mut counts = [0; 4];
-    for (path, answer) in modules.iter().zip(answers) {
-        let path = show::path(path);
+    for (module, answer) in modules.iter().zip(answers) {
+        let path = show::path(module);
         match answer {
             Ok(checked) => {
                 counts[usize::from(!checked.verdict.is_compliant())] += 1;
@@ -114,12 +114,13 @@ fn report(modules: &[PathBuf], answers: &[Result<Checked, Trouble>], strict: boo
             }
             Err(trouble) => {
                 counts[if matches!(trouble, Trouble::Refused(_)) { 2 } else { 3 }] += 1;
+                why += &files::explained(module, trouble, options).map_or(String::new(), |located| format!("{path}: {located}\n"));
                 rows.push([path].into_iter().chain([""; 8].map(Into::into)).chain([trouble.to_string()]).collect());
             }
         }
     }
     let [pass, no, refused, unreadable] = counts.map(show::count);
-    let files = show::many(answers.len(), "file") + if strict { ", read strictly" } else { "" };
+    let files = show::many(answers.len(), "file") + if options.strict { ", read strictly" } else { "" };
     let table = show::table(&rows);
     let break_before = if why.is_empty() { "" } else { "\n" };
     format!("{table}{break_before}{why}\n{files}: {pass} compliant, {no} not compliant, {refused} refused, {unreadable} not readable\n")
@@ -175,10 +176,16 @@ impl Checked {
     }
 }
 
-fn told(object: Object, answer: &Result<Checked, Trouble>, strict: bool) -> String {
+fn told(object: Object, module: &Path, answer: &Result<Checked, Trouble>, options: Options) -> String {
     let object = match answer {
-        Ok(checked) => checked.tell(object).raw("strict", strict),
-        Err(trouble) => trouble.tell(object),
+        Ok(checked) => checked.tell(object).raw("strict", options.strict),
+        Err(trouble) => {
+            let object = trouble.tell(object);
+            match files::explained(module, trouble, options) {
+                Some(located) => located.tell(object),
+                None => object,
+            }
+        }
     };
     object.done()
 }

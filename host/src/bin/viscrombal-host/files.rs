@@ -1,6 +1,5 @@
 //! Reading files, and what can be wrong with one.
 
-use std::ffi::OsStr;
 use std::fmt;
 use std::fs::{self, File};
 use std::io::{self, Read, Write};
@@ -9,8 +8,9 @@ use std::path::{Path, PathBuf};
 use viscrombal::policy::Policy;
 use viscrombal::{wasm, Refusal, LONGEST_MODULE, LONGEST_TEXT};
 
-use crate::args::INPUT;
+use crate::args::{Options, INPUT};
 use crate::json::Object;
+use crate::locate::{self, Located};
 use crate::{sha256, show};
 
 /// Why there is no answer on a file.
@@ -54,6 +54,10 @@ impl Trouble {
             }
             Trouble::Refused(refusal) => {
                 let object = object.str("answer", "refused").raw("number", refusal.number()).raw("place", refusal.place());
+                let object = match refusal.offset() {
+                    Some(offset) => object.raw("offset", offset),
+                    None => object,
+                };
                 let object = match refusal.rule() {
                     Some(rule) => object.raw("rule", rule.number()),
                     None => object,
@@ -83,13 +87,30 @@ pub fn or_stop<T>(what: &'static str, path: &Path, result: Result<T, impl Into<T
     result.map_err(|trouble| Stop::File { what, path: path.into(), trouble: trouble.into() })
 }
 
-/// Says what is wrong with a file.
-pub fn report(out: &mut dyn Write, what: &str, path: &Path, trouble: &Trouble, json: bool) -> io::Result<()> {
-    if json {
-        writeln!(out, "{}", trouble.tell(Object::default().path(what, path)).done())
-    } else {
-        writeln!(out, "{what} {}: {trouble}", show::path(path))
+/// Which field of the file a refusal points at, where that is asked for. What came by standard input cannot be read again.
+pub fn explained(path: &Path, trouble: &Trouble, options: Options) -> Option<Located> {
+    match trouble {
+        Trouble::Refused(refusal) if options.explain && path != Path::new(INPUT) => {
+            let file = read(path, LONGEST_MODULE).ok()?;
+            refusal.offset().map(|offset| locate::locate(&file, offset))
+        }
+        _ => None,
     }
+}
+
+/// Says what is wrong with a file.
+pub fn report(out: &mut dyn Write, what: &str, path: &Path, trouble: &Trouble, options: Options) -> io::Result<()> {
+    let explained = explained(path, trouble, options);
+    if options.json {
+        let object = trouble.tell(Object::default().path(what, path));
+        let object = match explained {
+            Some(located) => located.tell(object),
+            None => object,
+        };
+        return writeln!(out, "{}", object.done());
+    }
+    writeln!(out, "{what} {}: {trouble}", show::path(path))?;
+    explained.map_or(Ok(()), |located| writeln!(out, "{what} {}: {located}", show::path(path)))
 }
 
 /// A file's bytes, or those of standard input; of a longer one the first `longest` and one more: enough for the archive to refuse it.
@@ -123,7 +144,12 @@ impl<'a> Asked<'a> {
 
     /// The same as fields of an object.
     pub fn tell(&self, object: Object) -> Object {
-        object.path("policy", self.path).str("policy_name", self.name).str("policy_sum", &self.sum)
+        self.tell_as("policy", object)
+    }
+
+    /// The same under names that begin with this one.
+    pub fn tell_as(&self, key: &str, object: Object) -> Object {
+        object.path(key, self.path).str(&format!("{key}_name"), self.name).str(&format!("{key}_sum"), &self.sum)
     }
 }
 
@@ -136,11 +162,11 @@ pub fn read_module(path: &Path, strict: bool) -> Result<Vec<u8>, Trouble> {
     Ok(file)
 }
 
-/// The modules below a folder: plain files whose names end in `.wasm`, and links to such, by name, folder after folder. Links to folders are
-/// not followed. A folder that has none, or that cannot be listed, is left as it is, and then cannot be read. Any other path stands for
-/// itself.
+/// The modules below a folder: plain files whose names end in `.wasm`, and links to such, by name, folder after folder. Links to folders
+/// are not followed. A folder that has none, or that cannot be listed, is left as it is, and then cannot be read. Any other path stands
+/// for itself.
 pub fn walked(path: &Path) -> Vec<PathBuf> {
-    let found = if path.is_dir() { below(path) } else { Ok(Vec::new()) };
+    let found = if path.is_dir() && path != Path::new(INPUT) { below(path) } else { Ok(Vec::new()) };
     match found {
         Ok(files) if !files.is_empty() => files,
         _ => vec![path.into()],
@@ -158,7 +184,7 @@ fn below(folder: &Path) -> io::Result<Vec<PathBuf>> {
                 Ok(more) => files.extend(more),
                 Err(_) => files.push(path),
             }
-        } else if path.extension() == Some(OsStr::new("wasm")) && fs::metadata(&path).map_or(true, |target| target.is_file()) {
+        } else if entry.file_name().as_encoded_bytes().ends_with(b".wasm") && fs::metadata(&path).map_or(true, |target| target.is_file()) {
             // a link that leads nowhere is kept, and told as a file that cannot be read
             files.push(path);
         }

@@ -8,8 +8,11 @@ mod check;
 mod compare;
 mod files;
 mod json;
+mod locate;
+mod order;
 mod sha256;
 mod show;
+mod steps;
 mod work;
 
 use std::env;
@@ -26,18 +29,23 @@ const USAGE: &str = "\
 usage: viscrombal-host [OPTIONS] check MODULE.. --policy FILE
        viscrombal-host [OPTIONS] compare BASELINE CANDIDATE
        viscrombal-host [OPTIONS] chain FIRST .. LAST --policy FILE
+       viscrombal-host [--json] chain --policy FILE --stricter FILE
+       viscrombal-host [--json] locate MODULE OFFSET
 
-  check     holds each module against the policy
-  compare   whether the candidate can stand in for the baseline, and why not
-  chain     whether each build can stand in for the one before it, and what the theorem then gives for the last
+  check        holds each module against the policy
+  compare      whether the candidate can stand in for the baseline, and why not
+  chain        whether each build can stand in for the one before it, by which steps the last came to differ from the first, and what
+               the theorem then gives for the last; of two policies, whether whoever passes under the first passes under the second
+  locate       which section, entry and field of the file the byte at an offset belongs to (15, or 0xf as a hex viewer has it)
   --strict     a module that is not clean in what is read is refused, by the lowest of eight rules that it breaks, before anything else
                is said of it. It is no validation: sections that are not read may hold anything
   --recursive  a folder among the modules of check stands for the files below it whose names end in .wasm
+  --explain    under a refusal, which field of the file it points at, as locate says it
   --json       one object a line
   --version    the version, the interface, and the archive by the kit that proved it and by its sum
 
 A file named - is standard input.
-Exit status: 0 all pass; 1 not compliant, or cannot stand in; 2 refused, or cannot be read; 64 wrong words.
+Exit status: 0 all pass; 1 not compliant, cannot stand in, or does not follow; 2 refused, or cannot be read; 64 wrong words.
 ";
 
 /// What was built; host/build.rs gives the kit, and the SHA-256 of the archive.
@@ -66,19 +74,26 @@ impl Status {
     }
 }
 
-/// Runs the command and says which file ended it, if one did.
+/// Runs the command and says which file ended it, if one did. The archive is asked nothing where it is of another version.
 fn run(out: &mut dyn Write, command: &Command) -> io::Result<Status> {
-    let (ended, json) = match command {
+    if !matches!(command, Command::Help | Command::Version) {
+        if let Err(other) = viscrombal::interface() {
+            return Ok(fault(Status::Refused, other));
+        }
+    }
+    let (ended, options) = match command {
         Command::Help => return write!(out, "{USAGE}").map(|()| Status::Pass),
         Command::Version => return write!(out, "{}", version()).map(|()| Status::Pass),
-        Command::Check { modules, policy, options } => (check::run(out, modules, policy, *options), options.json),
-        Command::Compare { baseline, candidate, options } => (compare::run(out, baseline, candidate, *options), options.json),
-        Command::Chain { builds, policy, options } => (chain::run(out, builds, policy, *options), options.json),
+        Command::Check { modules, policy, options } => (check::run(out, modules, policy, *options), options),
+        Command::Compare { baseline, candidate, options } => (compare::run(out, baseline, candidate, *options), options),
+        Command::Chain { builds, policy, options } => (chain::run(out, builds, policy, *options), options),
+        Command::Order { policy, stricter, options } => (order::run(out, policy, stricter, *options), options),
+        Command::Locate { module, offset, options } => (locate::run(out, module, *offset, *options), options),
     };
     match ended {
         Ok(status) => Ok(status),
         Err(Stop::Output(fault)) => Err(fault),
-        Err(Stop::File { what, path, trouble }) => files::report(out, what, &path, &trouble, json).map(|()| Status::Refused),
+        Err(Stop::File { what, path, trouble }) => files::report(out, what, &path, &trouble, *options).map(|()| Status::Refused),
     }
 }
 
@@ -94,9 +109,6 @@ fn answer(words: impl Iterator<Item = OsString>) -> Status {
         Ok(command) => command,
         Err(wrong) => return fault(Status::Usage, format_args!("{wrong}\n{}", USAGE.trim_end())),
     };
-    if let Err(other) = viscrombal::interface() {
-        return fault(Status::Refused, other);
-    }
     let mut out = io::stdout().lock();
     match run(&mut out, &command).and_then(|status| out.flush().map(|()| status)) {
         Ok(status) => status,

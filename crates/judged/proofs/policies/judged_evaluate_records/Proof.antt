@@ -47,7 +47,7 @@ use Rattle.verdicts.specs.Evaluate.{evaluated, compliant, EvaluatedAs}
 use Rattle.verdicts.specs.declared.records.Requirement.{Requirement}
 use Rattle.verdicts.specs.Records.{numbers}
 use Rattle.told.specs.declared.check.EvaluationTold.{EvaluationTold}
-use Rattle.told.specs.Policies.{numberIn, placeIn}
+use Rattle.told.specs.Policies.{numberIn, placeIn, besideIn}
 use Rattle.told.specs.Check.{evaluationAs, evaluationTold}
 use Rattle.judged.specs.Policies.{policyIn}
 use Rattle.judged.proofs.Telling.{evaluation-told}
@@ -185,7 +185,8 @@ module _ {M : Type 1} (𝓤 : URA M) (H : Heap 𝓤) (A : Atoms 𝓤) (W : Given
 
   abbrev told-as : Evaluation → EvaluationTold
   told-as e =
-      evaluationAs (numberIn (saidAnswer (e .answer))) (placeIn (saidAnswer (e .answer))) (e .verdicts) (e .set) (e .count) (compliant e)
+      evaluationAs (numberIn (saidAnswer (e .answer))) (placeIn (saidAnswer (e .answer))) (besideIn (saidAnswer (e .answer)))
+      (e .verdicts) (e .set) (e .count) (compliant e)
 
   told-said : (e : Evaluation) (r : EvaluationTold)
       → ent 𝓤 (ensured 𝓤 H A evaluation-of.ended (evaluation-of.clauses 𝓤 H A mem run) tt (e, tt) tt r) (fact 𝓤 (r ≡ told-as e))

@@ -10,10 +10,10 @@ use Rattle.strict.proofs.quick.all_new.Statement.{statement}
 use Rattle.strict.proofs.quick.all_new.Tie as tie
 
 abbrev Inv-loop : tie.InvT-loop
-Inv-loop file exports n marks₀ last i₀ marks i = Looked file exports n last i marks × (length marks ≡ length marks₀)
+Inv-loop file exports n spot marks₀ last i₀ marks i = Looked file exports n spot last i marks × (length marks ≡ length marks₀)
 
 abbrev μ-loop : tie.MeasureT-loop
-μ-loop file exports n marks₀ last i₀ marks i = i
+μ-loop file exports n spot marks₀ last i₀ marks i = i
 
 loop-again : tie.Need-loop-again Inv-loop μ-loop
 loop-again c =
@@ -23,7 +23,7 @@ loop-again c =
     let named = print .before in
     let turn = named .before .before .before in
     let l = turn .before .loop in (
-      look-on _ _ _ _ (l .inv .0) (omega (arith, turn .loop-test .taken))
+      look-on _ _ _ _ _ (l .inv .0) (omega (arith, turn .loop-test .taken))
           (row-named _ _ _ (named .range .ensures .0) (named .before .before .cell .ensures) (named .before .cell2 .ensures))
           (print .print-of .ensures) (tested .before .is-new .ensures (not-false _ (tested .if1 .left))) (marked .note .ensures),
       omega (arith, marked .note .ensures .as-long, l .inv .1),
@@ -33,7 +33,7 @@ pub all-new-spec : {M : Type 1} → statement M
 all-new-spec =
     tie.close
     (tie.spec
-    Inv-loop μ-loop (λ c. (look-start _ _ _ _ _, refl)) (λ c. omega arith) (λ c κs. search needs) (λ c κs. search needs)
+    Inv-loop μ-loop (λ c. (look-start _ _ _ _ _ _, refl)) (λ c. omega arith) (λ c κs. search needs) (λ c κs. search needs)
     (λ c κs. search needs) (λ c κs. search needs) (λ c κs. omega arith) (λ c. omega arith) (λ c. λ e. absurd (false≢true e))
     (λ c κs. omega arith) (λ c. omega arith) loop-again (λ c. c .before .loop .inv .1)
-    (λ c. λ e. look-end _ _ _ _ (c .before .loop .inv .0) (c .loop-test .left)))
+    (λ c. λ e. look-end _ _ _ _ _ (c .before .loop .inv .0) (c .loop-test .left)))

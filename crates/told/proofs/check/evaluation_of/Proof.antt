@@ -7,8 +7,9 @@ returns : tie.Need-returns
 returns c =
     let k = c .before .before .before .before .before .before .before .before .before .before .before .before .before .before in
     rw (
-      k .before .before .number-of .ensures,
-      k .before .place-of .ensures,
+      k .before .before .before .number-of .ensures,
+      k .before .before .place-of .ensures,
+      k .before .beside-of .ensures,
       k .is-compliant .ensures,
       c .before .before .before .before .before .before .before .before .before .before .before .before .verdict-of .ensures,
       c .before .before .before .before .before .before .before .before .before .before .verdict-of2 .ensures,
@@ -23,7 +24,7 @@ pub evaluation-of-spec : {M : Type 1} → statement M
 evaluation-of-spec =
     tie.close
     (tie.spec
-    (λ c κs. search needs) (λ c κs. search needs) (λ c κs. search needs) (λ c. search needs) (λ c κs. search needs)
-    (λ c. search needs) (λ c κs. search needs) (λ c. search needs) (λ c κs. search needs) (λ c. search needs)
+    (λ c κs. search needs) (λ c κs. search needs) (λ c κs. search needs) (λ c κs. search needs) (λ c. search needs)
     (λ c κs. search needs) (λ c. search needs) (λ c κs. search needs) (λ c. search needs) (λ c κs. search needs)
+    (λ c. search needs) (λ c κs. search needs) (λ c. search needs) (λ c κs. search needs) (λ c. search needs) (λ c κs. search needs)
     (λ c. search needs) (λ c κs. search needs) returns)

@@ -80,11 +80,13 @@ read-told-requires c κs =
 returns-3 : tie.Need-returns-3
 unfolding Passed
 returns-3 c =
-    let k = c .before .before .before .before .before .before .before .before .before in (
+    let o = c .before in
+    let k = o .before .before .before .before .before .before .before .before .before in (
       tt,
       λ t n h.
           subsection-stop _ _ _ _ t _ _ _ _ (first (k .before .before .before .before)) (second (k)) _ (cutting (k)) _
-          (c .before .before .before .before .before .read-told .ensures t n h) (ap saidNamed (c .before .r .given .1)),
+          (o .before .before .before .before .before .read-told .ensures t n h) (o .before .r .given .0 .0)
+          (ap saidNamed (o .before .r .given .1)) (c .moved .ensures),
     )
 
 returns-4 : tie.Need-returns-4
@@ -106,4 +108,4 @@ read-subsection-spec =
     (λ c κs. search needs) (λ c. search needs) (λ c. search needs) (λ c κs. search needs) returns
     (λ c κs. search needs) (λ c. search needs) (λ c. search needs) (λ c κs. search needs) returns-2 add-end
     (λ c. search needs) (λ c. search needs) part-read-told-end add-read-told read-told-requires (λ c. search needs)
-    (λ c. search needs) (λ c. search needs) returns-3 (λ c. search needs) returns-4)
+    (λ c κs. search needs) (λ c. search needs) (λ c. search needs) returns-3 (λ c. search needs) returns-4)

@@ -78,11 +78,12 @@ read-contents-requires c κs =
 returns-3 : tie.Need-returns-3
 unfolding Passed
 returns-3 c =
-    let k = c .before .before .before .before .before .before .before .before .before .before .before .before .before .before in (
+    let o = c .before in
+    let k = o .before .before .before .before .before .before .before .before .before .before .before .before .before .before in (
       tt,
       λ t n h. section-stop _ _ t _ _ _ _ _ (first (k .before .before .before .before)) (second k) _ (cutting k) _ _ _
-          (c .before .before .before .before .before .before .before .before .before .read-contents .ensures _ t refl refl refl n
-          (inner h)) (ap saidContents (c .before .r .given .1)),
+          (o .before .before .before .before .before .before .before .before .before .read-contents .ensures _ t refl refl refl n
+          (inner h)) (o .before .r .given .0 .0) (ap saidContents (o .before .r .given .1)) (c .moved .ensures),
     )
 
 returns-4 : tie.Need-returns-4
@@ -108,5 +109,6 @@ read-section-spec =
     (λ c κs. search needs) (λ c. search needs) (λ c. search needs) (λ c κs. search needs) returns
     (λ c κs. search needs) (λ c. search needs) (λ c. search needs) (λ c κs. search needs) returns-2 add-end
     (λ c. search needs) (λ c. search needs) part-read-contents-end read-contents-requires (λ c. search needs)
-    (λ c. search needs) (λ c κs. search needs) (λ c. search needs) (λ c. search needs) (λ c. search needs) returns-3
+    (λ c κs. search needs) (λ c. search needs) (λ c κs. search needs) (λ c. search needs) (λ c. search needs)
+    (λ c. search needs) returns-3
     (λ c. search needs) (λ c. search needs) (λ c. search needs) (λ c. search needs) returns-4)

@@ -1,0 +1,29 @@
+-- `lines::put_mark` meets its contract. Assumes nothing.
+use mathlib.Core.Path.{sym, _∙_}
+use native.Mathlib.Omega.{arith}
+use borrow.Author.Needs.{needs}
+use Rattle.output.proofs.ByteLaws.{wrote-put, wrote-none}
+use Rattle.reviewed.specs.Texts.{markText}
+use Rattle.reviewed.proofs.lines.put_mark.Statement.{statement}
+use Rattle.reviewed.proofs.lines.put_mark.Tie as tie
+
+returns : tie.Need-returns
+unfolding markText
+returns c =
+    let y0 = c .before .before in
+    let i = y0 .before .before .before in
+    rw (sym (i .before .is-violation .ensures) ∙ i .if1 .taken)
+    (wrote-put _ _ _ _ (y0 .put .ensures))
+
+returns-2 : tie.Need-returns-2
+unfolding markText
+returns-2 c =
+    let v = c .before in
+    let a = v .before .before .args in
+    rw (sym (v .is-violation .ensures) ∙ c .if1 .left) (wrote-none (a .out .now) (a .at) (a .go) (omega arith))
+
+pub put-mark-spec : {M : Type 1} → statement M
+put-mark-spec =
+    tie.close
+    (tie.spec
+    (λ c κs. search needs) (λ c. search needs) (λ c κs. search needs) (λ c. search needs) returns returns-2)
