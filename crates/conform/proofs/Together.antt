@@ -150,7 +150,7 @@ module _ (b : List ℕ) (z : Sizes) where
       gives-onward (Of (Together (length b))) _ _ (λ u e e3.
       let w = counted-in b a p d e2 in
       let k = contents-together (length b) (partBytes b p) (omega (arith, w .end, w .in-s, part-length b p)) (p .from) z id t h (got u e)
-          (relocated-got (p .from) _ e3) in
+      (relocated-got (p .from) _ e3) in
       gives-pick (Of (Together (length b))) (ltb (length (u .tables .sections)) (capacityIn 1 (z .sections))) _ _
       (gives-done (Of (Together (length b))) _ (record { imports = k .imports; exports = k .exports }))
       (gives-stop (Of (Together (length b))) 13 (spot 1)))))

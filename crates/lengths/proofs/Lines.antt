@@ -32,9 +32,9 @@ use Rattle.reviewed.proofs.Escapes.{escaped-long}
 use Rattle.lengths.proofs.Sums.{sumTo, lines-sum, sum-le}
 
 -- one of two
-pub either : (t : Bool) (k : ℕ) {a b : List ℕ} → length a ≤ k → length b ≤ k → length (pick t a b) ≤ k
-either true k h i = h
-either false k h i = i
+pub either : (t : Bool) (k : ℕ) (a b : List ℕ) → length a ≤ k → length b ≤ k → length (pick t a b) ≤ k
+either true k a b h i = h
+either false k a b h i = i
 
 pub quoted-long : (s : List ℕ) → length (quoted s) ≤ 4 * length s + 2
 unfolding quoted
@@ -76,14 +76,14 @@ counts-long a b c d h i j k =
 words-long : (n : ℕ) → length (wordsOf n) ≤ 46
 unfolding wordsOf
 words-long n =
-    either (eqb n 1) 46 (omega arith) (either (eqb n 2) 46 (omega arith) (either (eqb n 4) 46 (omega arith)
-    (either (eqb n 5) 46 (omega arith) (either (eqb n 6) 46 (omega arith) (either (eqb n 7) 46 (omega arith)
-    (either (eqb n 8) 46 (omega arith) (either (eqb n 13) 46 (omega arith) (either (eqb n 14) 46 (omega arith)
-    (either (eqb n 17) 46 (omega arith) (either (eqb n 18) 46 (omega arith) (either (eqb n 19) 46 (omega arith) (omega arith))))))))))))
+    either (eqb n 1) 46 _ _ (omega arith) (either (eqb n 2) 46 _ _ (omega arith) (either (eqb n 4) 46 _ _ (omega arith)
+    (either (eqb n 5) 46 _ _ (omega arith) (either (eqb n 6) 46 _ _ (omega arith) (either (eqb n 7) 46 _ _ (omega arith)
+    (either (eqb n 8) 46 _ _ (omega arith) (either (eqb n 13) 46 _ _ (omega arith) (either (eqb n 14) 46 _ _ (omega arith)
+    (either (eqb n 17) 46 _ _ (omega arith) (either (eqb n 18) 46 _ _ (omega arith) (either (eqb n 19) 46 _ _ (omega arith) (omega arith))))))))))))
 
 beside-long : (n o : ℕ) → o ≤ most → length (besideText n o) ≤ 29
 unfolding besideText
-beside-long n o h = either (eqb n 5) 29 (omega (arith, length-append offsetW (decimalOf o), decimal-short o h)) (omega arith)
+beside-long n o h = either (eqb n 5) 29 _ _ (omega (arith, length-append offsetW (decimalOf o), decimal-short o h)) (omega arith)
 
 -- a number and a place of a refusal
 pub record Short (n : ℕ) (p : Place) : Type 0 where
@@ -116,11 +116,11 @@ none-long whose n p s =
 -- ---- the seven domains
 whether-long : (t : Bool) (w : List ℕ) → length (whether t w) ≤ length w + 4
 unfolding whether
-whether-long t w = either t (length w + 4) (omega arith) (omega (arith, length-append notW w))
+whether-long t w = either t (length w + 4) _ _ (omega arith) (omega (arith, length-append notW w))
 
 mark-long : (v : Verdict) → length (markText v) ≤ 11
 unfolding markText
-mark-long v = either (violates v) 11 (omega arith) (omega arith)
+mark-long v = either (violates v) 11 _ _ (omega arith) (omega arith)
 
 domain-long : (d : ℕ) (v : Verdict) → v .many ≤ most → length (domainText d v) ≤ 71
 unfolding domainText
@@ -152,12 +152,12 @@ domains-long vs h = omega (arith, seven-long (λ d. domainText d (nth vs d)) 71 
 
 violated-long : (d : ℕ) (v : Verdict) → length (violatedText d v) ≤ 8
 unfolding violatedText
-violated-long d v = either (violates v) 8 (omega (arith, slug-long d)) (omega arith)
+violated-long d v = either (violates v) 8 _ _ (omega (arith, slug-long d)) (omega arith)
 
 pub compliance-long : (fine : Bool) (vs : List Verdict) → length (complianceText fine vs) ≤ 71
 unfolding complianceText
 compliance-long fine vs =
-    either fine 71 (omega arith)
+    either fine 71 _ _ (omega arith)
     (omega (
       arith,
       length-append (violatedTexts vs) lf,
@@ -181,12 +181,12 @@ violation-long d field source =
 -- ---- the comparison
 pub stand-long : (t : Bool) → length (standText t) ≤ 47
 unfolding standText
-stand-long t = either t 47 (omega arith) (omega arith)
+stand-long t = either t 47 _ _ (omega arith) (omega arith)
 
 pub verdict-long : (fine stands : Bool) → length (verdictText fine stands) ≤ 42
 unfolding verdictText
 verdict-long fine stands =
-    either fine 42 (either stands 42 (omega arith) (omega arith)) (either stands 42 (omega arith) (omega arith))
+    either fine 42 _ _ (either stands 42 _ _ (omega arith) (omega arith)) (either stands 42 _ _ (omega arith) (omega arith))
 
 word-long : (k : ExternalKind) → length (kindWord k) ≤ 10
 word-long Func = omega arith
@@ -197,7 +197,7 @@ word-long (Other b) = omega arith
 
 kind-long : (kind : ℕ) → length (kindText kind) ≤ 10
 unfolding kindText
-kind-long kind = either (ltb 255 kind) 10 (omega arith) (word-long (kindOf kind))
+kind-long kind = either (ltb 255 kind) 10 _ _ (omega arith) (word-long (kindOf kind))
 
 pub removed-long : (name : List ℕ) (kind : ℕ) → length (removedText name kind) ≤ 32 + 4 * length name
 unfolding removedText

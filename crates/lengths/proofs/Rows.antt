@@ -35,7 +35,7 @@ use Rattle.lengths.proofs.Lines.{either, violation-long, removed-long, 
 
 range-short : (s : List ℕ) (from len : ℕ) → length (rangeOf s from len) ≤ len
 unfolding rangeOf
-range-short s from len = either (inside s from len) len (omega (arith, length-take len (drop from s))) (omega arith)
+range-short s from len = either (inside s from len) len _ _ (omega (arith, length-take len (drop from s))) (omega arith)
 
 -- ---- the rows of table 2, which holds rs; d stands for a row that is not there
 module _ (file : List ℕ) (n : ℕ) (rs : List Import) (d : Import) where
@@ -62,12 +62,12 @@ module _ (file : List ℕ) (n : ℕ) (rs : List Import) (d : Import) where
       let field = rowName file imports (width 2) 2 3 i in
       let x : length source ≤ getD rs i d .«module» .len = source-short i h in
       let y : length field ≤ getD rs i d .field .len = field-short i h in
-      either (both (kindIs imports 0 i) (violates (nth vs (rowDomain file imports i)))) (45 + 4 * importSize (getD rs i d))
+      either (both (kindIs imports 0 i) (violates (nth vs (rowDomain file imports i)))) (45 + 4 * importSize (getD rs i d)) _ _
       (omega (arith, violation-long (rowDomain file imports i) field source, x, y)) (omega arith)
 
-  pub violations-long : (vs : List Verdict)
+  violations-by : (vs : List Verdict)
       → length (reasonLines (violationRow file imports vs) (length rs)) ≤ length rs * 45 + 4 * total importSize rs
-  violations-long vs =
+  violations-by vs =
       omega (
         arith,
         lines-sum (violationRow file imports vs) (length rs),
@@ -80,8 +80,8 @@ module _ (file : List ℕ) (n : ℕ) (rs : List Import) (d : Import) where
   abbrev needSize : ℕ → ℕ
   needSize i = 40 + 4 * length (rowName file imports (width 2) 0 1 i)
 
-  needs-sum : sumTo needSize (length rs) ≤ length rs * 40 + 4 * total importSize rs
-  needs-sum =
+  needs-by : sumTo needSize (length rs) ≤ length rs * 40 + 4 * total importSize rs
+  needs-by =
       omega (
         arith,
         sum-le needSize (λ i. 40 + 4 * importSize (getD rs i d)) (length rs) (λ i h. omega (arith, source-short i h)),
@@ -97,17 +97,38 @@ module _ (file : List ℕ) (n : ℕ) (rs : List Export) (d : Export) where
   abbrev exportLine : ℕ → ℕ
   exportLine i = 32 + 4 * length (rowName file exports (width 3) 0 1 i)
 
-  exports-sum : sumTo exportLine (length rs) ≤ length rs * 32 + 4 * total exportSize rs
+  exports-by : sumTo exportLine (length rs) ≤ length rs * 32 + 4 * total exportSize rs
   unfolding exportCells
-  exports-sum =
+  exports-by =
       omega (
         arith,
         sum-le exportLine (λ i. 32 + 4 * exportSize (getD rs i d)) (length rs) (λ i h.
-        let e : cellIn 3 exports i 1 ≡ getD rs i d .name .len = cell-laid exportCells (width 3) (λ r. refl) n rs i 1 d h (omega arith) in
-        omega (arith, range-short file (cellIn 3 exports i 0) (cellIn 3 exports i 1), e)),
+            let e : cellIn 3 exports i 1 ≡ getD rs i d .name .len = cell-laid exportCells (width 3) (λ r. refl) n rs i 1 d h (omega arith) in
+            omega (arith, range-short file (cellIn 3 exports i 0) (cellIn 3 exports i 1), e)),
         sum-lines 32 (λ i. exportSize (getD rs i d)) (length rs),
         sum-rows exportSize d rs,
       )
+
+-- where there are no rows, there is no line
+pub violations-long : (file : List ℕ) (n : ℕ) (rs : List Import) (vs : List Verdict)
+    → length (reasonLines (violationRow file (laid n (cells importCells rs)) vs) (length rs)) ≤ length rs * 45 + 4 * total importSize rs
+unfolding reasonLines
+violations-long file n [] vs = omega arith
+violations-long file n (r ∷ rs) vs = violations-by file n (r ∷ rs) r vs
+
+needs-sum : (file : List ℕ) (n : ℕ) (rs : List Import)
+    → sumTo (λ i. 40 + 4 * length (rowName file (laid n (cells importCells rs)) (width 2) 0 1 i)) (length rs)
+    ≤ length rs * 40 + 4 * total importSize rs
+unfolding sumTo
+needs-sum file n [] = omega arith
+needs-sum file n (r ∷ rs) = needs-by file n (r ∷ rs) r
+
+exports-sum : (file : List ℕ) (n : ℕ) (rs : List Export)
+    → sumTo (λ i. 32 + 4 * length (rowName file (laid n (cells exportCells rs)) (width 3) 0 1 i)) (length rs)
+    ≤ length rs * 32 + 4 * total exportSize rs
+unfolding sumTo
+exports-sum file n [] = omega arith
+exports-sum file n (r ∷ rs) = exports-by file n (r ∷ rs) r
 
 -- ---- a list of differences: of one kind of change, no more than all rows of its side
 abbrev weigh : {K : Type 0} → Change → (ℕ → ℕ) → Entry K → ℕ
@@ -223,17 +244,17 @@ module _ (file imports : List ℕ) (k : ℕ) (es : List (Entry Need)) where
       )
 
 -- ---- both lists, of a baseline and a candidate that were read
-pub exports-long : (file : List ℕ) (n k : ℕ) (rs : List Export) (d : Export) (b c : View)
+pub exports-long : (file : List ℕ) (n k : ℕ) (rs : List Export) (b c : View)
     → b .exports ≡ exportRows file (laid n (cells exportCells rs)) (length rs)
     → length (reasonLines (removedRow file (laid n (cells exportCells rs)) (laid k (cells exportDiffCells (exportDiff b c))))
     (length (exportDiff b c)))
     ≤ length rs * 32 + 4 * total exportSize rs
 unfolding exportDiff
-exports-long file n k rs d b c is =
+exports-long file n k rs b c is =
     let table = laid n (cells exportCells rs) in
     let size : ℕ → ℕ = lineSize file table k (exportDiff b c) in
     let x : total (λ r. size (r .at)) (exportRows file table (length rs)) ≡ total size (upFrom 0 (length rs)) =
-        total-map (row (exportKeyAt file table)) (λ r. size (r .at)) (upFrom 0 (length rs)) in
+    total-map (row (exportKeyAt file table)) (λ r. size (r .at)) (upFrom 0 (length rs)) in
     let y : total (λ r. size (r .at)) (b .exports) ≡ total (λ r. size (r .at)) (exportRows file table (length rs)) = rw is in
     omega (
       arith,
@@ -242,21 +263,21 @@ exports-long file n k rs d b c is =
       x,
       y,
       sum-below size (length rs),
-      exports-sum file n rs d,
+      exports-sum file n rs,
     )
 
-pub needs-long : (file : List ℕ) (n k : ℕ) (rs : List Import) (d : Import) (b c : View)
+pub needs-long : (file : List ℕ) (n k : ℕ) (rs : List Import) (b c : View)
     → c .needs ≡ needRows file (laid n (cells importCells rs)) (length rs)
     → length (reasonLines (addedRow file (laid n (cells importCells rs)) (laid k (cells needDiffCells (needDiff b c))))
     (length (needDiff b c)))
     ≤ length rs * 40 + 4 * total importSize rs
 unfolding needDiff
-needs-long file n k rs d b c is =
+needs-long file n k rs b c is =
     let table = laid n (cells importCells rs) in
     let size : ℕ → ℕ = sourceSize file table k (needDiff b c) in
     let some = selected (kindIs table 0) (upFrom 0 (length rs)) in
     let x : total (λ r. size (r .at)) (needRows file table (length rs)) ≡ total size some =
-        total-map (row (needAt file table)) (λ r. size (r .at)) some in
+    total-map (row (needAt file table)) (λ r. size (r .at)) some in
     let y : total (λ r. size (r .at)) (c .needs) ≡ total (λ r. size (r .at)) (needRows file table (length rs)) = rw is in
     omega (
       arith,
@@ -266,5 +287,5 @@ needs-long file n k rs d b c is =
       y,
       total-selected size (kindIs table 0) (upFrom 0 (length rs)),
       sum-below size (length rs),
-      needs-sum file n rs d,
+      needs-sum file n rs,
     )

@@ -94,12 +94,12 @@ unfolding total sumTo
 sum-up size i zero = omega arith
 sum-up size i (suc n) =
     let s : sumTo (λ k. size (suc i + k)) n ≤ sumTo (λ k. size (i + suc k)) n =
-        sum-le _ _ n (λ k h. let e : suc i + k ≡ i + suc k = omega arith in omega (arith, ap size e)) in
+    sum-le _ _ n (λ k h. let e : suc i + k ≡ i + suc k = omega arith in omega (arith, ap size e)) in
     let z : i + 0 ≡ i = omega arith in
     omega (arith, sum-front (λ k. size (i + k)) n, sum-up size (suc i) n, s, ap size z)
 
 pub sum-below : (size : ℕ → ℕ) (n : ℕ) → total size (upFrom 0 n) ≤ sumTo size n
 sum-below size n =
     let s : sumTo (λ k. size (0 + k)) n ≤ sumTo size n =
-        sum-le _ _ n (λ k h. let e : 0 + k ≡ k = omega arith in omega (arith, ap size e)) in
+    sum-le _ _ n (λ k h. let e : 0 + k ≡ k = omega arith in omega (arith, ap size e)) in
     omega (arith, sum-up size 0 n, s)

@@ -7,8 +7,8 @@ use Rattle.conform.specs.Claims.{Bytes}
 use Rattle.reviewed.specs.Review.{File, reviewOf, unreadOf, orNoRoom}
 
 -- no report is longer; the program lends 1,310,720 bytes
-abbrev pub enough : ℕ
-enough = 1218700
+abbrev pub longestReport : ℕ
+longestReport = 1218700
 
 -- the program takes no more of a path
 abbrev pub pathLimit : ℕ
@@ -23,9 +23,9 @@ pub record HandedOver (text baseline candidate : File) : Type 0 where
   pub candidate-bytes : Bytes (candidate .bytes)
 
 pub record Lengths : Type 0 where
-  pub enough-room : (t b c : File) → HandedOver t b c → length (reviewOf t b c) ≤ enough
+  pub enough-room : (t b c : File) → HandedOver t b c → length (reviewOf t b c) ≤ longestReport
   -- So with more room all of a report is printed, and never the line that there is none for it.
-  pub same-in-room : (t b c : File) (room : ℕ) → HandedOver t b c → enough < room → orNoRoom room (reviewOf t b c) ≡ reviewOf t b c
+  pub same-in-room : (t b c : File) (room : ℕ) → HandedOver t b c → longestReport < room → orNoRoom room (reviewOf t b c) ≡ reviewOf t b c
   -- The same of a candidate that cannot be read, or whose policy or baseline cannot.
-  pub unread-in-room : (whose path : List ℕ) (room : ℕ) → length whose ≤ 9 → length path ≤ pathLimit → enough < room
+  pub unread-in-room : (whose path : List ℕ) (room : ℕ) → length whose ≤ 9 → length path ≤ pathLimit → longestReport < room
       → orNoRoom room (unreadOf whose path) ≡ unreadOf whose path
