@@ -16,7 +16,7 @@ use Rattle.import_rows.specs.Queries.{kindIs, importsTested, importedOf, asked,
 use Rattle.policy.specs.declared.Policy.{Policy}
 use Rattle.verdicts.specs.Evaluate.{evaluated}
 use Rattle.requirements.specs.Requirements.{functionRows, rowDomain, moduleRows}
-use Rattle.blind.specs.Claims.{Rows, SameCounts, Unseen, judgedOn, SameAnswers}
+use Rattle.blind.specs.Claims.{AlikeRows, SameCounts, Unseen, judgedOn, SameAnswers}
 use Rattle.blind.proofs.Tables.{same-rows}
 
 count-agree : (p q : ℕ → Bool) (i k : ℕ) → ((j : ℕ) → j < i + k → p j ≡ q j) → countFrom p i k ≡ countFrom q i k
@@ -51,7 +51,7 @@ module _ (file imports : List ℕ) (n : ℕ) (good : importsTested (length file)
       by false false = refl
 
 module _ (file t u : List ℕ) (n : ℕ) (unseen : Unseen file t u n) where
-  same : Rows file t u n
+  same : AlikeRows file t u n
   same = same-rows file t u n (unseen .names)
 
   -- 14, then 15, then what the rows answer

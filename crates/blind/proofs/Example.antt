@@ -8,10 +8,10 @@ use Rattle.table.specs.Table.{cellOf, capacityOf}
 use Rattle.table.specs.Testing.{firstFrom, tested, countFrom}
 use Rattle.import_rows.specs.Queries.{givenOf, numberFits, marked, descFits, kindFits, importFits, importsTested}
 use Rattle.blind.specs.Claims.{AlikeNames, Unseen}
-use Rattle.blind.specs.Example.{file, one, other, Example}
+use Rattle.blind.specs.Example.{names, fives, nines, Example}
 use Rattle.blind.proofs.Answers.{same-answers}
 
-alike : AlikeNames one other 2
+alike : AlikeNames fives nines 2
 unfolding cellOf
 alike zero zero h k = refl
 alike zero (suc zero) h k = refl
@@ -27,7 +27,7 @@ alike (suc zero) (suc (suc (suc (suc zero)))) h k = refl
 alike (suc zero) (suc (suc (suc (suc (suc j))))) h k = absurd (omega arith)
 alike (suc (suc i)) j h k = absurd (omega arith)
 
-unseen : Unseen file one other 2
+unseen : Unseen names fives nines 2
 unfolding importsTested tested firstFrom importFits kindFits descFits marked numberFits countFrom givenOf cellOf capacityOf
 unseen = record { names = alike; first = refl; second = refl }
 
@@ -36,5 +36,5 @@ example =
     record {
       differ = λ e. let z : _≡_ {A = ℕ} 5 9 = ap (λ (l : List ℕ). getD l 5 0) e in omega arith;
       unseen = unseen;
-      same = same-answers file one other 2 unseen;
+      same = same-answers names fives nines 2 unseen;
     }

@@ -16,7 +16,7 @@ use Rattle.import_rows.specs.Queries.{kindIs}
 use Rattle.domains.specs.Classify.{importDomain}
 use Rattle.requirements.specs.Requirements.{functionRows, rowDomain}
 use Rattle.differences.specs.View.{Need, Row, row, needAt, viewOf, exportRows}
-use Rattle.blind.specs.Claims.{AlikeNames, Rows, SameRows}
+use Rattle.blind.specs.Claims.{AlikeNames, SameRows}
 use Rattle.blind.proofs.Lists.{keep-agree, map-agree}
 
 module _ (file t u : List ℕ) (n : ℕ) (alike : AlikeNames t u n) where

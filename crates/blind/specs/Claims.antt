@@ -25,7 +25,7 @@ AlikeNames t u n = (i column : ℕ) → i < n → column < 5 → importCell t i 
 
 -- So their kinds, domains and pairs are the same, row by row; what the comparison sees of the module; the domains that it requires; and its
 -- namespaces.
-pub record Rows (file t u : List ℕ) (n : ℕ) : Type 0 where
+pub record AlikeRows (file t u : List ℕ) (n : ℕ) : Type 0 where
   pub kinds : (kind i : ℕ) → i < n → kindIs t kind i ≡ kindIs u kind i
   pub domains : (i : ℕ) → i < n → rowDomain file t i ≡ rowDomain file u i
   pub pairs : (i : ℕ) → i < n → needAt file t i ≡ needAt file u i
@@ -35,7 +35,7 @@ pub record Rows (file t u : List ℕ) (n : ℕ) : Type 0 where
   pub namespaces : sortedRows file file t (byName (width 2) 0 1 (width 2) 0) n ≡ sortedRows file file u (byName (width 2) 0 1 (width 2) 0) n
 
 abbrev pub SameRows : Type 0
-SameRows = (file t u : List ℕ) (n : ℕ) → AlikeNames t u n → Rows file t u n
+SameRows = (file t u : List ℕ) (n : ℕ) → AlikeNames t u n → AlikeRows file t u n
 
 -- Where both pass 15, so are the answers: of `imported_functions` and `imported_memories`, without a file;
 abbrev pub SameCounts : Type 0

@@ -3,22 +3,22 @@
 use mathlib.Core.Path.{_≡_}
 use mathlib.Core.List.{List, [], _∷_}
 use Prim.Native.Nat.{ℕ}
-use Rattle.blind.specs.Claims.{Unseen, Rows, Answers}
+use Rattle.blind.specs.Claims.{Unseen, Answers}
 
-abbrev pub file : List ℕ
-file = 109 ∷ 102 ∷ []
+abbrev pub names : List ℕ
+names = 109 ∷ 102 ∷ []
 
-abbrev pub one : List ℕ
-one =
+abbrev pub fives : List ℕ
+fives =
     0 ∷ 1 ∷ 1 ∷ 1 ∷ 0 ∷ 5 ∷ 0 ∷ 0 ∷ 0 ∷ 0 ∷ 0 ∷ 1
     ∷ 0 ∷ 1 ∷ 1 ∷ 1 ∷ 2 ∷ 0 ∷ 0 ∷ 1 ∷ 1 ∷ 2 ∷ 0 ∷ 28 ∷ []
 
-abbrev pub other : List ℕ
-other =
+abbrev pub nines : List ℕ
+nines =
     0 ∷ 1 ∷ 1 ∷ 1 ∷ 0 ∷ 9 ∷ 0 ∷ 0 ∷ 0 ∷ 0 ∷ 0 ∷ 1
     ∷ 0 ∷ 1 ∷ 1 ∷ 1 ∷ 2 ∷ 0 ∷ 0 ∷ 0 ∷ 7 ∷ 0 ∷ 0 ∷ 12 ∷ []
 
 pub record Example : Type 0 where
-  pub differ : one ≡ other → ⊥
-  pub unseen : Unseen file one other 2
-  pub same : Answers file one other 2
+  pub differ : fives ≡ nines → ⊥
+  pub unseen : Unseen names fives nines 2
+  pub same : Answers names fives nines 2
