@@ -7,7 +7,7 @@ use Rattle.wasm.specs.Rows.{descCells, importCells}
 use Rattle.conform.specs.Grammar.{refByte, Lim, least, between, DescOf}
 use Rattle.conform.specs.Claims.{limitsOf, descKind, descOf}
 use Rattle.conform.specs.Sound.{even, odd, DescFits, function, tables, memories, globals}
-use Rattle.conform.specs.Asked.{CellsFit, RowsFit, tableAsked, asked, CellsSay}
+use Rattle.conform.specs.Asked.{CellsFit, RowsFit, tableAsks, asksFor, CellsSay}
 
 -- ---- every row
 desc-cells-fit : (kind : ℕ) (d : Desc) → DescFits kind d → CellsFit (kind ∷ descCells d)
@@ -24,19 +24,19 @@ unfolding importCells
 rows-fit n r ok = desc-cells-fit (r .kind) (r .desc) (ok .desc-fits)
 
 -- ---- by production
-asked-cells : (d : DescOf) → descCells (descOf d) ≡ asked d
+asks-cells : (d : DescOf) → descCells (descOf d) ≡ asksFor d
 unfolding descCells
-asked-cells (DescOf.func x) = refl
-asked-cells (DescOf.table t) = by (t .limits) where
-  by : (m : Lim) → descCells (tableDesc (refByte (t .element)) (limitsOf m)) ≡ tableAsked (refByte (t .element)) m
+asks-cells (DescOf.func x) = refl
+asks-cells (DescOf.table t) = by (t .limits) where
+  by : (m : Lim) → descCells (tableDesc (refByte (t .element)) (limitsOf m)) ≡ tableAsks (refByte (t .element)) m
   by (least n) = refl
   by (between n k) = refl
-asked-cells (DescOf.mem (least n)) = refl
-asked-cells (DescOf.mem (between n k)) = refl
-asked-cells (DescOf.global g) = refl
+asks-cells (DescOf.mem (least n)) = refl
+asks-cells (DescOf.mem (between n k)) = refl
+asks-cells (DescOf.global g) = refl
 
 pub cells-say : CellsSay
 unfolding importCells
 cells-say b row v h =
     ap (λ (k : ℕ). k ∷ descCells (row .desc)) (h .kind-is)
-    ∙ ap (λ (l : List ℕ). descKind (v .desc) ∷ l) (ap descCells (h .desc-is) ∙ asked-cells (v .desc))
+    ∙ ap (λ (l : List ℕ). descKind (v .desc) ∷ l) (ap descCells (h .desc-is) ∙ asks-cells (v .desc))

@@ -30,25 +30,25 @@ abbrev pub RowsFit : Type 0
 RowsFit = (n : ℕ) (r : Import) → ImportOk n r → CellsFit (drop 4 (importCells r))
 
 -- ---- by production: typeidx; tabletype; memtype; globaltype
-abbrev pub tableAsked : ℕ → Lim → List ℕ
-tableAsked e (least n) = 0 ∷ e ∷ 0 ∷ n ∷ 0 ∷ 0 ∷ 14 ∷ []
-tableAsked e (between n k) = 0 ∷ e ∷ 1 ∷ n ∷ k ∷ 0 ∷ 30 ∷ []
+abbrev pub tableAsks : ℕ → Lim → List ℕ
+tableAsks e (least n) = 0 ∷ e ∷ 0 ∷ n ∷ 0 ∷ 0 ∷ 14 ∷ []
+tableAsks e (between n k) = 0 ∷ e ∷ 1 ∷ n ∷ k ∷ 0 ∷ 30 ∷ []
 
-abbrev pub memoryAsked : Lim → List ℕ
-memoryAsked (least n) = 0 ∷ 0 ∷ 0 ∷ n ∷ 0 ∷ 0 ∷ 12 ∷ []
-memoryAsked (between n k) = 0 ∷ 0 ∷ 1 ∷ n ∷ k ∷ 0 ∷ 28 ∷ []
+abbrev pub memoryAsks : Lim → List ℕ
+memoryAsks (least n) = 0 ∷ 0 ∷ 0 ∷ n ∷ 0 ∷ 0 ∷ 12 ∷ []
+memoryAsks (between n k) = 0 ∷ 0 ∷ 1 ∷ n ∷ k ∷ 0 ∷ 28 ∷ []
 
-abbrev pub asked : DescOf → List ℕ
-asked (DescOf.func x) = x ∷ 0 ∷ 0 ∷ 0 ∷ 0 ∷ 0 ∷ 1 ∷ []
-asked (DescOf.table t) = tableAsked (refByte (t .element)) (t .limits)
-asked (DescOf.mem m) = memoryAsked m
-asked (DescOf.global g) = 0 ∷ valByte (g .value) ∷ 0 ∷ 0 ∷ 0 ∷ mutByte (g .mut) ∷ 34 ∷ []
+abbrev pub asksFor : DescOf → List ℕ
+asksFor (DescOf.func x) = x ∷ 0 ∷ 0 ∷ 0 ∷ 0 ∷ 0 ∷ 1 ∷ []
+asksFor (DescOf.table t) = tableAsks (refByte (t .element)) (t .limits)
+asksFor (DescOf.mem m) = memoryAsks m
+asksFor (DescOf.global g) = 0 ∷ valByte (g .value) ∷ 0 ∷ 0 ∷ 0 ∷ mutByte (g .mut) ∷ 34 ∷ []
 
 -- the row of an import that the specification derives has those cells
 abbrev pub CellsSay : Type 0
 CellsSay =
     (b : List ℕ) (row : Import) (v : ImportOf) → ImportHere b row (importSaid v)
-    → drop 4 (importCells row) ≡ descKind (v .desc) ∷ asked (v .desc)
+    → drop 4 (importCells row) ≡ descKind (v .desc) ∷ asksFor (v .desc)
 
 -- ---- worked cases: a file's rows of table 2, all their cells
 abbrev pub importRows : List ℕ → Said (List ℕ)
