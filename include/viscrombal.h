@@ -157,7 +157,7 @@ struct viscrombal_comparison {
 };
 
 /* The number of this interface: a change of a struct, of a number or of a place raises it. */
-#define VISCROMBAL_INTERFACE 3
+#define VISCROMBAL_INTERFACE 4
 uint32_t viscrombal_interface(void);
 
 /* The stack that a call needs, with its caller's frame: no file needs more. Calls keep their tables there, so that how deep one goes

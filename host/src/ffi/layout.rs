@@ -17,7 +17,7 @@ macro_rules! as_in_c {
     };
 }
 
-pub const INTERFACE: u32 = 3;
+pub const INTERFACE: u32 = 4;
 
 pub mod stack {
     #![allow(missing_docs)]
