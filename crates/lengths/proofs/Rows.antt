@@ -38,6 +38,10 @@ unfolding rangeOf
 range-short s from len = either (inside s from len) len _ _ (omega (arith, length-take len (drop from s))) (omega arith)
 
 -- ---- the rows of table 2, which holds rs; d stands for a row that is not there
+import-wide : (r : Import) → length (importCells r) ≡ width 2
+unfolding importCells
+import-wide r = refl
+
 module _ (file : List ℕ) (n : ℕ) (rs : List Import) (d : Import) where
   abbrev imports : List ℕ
   imports = laid n (cells importCells rs)
@@ -45,13 +49,13 @@ module _ (file : List ℕ) (n : ℕ) (rs : List Import) (d : Import) where
   source-short : (i : ℕ) → i < length rs → length (rowName file imports (width 2) 0 1 i) ≤ getD rs i d .«module» .len
   unfolding importCells
   source-short i h =
-      let e : cellIn 2 imports i 1 ≡ getD rs i d .«module» .len = cell-laid importCells (width 2) (λ r. refl) n rs i 1 d h (omega arith) in
+      let e : cellIn 2 imports i 1 ≡ getD rs i d .«module» .len = cell-laid importCells (width 2) import-wide n rs i 1 d h (omega arith) in
       omega (arith, range-short file (cellIn 2 imports i 0) (cellIn 2 imports i 1), e)
 
   field-short : (i : ℕ) → i < length rs → length (rowName file imports (width 2) 2 3 i) ≤ getD rs i d .field .len
   unfolding importCells
   field-short i h =
-      let e : cellIn 2 imports i 3 ≡ getD rs i d .field .len = cell-laid importCells (width 2) (λ r. refl) n rs i 3 d h (omega arith) in
+      let e : cellIn 2 imports i 3 ≡ getD rs i d .field .len = cell-laid importCells (width 2) import-wide n rs i 3 d h (omega arith) in
       omega (arith, range-short file (cellIn 2 imports i 2) (cellIn 2 imports i 3), e)
 
   violation-row : (vs : List Verdict) (i : ℕ) → i < length rs

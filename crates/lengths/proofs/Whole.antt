@@ -13,7 +13,7 @@ use Rattle.refusal.specs.Said.{Said, accepted, refused, follow, spot}
 use Rattle.refusal.proofs.Following.{followed}
 use Rattle.text.specs.Whole.{wholeText}
 use Rattle.table.specs.Table.{laid, cells}
-use Rattle.table.specs.Shape.{limit, capacityIn}
+use Rattle.table.specs.Shape.{width, limit}
 use Rattle.table.proofs.Giving.{Gives, gives-done, gives-stop, gives-pick, gives-follow}
 use Rattle.table.proofs.Cells.{capacity-limit}
 use Rattle.wasm.specs.Shapes.{Import, Export}
@@ -86,9 +86,9 @@ module _ (b : List ℕ) (bytes : Bytes b) where
       let t = names-together b lent m (a .is) in
       record {
         few = a .few;
-        sections = omega (arith, r .sections-few, capacity-limit (rows 1) 5 256);
-        imports = omega (arith, r .imports-few, capacity-limit (rows 2) 5 1024);
-        exports = omega (arith, r .exports-few, capacity-limit (rows 3) 4 1024);
+        sections = omega (arith, r .sections-few, capacity-limit (rows 1) (width 1) (limit 1));
+        imports = omega (arith, r .imports-few, capacity-limit (rows 2) (width 2) (limit 2));
+        exports = omega (arith, r .exports-few, capacity-limit (rows 3) (width 3) (limit 3));
         import-names = omega (arith, t .imports, a .few);
         export-names = omega (arith, t .exports, a .few);
       }
