@@ -568,7 +568,7 @@ fn refusals_have_words() {
     for tell in [ErrorKind::words, ErrorKind::slug] {
         assert_eq!(ErrorKind::ALL.iter().map(|kind| tell(*kind)).collect::<HashSet<_>>().len(), 19);
     }
-    assert_eq!((viscrombal::interface(), viscrombal::INTERFACE), (Ok(()), 3));
+    assert_eq!((viscrombal::interface(), viscrombal::INTERFACE), (Ok(()), 4));
     assert_eq!(StrictRule::ALL.map(StrictRule::number), [1, 2, 3, 4, 5, 6, 7, 8]);
     assert_eq!(StrictRule::ALL.map(StrictRule::words).into_iter().collect::<HashSet<_>>().len(), 8);
     let said = |file: &[u8]| wasm::parse(file).unwrap_err().to_string();

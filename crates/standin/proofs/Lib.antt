@@ -4,6 +4,7 @@ pub mod Differ
 pub mod Orders
 pub mod Lowest
 pub mod Views
+pub mod Fitting
 pub mod Builds
 pub mod Domains
 pub mod Limits
