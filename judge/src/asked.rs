@@ -1,6 +1,6 @@
-//! What imports ask for: cells 5 to 11 of a row of table 2. The original steps over descriptors and keeps nothing of them, so that the cells
-//! of a file that it reads come from a second decoder here, over its `Reader`; and which rows are bad that are handed in is docs/RULES.md's
-//! to say. Nothing in it comes from the port.
+//! What imports ask for: cells 5 to 11 of a row of table 2. The original steps over descriptors and keeps nothing of them, so that the
+//! cells of a file that it reads come from a second decoder here, over its `Reader`; and which rows are bad that are handed in is
+//! docs/RULES.md's to say. Nothing in it comes from the port.
 use original::error::Result;
 use original::leb::Reader;
 
@@ -104,7 +104,8 @@ fn there(kind: u64, flag: u64) -> u64 {
     }
 }
 
-/// A row whose kind is no byte, whose last cell is not the one number for its kind and flag, or in which a number that is not there is not 0.
+/// A row whose kind is no byte, whose last cell is not the one number for its kind and flag, or in which a number that is not there
+/// is not 0.
 pub fn bad(row: &[u64]) -> bool {
     let (kind, flag, given) = (row[4], row[7], row[GIVEN]);
     kind > 255 || given != there(kind, flag) || (FIRST..GIVEN).any(|c| given >> (c - FIRST) & 1 == 0 && row[c] != 0)

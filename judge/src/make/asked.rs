@@ -1,5 +1,5 @@
-//! What imports ask for: descriptors of every kind in files; and rows of table 2 that are handed in with good, odd and bad ones, to every call
-//! that takes them. Where none is bad, the answer is the original's on the names and kinds alone.
+//! What imports ask for: descriptors of every kind in files; and rows of table 2 that are handed in with good, odd and bad ones, to every
+//! call that takes them. Where none is bad, the answer is the original's on the names and kinds alone.
 use super::contrasts::{numbers, Tables};
 use super::modules::{hear, plain, FULL, HEADER, ROOMY};
 use crate::asked::{Asked, FIRST, GIVEN, WIDTH};

@@ -293,7 +293,8 @@ fn repeats(court: &mut Court) {
     }
 }
 
-/// 14, then 15 in each of the four tables (a count, a range, a kind, a descriptor), then 13 of table 8, then of table 9: every two of them at once.
+/// 14, then 15 in each of the four tables (a count, a range, a kind, a descriptor), then 13 of table 8, then of table 9: every two of them
+/// at once.
 fn order(court: &mut Court) {
     let good = || Tables::of(sources(0..2), letters(0..2));
     let none = Tables::default;
