@@ -26,11 +26,11 @@ pub mod stack {
     pub const TOKEN: usize = 4096;
     pub const TOKENS: usize = 4096;
     pub const REWRITE: usize = 4096;
-    pub const CHECK: usize = 196608;
-    pub const STRICT: usize = 335872;
-    pub const MODULE: usize = 188416;
+    pub const CHECK: usize = 253952;
+    pub const STRICT: usize = 393216;
+    pub const MODULE: usize = 245760;
     pub const MANIFEST: usize = 77824;
-    pub const COMPARE: usize = 712704;
+    pub const COMPARE: usize = 827392;
 }
 
 as_in_c! {

@@ -151,10 +151,10 @@ fn strict(file: Vec<u8>, rule: usize) -> Case {
 /// The same over the C interface: the rows one table after another in a buffer that takes those of any module.
 fn listed(file: Vec<u8>) -> Case {
     let (a, b) = (file.clone(), file.clone());
-    let mut rows = vec![0; 8 * 22_784];
+    let mut rows = vec![0; 8 * 29_952];
     Case {
         said: Box::new(move || {
-            let mut rows = vec![0; 8 * 22_784];
+            let mut rows = vec![0; 8 * 29_952];
             let m = port::listed(&file, &mut rows);
             let mut cells = rows[..m.bytes].chunks_exact(8).map(|c| u64::from_le_bytes(c.try_into().unwrap()) as usize);
             let counts = [m.module.sections, m.module.imports, m.module.exports, m.module.symbols];

@@ -1,5 +1,6 @@
 //! Names, tokens, lines and paths of many lengths: ill-formed, different, cut or blank in each single byte. What compares, searches, trims
 //! and copies goes in steps, and a mistake may show at the edge of one alone.
+use super::asked::rows_of;
 use super::contrasts::{numbers, Tables};
 use super::modules::{hear, plain, HEADER, ROOMY};
 use crate::case::{Call, Case};
@@ -90,7 +91,7 @@ fn compared(court: &mut Court, a: &[u8], b: &[u8]) {
     let of_one = numbers(&[16, 24, 2 * (n + m) + 200], &tables(&[[0, n], [n, m]]), &tables(&[]));
     say(court, Call::Differences, &of_two, &[a, b]);
     say(court, Call::Differences, &of_one, &[&both, b""]);
-    say(court, Call::Namespaces, &[4, 2, 0, n, 0, 0, 0, n, m, 0, 0, 0], &[&both]);
+    say(court, Call::Namespaces, &[&[4, 2], &rows_of(&[0, n, 0, 0, 0, n, m, 0, 0, 0])[..]].concat(), &[&both]);
     if both.len() <= LONGEST && std::str::from_utf8(&both).is_ok() {
         let rows = |direction: u64| [1, 2, 2, 0, 0, 0, direction, 0, n, 0, 0, 0, 0, direction, n, m, 0, 0, 0];
         say(court, Call::AllImports, &[&[4], &rows(0)[..]].concat(), &[&both]);

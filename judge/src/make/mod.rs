@@ -1,4 +1,5 @@
 //! The inputs: exhaustive short ones, good ones made by a grammar, damaged copies. A round of seeded ones is the same for the same seed.
+mod asked;
 mod bad;
 mod contrasts;
 mod lengths;
@@ -24,6 +25,7 @@ pub fn fixed(court: &mut Court) {
     policies::fixed(court);
     manifests::fixed(court);
     modules::fixed(court);
+    asked::fixed(court);
     places::fixed(court);
     strict::fixed(court);
     tables::fixed(court);
@@ -47,7 +49,7 @@ pub fn seeded(court: &mut Court, seed: u64) {
             file = damaged(&file, r);
             text = damaged(&text, r);
         }
-        let room = |r: &mut Random| if r.one_in(2) { 2000 } else { 8 * r.below(60) as u64 + r.below(2) as u64 };
+        let room = |r: &mut Random| if r.one_in(2) { 4000 } else { 8 * r.below(120) as u64 + r.below(2) as u64 };
         court.hear(Case::new(Call::CModule, &[room(r)], &[&file]));
         modules::strictly(court, &file, modules::FULL);
         court.hear(Case::new(Call::CManifest, &[room(r)], &[&text]));
