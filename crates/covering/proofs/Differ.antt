@@ -17,7 +17,7 @@ use Rattle.differences.specs.declared.Change.{Change}
 use Rattle.differences.specs.declared.Change.the-variants.{Removed, Added}
 use Rattle.differences.specs.View.{Row}
 use Rattle.differences.specs.Differences.{Entry, entry, ties, hasKey, without, changes, isChange, hasNo}
-use Rattle.standin.specs.Replacing.{keys, Reports, Only, IsChange, other, reversed}
+use Rattle.covering.specs.Replacing.{keys, Reports, Only, IsChange, other, reversed}
 
 -- membership under map
 pub mem-map : {A B : Type 0} (f : A → B) (x : A) (l : List A) → x ∈ l → f x ∈ map f l

@@ -15,16 +15,11 @@ use Rattle.differences.specs.declared.Change.{Change}
 use Rattle.differences.specs.declared.Change.the-variants.{Removed, Added}
 use Rattle.differences.specs.View.{Need, Row, row}
 use Rattle.differences.specs.Differences.{Entry, entry, cmpNeed, needOrder, hasKey, without, changes}
-use Rattle.standin.specs.Replacing.{IsChange, IsLowest}
-use Rattle.standin.proofs.Differ.{map-mem, part-mem, apart, changes-mem, mem-changes}
-use Rattle.standin.proofs.Orders.{of-needs}
+use Rattle.covering.specs.Replacing.{IsChange, IsLowest, Rising}
+use Rattle.covering.proofs.Differ.{map-mem, part-mem, apart, changes-mem, mem-changes}
+use Rattle.covering.proofs.Orders.{of-needs}
 
--- each row has a lower number than all that follow it
 module _ {K : Type 0} where
-  abbrev pub Rising : List (Row K) → Type 0
-  Rising [] = Unit {0}
-  Rising (r ∷ l) = ((s : Row K) → s ∈ l → r .at < s .at) × Rising l
-
   -- the rows of a table, those that pass a test
   pub rising-rows : (f : ℕ → K) (p : ℕ → Bool) (i n : ℕ) → Rising (map (row f) (selected p (upFrom i n)))
   rising-rows f p i zero = tt

@@ -18,7 +18,7 @@ use Rattle.kinds.specs.declared.ExternalKind.the-variants.{Func, Table, Memory,
 use Rattle.kinds.specs.Kinds.{kindOf, kindByte, kindWord, hexOf}
 use Rattle.differences.specs.View.{ExportKey, Need}
 use Rattle.differences.specs.Differences.{kindSlug, cmpExport, cmpNeed, Entry, exportOrder, needOrder}
-use Rattle.standin.proofs.Differ.{Keyed}
+use Rattle.covering.proofs.Differ.{Keyed}
 
 -- ---- a kind is known by its word
 -- the digit that a character stands for

@@ -16,9 +16,9 @@ use Rattle.differences.specs.View.{ExportKey, Need, Row, View}
 use Rattle.differences.specs.Differences.{Entry, entry, cmpExport, cmpNeed, exportOrder, needOrder, hasKey, without, changes}
 use Rattle.differences.specs.Differences.{exportDiff, needDiff, hasNo}
 use Rattle.differences.specs.Compared.{lists, verdictOn}
-use Rattle.standin.specs.Replacing.{keys, Reports, IsChange, reversed}
-use Rattle.standin.proofs.Differ.{changes-mem, mem-changes, one-kind, exchange, removed, added, none-removed, none-added}
-use Rattle.standin.proofs.Orders.{of-exports, of-needs, tie-row}
+use Rattle.covering.specs.Replacing.{keys, Reports, IsChange, reversed}
+use Rattle.covering.proofs.Differ.{changes-mem, mem-changes, one-kind, exchange, removed, added, none-removed, none-added}
+use Rattle.covering.proofs.Orders.{of-exports, of-needs, tie-row}
 
 and-both : (x y : Bool) → ((x && y) ≡ true) ↔ ((x ≡ true) × (y ≡ true))
 and-both true y = ((λ h. (refl, h)), λ h. h .1)

@@ -1,8 +1,8 @@
 -- docs/RULES.md, "Differences": the words in which it is said what a replacement keeps and what the two lists report. Assumes nothing.
 use mathlib.Core.Path.{_≡_}
 use mathlib.Core.Logic.{_⊎_}
-use mathlib.Core.List.{List, map}
-use Prim.Native.Nat.{_≤_}
+use mathlib.Core.List.{List, [], _∷_, map}
+use Prim.Native.Nat.{_≤_, _<_}
 use Rattle.sorting.specs.Sort.{_∈_}
 use Rattle.differences.specs.declared.Change.{Change}
 use Rattle.differences.specs.declared.Change.the-variants.{Removed, Added}
@@ -34,6 +34,11 @@ module _ {K : Type 0} where
   -- no change of this key has a lower row
   abbrev pub IsLowest : Entry K → List (Row K) → List (Row K) → Type 0
   IsLowest e b c = (f : Entry K) → IsChange f b c → f .row .key ≡ e .row .key → e .row .at ≤ f .row .at
+
+  -- each row has a lower number than all that follow it
+  abbrev pub Rising : List (Row K) → Type 0
+  Rising [] = Unit {0}
+  Rising (r ∷ l) = ((s : Row K) → s ∈ l → r .at < s .at) × Rising l
 
   -- removed for added and added for removed, of one row
   abbrev pub reversed : Entry K → Entry K

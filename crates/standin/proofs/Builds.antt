@@ -33,7 +33,7 @@ use Rattle.differences.specs.View.{exportKeyAt, needAt}
 use Rattle.differences.specs.View.{row as rowOf}
 use Rattle.differences.specs.Compared.{exportFits, exportsTested, tablesTested, lists, roomed, compared}
 use Rattle.standin.specs.Builds.{Build, handed, view}
-use Rattle.standin.proofs.Views.{keep-length}
+use Rattle.covering.proofs.Views.{keep-length}
 
 -- ---- tables whose rows are all good
 all-good : (test : ℕ → Bool) (i k : ℕ) → ((j : ℕ) → i ≤ j → j < i + k → test j ≡ false) → firstFrom test i k ≡ accepted tt
