@@ -17,7 +17,7 @@ use Rattle.sorting.proofs.Numbers.{sort-agree}
 use Rattle.sorting.specs.Keys.{Sorts}
 use Rattle.sorting.specs.declared.Keys.{Keys}
 use Rattle.sorting.specs.declared.Sorted.{Sorted}
-use Rattle.keyed.specs.Keying.{columns, wanted, sameKey, someOther, lostKey, missing, Lists}
+use Rattle.keyed.specs.Keying.{columns, wanted, sameKey, someOther, lostKey, missing, Lacks}
 use Rattle.keyed.proofs.Listing.{sorts-whole, missing-few, lists-whole}
 use Rattle.keyed.proofs.Missing.{keep-agree}
 use Rattle.keyed.specs.Quick.{meetsKey, foundMark, Unmarked}
@@ -70,7 +70,7 @@ module _ (first second keys found after : List ℕ) (nb n : ℕ) (every : Bool) 
 pub whole-quick : (first second keys after : List ℕ) (nb n : ℕ) (every : Bool) {before numbers : List ℕ} {t : Bool} {r : Sorted} {k : Keys}
     → ((e : Bool) → sortedRows first second after (columns e) n ≡ missing first second keys nb n e) → nb ≤ n → k ≡ columns every
     → Sorts (sortedRows first second after k n) before numbers r → n ≤ length before → t ≡ true
-    → Lists t (missing first second keys nb n every) before numbers r
+    → Lacks t (missing first second keys nb n every) before numbers r
 whole-quick first second keys after nb n every {before} {numbers} {r = r} d within c s room y =
     let q : Sorts (sortedRows first second after (columns every) n) before numbers r = rw c at s in
     let w = sorts-whole (missing first second keys nb n every) before numbers r (rw (d every) at q)
@@ -78,6 +78,6 @@ whole-quick first second keys after nb n every {before} {numbers} {r = r} d with
     lists-whole y refl w
 
 pub whole-slow : (first second : List ℕ) (nb n : ℕ) (every : Bool) {keys after before numbers : List ℕ} {t u : Bool} {r : Sorted}
-    → after ≡ keys → t ≡ u → Lists t (missing first second after nb n every) before numbers r
-    → Lists u (missing first second keys nb n every) before numbers r
+    → after ≡ keys → t ≡ u → Lacks t (missing first second after nb n every) before numbers r
+    → Lacks u (missing first second keys nb n every) before numbers r
 whole-slow first second nb n every e q l = rw (← e, ← q) l

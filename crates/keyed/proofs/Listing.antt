@@ -22,7 +22,7 @@ use Rattle.sorting.specs.Keys.{rowOrder, rowMarked, sortedRows, otherRows, said
 use Rattle.sorting.specs.declared.Sorted.{Sorted}
 use Rattle.sorting.specs.declared.Sorted.the-variants.{Rows, Full}
 use Rattle.sorting.proofs.Sorts.{sort-length}
-use Rattle.keyed.specs.Keying.{columns, byRank, sameKey, lostKey, missing, roomFor, Whole, Lists, single, ranked, lonely}
+use Rattle.keyed.specs.Keying.{columns, byRank, sameKey, lostKey, missing, roomFor, Whole, Lacks, single, ranked, lonely}
 use Rattle.keyed.proofs.Missing.{list, ranks, left, of-list, left-sorted}
 
 -- ---- a list in a table that has room for it
@@ -135,10 +135,10 @@ module _ (first second keys : List ℕ) (nb n : ℕ) (within : nb ≤ n) (every 
       record { answer-is = w .answer-is; table-is = w .table-is ∙ ap (λ (m : ℕ). laid m l) k }
 
 pub lists-whole : {l zeros before after : List ℕ} {t : Bool} {r : Sorted} → t ≡ true → length zeros ≡ length before
-    → Whole l zeros after r → Lists t l before after r
+    → Whole l zeros after r → Lacks t l before after r
 lists-whole {l = l} e k w = record { answer-is = rw e (w .answer-is); table-is = rw e (w .table-is ∙ ap (λ (m : ℕ). laid m l) k) }
 
-pub lists-none : {l before after : List ℕ} {t : Bool} → t ≡ false → after ≡ laid (length before) [] → Lists t l before after Full
+pub lists-none : {l before after : List ℕ} {t : Bool} → t ≡ false → after ≡ laid (length before) [] → Lacks t l before after Full
 lists-none e h = record { answer-is = rw e; table-is = rw e h }
 
 -- a table that was cleared

@@ -13,16 +13,16 @@ use Rattle.table.proofs.Cells.{cell-there}
 use Rattle.keyed.specs.Keying.{single, nameIn, sameKey}
 use Rattle.keyed.proofs.Missing.{row-of}
 use Rattle.keyed.proofs.Sameness.{same-names, same-majors, same-minors}
-use Rattle.keyed.specs.Quick.{mixed, stirred, namePrint, printAt, Printed}
+use Rattle.keyed.specs.Quick.{mixedPrint, stirred, namePrint, printAt, Printed}
 
 -- ---- prints of what is left of some bytes
 module _ (p : ℕ) (s : List ℕ) (i : ℕ) where
-  pub mix-next : i < length s → mixed p (drop i s) ≡ mixed ((p * 2654435761 + getD s i 0) % 4294967296) (drop (i + 1) s)
-  unfolding mixed
+  pub mix-next : i < length s → mixedPrint p (drop i s) ≡ mixedPrint ((p * 2654435761 + getD s i 0) % 4294967296) (drop (i + 1) s)
+  unfolding mixedPrint
   mix-next h = rw (left-next s i h)
 
-  pub mix-end : length s ≤ i → mixed p (drop i s) ≡ p
-  unfolding mixed
+  pub mix-end : length s ≤ i → mixedPrint p (drop i s) ≡ p
+  unfolding mixedPrint
   mix-end h = rw (left-none s i h)
 
 pub stir-is : (p n : ℕ) → (p * 2654435761 + n % 4294967296) % 4294967296 ≡ stirred p n
@@ -30,12 +30,12 @@ unfolding stirred
 stir-is p n = refl
 
 module _ (s : List ℕ) where
-  pub print-short : {r : ℕ} → length s < 8 → r ≡ mixed (length s) s → r ≡ namePrint s
+  pub print-short : {r : ℕ} → length s < 8 → r ≡ mixedPrint (length s) s → r ≡ namePrint s
   unfolding namePrint
   print-short h e = rw (lt-ltb (length s) 8 h) e
 
   pub print-long : {head r : ℕ} {a z : List ℕ} → 8 ≤ length s → a ≡ rangeOf s 0 8 → z ≡ rangeOf s (length s - 8) 8
-      → head ≡ mixed (length s % 4294967296) a → r ≡ mixed head z → r ≡ namePrint s
+      → head ≡ mixedPrint (length s % 4294967296) a → r ≡ mixedPrint head z → r ≡ namePrint s
   unfolding namePrint
   print-long h ea ez e q = rw (le-ltb (length s) 8 h, ← ea, ← ez, ← e) q
 

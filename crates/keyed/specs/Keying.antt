@@ -69,7 +69,7 @@ pub record Whole (l before after : List ℕ) (r : Sorted) : Type 0 where
   pub table-is : after ≡ laid (length before) l
 
 -- all of the list, then zeros; or no room, and zeros throughout
-pub record Lists (room : Bool) (l before after : List ℕ) (r : Sorted) : Type 0 where
+pub record Lacks (room : Bool) (l before after : List ℕ) (r : Sorted) : Type 0 where
   pub answer-is : r ≡ pick room (Rows (length l)) Full
   pub table-is : after ≡ laid (length before) (pick room l [])
 

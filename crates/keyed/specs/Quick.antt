@@ -12,9 +12,9 @@ use Rattle.keyed.specs.Keying.{columns, nameIn, wanted, sameKey, someOth
 use Rattle.keyed.specs.declared.quick.Sought.{Sought}
 
 -- a print, and one byte after another
-unfoldable pub mixed : ℕ → List ℕ → ℕ
-mixed print [] = print
-mixed print (b ∷ l) = mixed ((print * 2654435761 + b) % 4294967296) l
+unfoldable pub mixedPrint : ℕ → List ℕ → ℕ
+mixedPrint print [] = print
+mixedPrint print (b ∷ l) = mixedPrint ((print * 2654435761 + b) % 4294967296) l
 
 -- a print, and a number
 unfoldable pub stirred : ℕ → ℕ → ℕ
@@ -23,8 +23,8 @@ stirred print number = (print * 2654435761 + number % 4294967296) % 4294967296
 -- what tells most names apart: the length, the first eight bytes and the last eight; of fewer than eight each
 unfoldable pub namePrint : List ℕ → ℕ
 namePrint s =
-    pick (ltb (length s) 8) (mixed (length s) s)
-    (mixed (mixed (length s % 4294967296) (rangeOf s 0 8)) (rangeOf s (length s - 8) 8))
+    pick (ltb (length s) 8) (mixedPrint (length s) s)
+    (mixedPrint (mixedPrint (length s % 4294967296) (rangeOf s 0 8)) (rangeOf s (length s - 8) 8))
 
 module _ (first second keys : List ℕ) where
   -- row j is wanted, and its key is that of row i

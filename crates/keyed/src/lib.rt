@@ -8,9 +8,11 @@ use crate::ranks::list_by_rank;
 use sorting::Keys;
 use sorting::Sorted;
 ghost use mathlib.Core.Path.{_≡_};
+ghost use mathlib.Core.List.{[]};
 ghost use Prim.Native.Nat.{_+_};
 ghost use lib.ListN.{length};
-ghost use Rattle.keyed.specs.Keying.{columns, missing, roomFor, Lists};
+ghost use Rattle.table.specs.Table.{laid};
+ghost use Rattle.keyed.specs.Keying.{columns, missing, roomFor, Lacks};
 
 // A row has six cells: the list, 0 or 1, whose bytes its name lies in; the name's range; a number that counts before the name and one
 // that counts after it; and 1 where the row is wanted.
@@ -62,10 +64,8 @@ pub(crate) fn has_room(nb: usize, nc: usize, ranks: usize, lost: usize, numbers:
     n <= numbers
 }
 
-// The numbers of the rows whose key the other list lacks, in order: those of the first list are numbered first. By prints, as long as a
-// budget of bytes lasts, and else by ranks. Tables `ranks` and `lost` are lent to work in, and marks in `keys` may be taken; without a
-// cell for every row in each of the three there is no room.
-pub fn list_missing<'a, 'b, 'c, 'd, 'e>(
+// By prints, as long as a budget of bytes lasts, and else by ranks.
+fn list_in<'a, 'b, 'c, 'd, 'e>(
     first: &'a [u8],
     second: &'a [u8],
     keys: &'b mut [usize],
@@ -76,7 +76,7 @@ pub fn list_missing<'a, 'b, 'c, 'd, 'e>(
     lost: &'d mut [usize],
     numbers: &'e mut [usize],
 ) -> Sorted
-    ensures { λ r. ⌜ Lists (roomFor (nb + nc) (length (now (ranks .entry))) (length (now (lost .entry))) (length (now (numbers .entry))))
+    ensures { λ r. ⌜ Lacks (roomFor (nb + nc) (length (now (ranks .entry))) (length (now (lost .entry))) (length (now (numbers .entry))))
         (missing (now (first .entry)) (now (second .entry)) (now (keys .entry)) nb (nb + nc) every)
         (now (numbers .entry)) (now (numbers .exit)) r ⌝ }
 {
@@ -89,4 +89,31 @@ pub fn list_missing<'a, 'b, 'c, 'd, 'e>(
         return sorting::sort(first, second, keys, columns(every), n, numbers);
     }
     list_by_rank(first, second, keys, nb, nc, every, ranks, lost, numbers)
+}
+
+// The numbers of the rows whose key the other list lacks, in order: those of the first list are numbered first. The other tables are lent
+// to work in, and zero in the end; without a cell for every row in each of `ranks`, `lost` and `numbers` there is no room.
+pub fn list_missing<'a, 'b, 'c, 'd, 'e>(
+    first: &'a [u8],
+    second: &'a [u8],
+    keys: &'b mut [usize],
+    nb: usize,
+    nc: usize,
+    every: bool,
+    ranks: &'c mut [usize],
+    lost: &'d mut [usize],
+    numbers: &'e mut [usize],
+) -> Sorted
+    ensures { λ r. ⌜ (Lacks (roomFor (nb + nc) (length (now (ranks .entry))) (length (now (lost .entry))) (length (now (numbers .entry))))
+        (missing (now (first .entry)) (now (second .entry)) (now (keys .entry)) nb (nb + nc) every)
+        (now (numbers .entry)) (now (numbers .exit)) r)
+        × (now (keys .exit) ≡ laid (length (now (keys .entry))) [])
+        × (now (ranks .exit) ≡ laid (length (now (ranks .entry))) [])
+        × (now (lost .exit) ≡ laid (length (now (lost .entry))) []) ⌝ }
+{
+    let sorted = list_in(first, second, keys, nb, nc, every, ranks, lost, numbers);
+    table::clear(keys);
+    table::clear(ranks);
+    table::clear(lost);
+    sorted
 }

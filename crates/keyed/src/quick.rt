@@ -15,7 +15,7 @@ ghost use lib.ListN.{length, set};
 ghost use Rattle.table.specs.Table.{laid, cells, rowsOf};
 ghost use Rattle.differences.specs.Numbers.{someFrom};
 ghost use Rattle.keyed.specs.Keying.{single};
-ghost use Rattle.keyed.specs.Quick.{mixed, stirred, namePrint, printAt, Printed, Unlike, meetsKey, Seeks, foundMark, Unmarked, Tried};
+ghost use Rattle.keyed.specs.Quick.{mixedPrint, stirred, namePrint, printAt, Printed, Unlike, meetsKey, Seeks, foundMark, Unmarked, Tried};
 
 // A print is below this; the factor is odd and takes every bit of it along.
 const PRINTS: usize = 4294967296;
@@ -31,7 +31,7 @@ const BLOCK: usize = 16;
 // A print, and one byte after another.
 fn mix(bytes: &[u8], start: usize) -> usize
     requires { ⌜ start < 4294967296 ⌝ }
-    ensures { λ r. ⌜ (r ≡ mixed start (now (bytes .entry))) × (r < 4294967296) ⌝ }
+    ensures { λ r. ⌜ (r ≡ mixedPrint start (now (bytes .entry))) × (r < 4294967296) ⌝ }
 {
     let mut print = start;
     let mut i = 0;

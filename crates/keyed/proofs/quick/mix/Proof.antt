@@ -3,14 +3,14 @@ use mathlib.Core.Path.{_≡_, refl, sym, _∙_}
 use Prim.Native.Nat.{_-_, _≤_, _<_}
 use native.Mathlib.Omega.{arith}
 use lib.ListN.{length, drop}
-use Rattle.keyed.specs.Quick.{mixed}
+use Rattle.keyed.specs.Quick.{mixedPrint}
 use Rattle.keyed.proofs.Printing.{mix-next, mix-end}
 use Rattle.keyed.proofs.quick.mix.Statement.{statement}
 use Rattle.keyed.proofs.quick.mix.Tie as tie
 
 abbrev Inv-loop : tie.InvT-loop
 Inv-loop bytes start print₀ i₀ print i =
-    (i ≤ length bytes) × (print < 4294967296) × (mixed print (drop i bytes) ≡ mixed start bytes)
+    (i ≤ length bytes) × (print < 4294967296) × (mixedPrint print (drop i bytes) ≡ mixedPrint start bytes)
 
 abbrev μ-loop : tie.MeasureT-loop
 μ-loop bytes start print₀ i₀ print i = length bytes - i
