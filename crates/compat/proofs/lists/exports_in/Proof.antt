@@ -32,7 +32,7 @@ returns c =
     let f = m .before .before .before .before .before .before .before in
     let s = start (f .before) in
     let a = s .args in
-    lists-numbers (rw (f .fill-exports .ensures) at (m .list-missing .ensures))
+    lists-numbers (rw (f .fill-exports .ensures) at (m .list-missing .ensures .0))
     (room-yes _ _ _ _ (s .pre .1 .0 .2) (s .pre .1 .0 .3) (s .pre .0 .2))
     (omega (arith, s .pre .0 .2, missing-few (a .b .now) (a .c .now) (rows s) (a .nb) (a .nb + a .nc) (omega arith) true))
     (c .rows-of .ensures) (exports-listed _ _ _ _ _ _ (exports-good _ _ _ (s .pre .1 .1 .0) .1) (exports-good _ _ _ (s .pre .1 .1 .1) .1) _)
