@@ -20,7 +20,7 @@ use Rattle.differences.specs.Compared.{Given, given, viewed, Lists, lists, comp
 use Rattle.reasons.specs.Reasons.{reasonsOf}
 use Rattle.listed.specs.Comparisons.{Comparison, tabled, comparison}
 use Rattle.standin.specs.Passing.{Passes}
-use Rattle.standin.specs.Replacing.{keys, reversed}
+use Rattle.covering.specs.Replacing.{keys, reversed}
 
 -- ---- reading
 -- a file that `read_module` accepted with tables of some sizes: its answer, and the tables as its promise says that it leaves them
