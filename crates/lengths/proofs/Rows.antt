@@ -16,6 +16,7 @@ use Rattle.sorting.specs.Keys.{rowName}
 use Rattle.import_rows.specs.Queries.{kindIs}
 use Rattle.wasm.specs.Shapes.{Import, Export}
 use Rattle.wasm.specs.Rows.{importCells, exportCells}
+use Rattle.wasm.proofs.Asked.{import-wide}
 use Rattle.conform.specs.Sound.{total, importSize, exportSize}
 use Rattle.verdicts.specs.Evaluate.{violates}
 use Rattle.verdicts.specs.declared.Verdict.{Verdict}
@@ -38,10 +39,6 @@ unfolding rangeOf
 range-short s from len = either (inside s from len) len _ _ (omega (arith, length-take len (drop from s))) (omega arith)
 
 -- ---- the rows of table 2, which holds rs; d stands for a row that is not there
-import-wide : (r : Import) → length (importCells r) ≡ width 2
-unfolding importCells
-import-wide r = refl
-
 module _ (file : List ℕ) (n : ℕ) (rs : List Import) (d : Import) where
   abbrev imports : List ℕ
   imports = laid n (cells importCells rs)
