@@ -35,9 +35,9 @@ pub record Numbers {K : Type 0} (at : ℕ → Entry K) (d : List (Entry K)) (tab
   pub these : map at (take r table) ≡ d
 
 -- how many rows
-abbrev pub rowsIn : Sorted → ℕ
-rowsIn (Rows m) = m
-rowsIn Full = 0
+abbrev pub rowsSorted : Sorted → ℕ
+rowsSorted (Rows m) = m
+rowsSorted Full = 0
 
 -- ---- a number's module and row
 unfoldable pub sideOf : ℕ → ℕ → Place

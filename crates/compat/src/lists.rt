@@ -19,11 +19,11 @@ ghost use Rattle.table.specs.Shape.{width, limit};
 ghost use Rattle.differences.specs.Compared.{exportsTested};
 ghost use Rattle.keyed.specs.Keying.{keyWidth};
 ghost use Rattle.compat.specs.Listing.{Numbers, exportNumbered, needNumbered, exportsBetween, needsBetween};
-ghost use Rattle.compat.specs.Listing.{rowsIn, sideOf, placeCells, needCellsAt, hasSide};
+ghost use Rattle.compat.specs.Listing.{rowsSorted, sideOf, placeCells, needCellsAt, hasSide};
 
 // How many rows; none where there was no room, which is never so here.
 fn rows_of(sorted: Sorted) -> usize
-    ensures { λ m. ⌜ m ≡ rowsIn sorted ⌝ }
+    ensures { λ m. ⌜ m ≡ rowsSorted sorted ⌝ }
 {
     match sorted {
         Sorted::Rows(m) => m,

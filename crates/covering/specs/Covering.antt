@@ -13,55 +13,55 @@ use Rattle.differences.specs.Compared.{Lists, lists, verdictOn}
 use Rattle.covering.specs.Replacing.{keys, Reports, IsChange, IsLowest, Rising, reversed}
 
 -- the exports, by name and kind; the pairs of domain and source that are needed; the domains of these pairs
-abbrev pub exports : View → List ExportKey
-exports v = keys (v .exports)
+abbrev pub viewExports : View → List ExportKey
+viewExports v = keys (v .exports)
 
-abbrev pub pairs : View → List Need
-pairs v = keys (v .needs)
+abbrev pub viewPairs : View → List Need
+viewPairs v = keys (v .needs)
 
-abbrev pub domains : View → List ℕ
-domains v = map (λ n. n .domain) (pairs v)
+abbrev pub viewDomains : View → List ℕ
+viewDomains v = map (λ n. n .domain) (viewPairs v)
 
 -- c has every export of b, by name and kind, and needs no pair of domain and source that b does not
-pub record Covers (b c : View) : Type 0 where
-  pub has : (e : ExportKey) → e ∈ exports b → e ∈ exports c
-  pub needs : (n : Need) → n ∈ pairs c → n ∈ pairs b
+pub record ViewCovers (b c : View) : Type 0 where
+  pub has : (e : ExportKey) → e ∈ viewExports b → e ∈ viewExports c
+  pub needs : (n : Need) → n ∈ viewPairs c → n ∈ viewPairs b
 
 -- a series of views, each compatible with the one before it; its last
-abbrev pub Chain : View → List View → Type 0
-Chain b [] = Unit {0}
-Chain b (c ∷ cs) = (compatible b c ≡ true) × Chain c cs
+abbrev pub ViewChain : View → List View → Type 0
+ViewChain b [] = Unit {0}
+ViewChain b (c ∷ cs) = (compatible b c ≡ true) × ViewChain c cs
 
-abbrev pub last : View → List View → View
-last b [] = b
-last b (c ∷ cs) = last c cs
+abbrev pub lastView : View → List View → View
+lastView b [] = b
+lastView b (c ∷ cs) = lastView c cs
 
 -- the lists with the two views exchanged
 abbrev pub exchanged : Lists → Lists
 exchanged l = record { exports = map reversed (l .exports); needs = map reversed (l .needs) }
 
 -- What a replacement is.
-pub record Replacement : Type 0 where
+pub record ViewReplacement : Type 0 where
   -- The verdict on the two lists is that nothing was removed and nothing needed was added, ..
   pub verdict : (b c : View) → verdictOn (lists b c) .compatible ≡ compatible b c
   -- .. which is said exactly where the candidate covers the baseline.
-  pub means : (b c : View) → (compatible b c ≡ true) ↔ Covers b c
+  pub means : (b c : View) → (compatible b c ≡ true) ↔ ViewCovers b c
   -- Every view covers itself, and along any chain the last covers the first.
-  pub itself : (b : View) → Covers b b
-  pub series : (b : View) (cs : List View) → Chain b cs → Covers b (last b cs)
+  pub itself : (b : View) → ViewCovers b b
+  pub series : (b : View) (cs : List View) → ViewChain b cs → ViewCovers b (lastView b cs)
   -- So no domain is needed at the end that was not at the start.
-  pub fewer : (b c : View) → Covers b c → (d : ℕ) → d ∈ domains c → d ∈ domains b
+  pub fewer : (b c : View) → ViewCovers b c → (d : ℕ) → d ∈ viewDomains c → d ∈ viewDomains b
   -- Exchanging the two turns added into removed and removed into added in both lists, and changes nothing else.
   pub exchange : (b c : View) → lists c b ≡ exchanged (lists b c)
 
 -- What is in the two lists, and in which order.
-pub record Listing : Type 0 where
+pub record ViewListing : Type 0 where
   -- An export is reported removed exactly where it is in the baseline and not in the candidate, and added the other way round.
-  pub exportRemoved : (b c : View) (e : ExportKey) → Reports Removed e (exportDiff b c) ↔ ((e ∈ exports b) × (e ∈ exports c → ⊥))
-  pub exportAdded : (b c : View) (e : ExportKey) → Reports Added e (exportDiff b c) ↔ ((e ∈ exports c) × (e ∈ exports b → ⊥))
+  pub exportRemoved : (b c : View) (e : ExportKey) → Reports Removed e (exportDiff b c) ↔ ((e ∈ viewExports b) × (e ∈ viewExports c → ⊥))
+  pub exportAdded : (b c : View) (e : ExportKey) → Reports Added e (exportDiff b c) ↔ ((e ∈ viewExports c) × (e ∈ viewExports b → ⊥))
   -- The same of pairs.
-  pub needRemoved : (b c : View) (n : Need) → Reports Removed n (needDiff b c) ↔ ((n ∈ pairs b) × (n ∈ pairs c → ⊥))
-  pub needAdded : (b c : View) (n : Need) → Reports Added n (needDiff b c) ↔ ((n ∈ pairs c) × (n ∈ pairs b → ⊥))
+  pub needRemoved : (b c : View) (n : Need) → Reports Removed n (needDiff b c) ↔ ((n ∈ viewPairs b) × (n ∈ viewPairs c → ⊥))
+  pub needAdded : (b c : View) (n : Need) → Reports Added n (needDiff b c) ↔ ((n ∈ viewPairs c) × (n ∈ viewPairs b → ⊥))
   -- Each row of exports that the other lacks is listed, repeats too, by name, kind and row.
   pub exportsEach : (b c : View) (e : Entry ExportKey) → e ∈ exportDiff b c ↔ IsChange e (b .exports) (c .exports)
   pub exportsAscend : (b c : View) → Ascending exportOrder (exportDiff b c)

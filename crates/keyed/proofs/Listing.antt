@@ -22,7 +22,7 @@ use Rattle.sorting.specs.Keys.{rowOrder, rowMarked, sortedRows, otherRows, said
 use Rattle.sorting.specs.declared.Sorted.{Sorted}
 use Rattle.sorting.specs.declared.Sorted.the-variants.{Rows, Full}
 use Rattle.sorting.proofs.Sorts.{sort-length}
-use Rattle.keyed.specs.Keying.{columns, byRank, sameKey, lostKey, missing, roomFor, Whole, Lacks, single, ranked, lonely}
+use Rattle.keyed.specs.Keying.{columns, byRank, sameKey, lostKey, missing, holdsAll, Whole, Lacks, single, ranked, lonely}
 use Rattle.keyed.proofs.Missing.{list, ranks, left, of-list, left-sorted}
 
 -- ---- a list in a table that has room for it
@@ -54,12 +54,12 @@ few : (cmp : ℕ → ℕ → Order) (p : ℕ → Bool) (n : ℕ) → length (sor
 few cmp p n = omega (arith, sort-length cmp (selected p (upFrom 0 n)), keep-length p (upFrom 0 n), up-length 0 n)
 
 -- ---- room for every row
-pub room-as : {r : Bool} (n : ℕ) {a b c a1 b1 c1 : ℕ} → r ≡ roomFor n a b c → a ≡ a1 → b ≡ b1 → c ≡ c1 → r ≡ roomFor n a1 b1 c1
+pub room-as : {r : Bool} (n : ℕ) {a b c a1 b1 c1 : ℕ} → r ≡ holdsAll n a b c → a ≡ a1 → b ≡ b1 → c ≡ c1 → r ≡ holdsAll n a1 b1 c1
 room-as n e p q s = rw (← p, ← q, ← s) e
 
-module _ (n a b c : ℕ) {r : Bool} (e : r ≡ roomFor n a b c) (h : r ≡ true) where
+module _ (n a b c : ℕ) {r : Bool} (e : r ≡ holdsAll n a b c) (h : r ≡ true) where
   rooms : both (leb n a) (both (leb n b) (leb n c)) ≡ true
-  unfolding roomFor
+  unfolding holdsAll
   rooms = sym e ∙ h
 
   pub room-ranks : n ≤ a

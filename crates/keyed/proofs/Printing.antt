@@ -13,7 +13,7 @@ use Rattle.table.proofs.Cells.{cell-there}
 use Rattle.keyed.specs.Keying.{single, nameIn, sameKey}
 use Rattle.keyed.proofs.Missing.{row-of}
 use Rattle.keyed.proofs.Sameness.{same-names, same-majors, same-minors}
-use Rattle.keyed.specs.Quick.{mixedPrint, stirred, namePrint, printAt, Printed}
+use Rattle.keyed.specs.Quick.{mixedPrint, andNumber, endsPrint, printAt, Printed}
 
 -- ---- prints of what is left of some bytes
 module _ (p : ℕ) (s : List ℕ) (i : ℕ) where
@@ -25,18 +25,18 @@ module _ (p : ℕ) (s : List ℕ) (i : ℕ) where
   unfolding mixedPrint
   mix-end h = rw (left-none s i h)
 
-pub stir-is : (p n : ℕ) → (p * 2654435761 + n % 4294967296) % 4294967296 ≡ stirred p n
-unfolding stirred
+pub stir-is : (p n : ℕ) → (p * 2654435761 + n % 4294967296) % 4294967296 ≡ andNumber p n
+unfolding andNumber
 stir-is p n = refl
 
 module _ (s : List ℕ) where
-  pub print-short : {r : ℕ} → length s < 8 → r ≡ mixedPrint (length s) s → r ≡ namePrint s
-  unfolding namePrint
+  pub print-short : {r : ℕ} → length s < 8 → r ≡ mixedPrint (length s) s → r ≡ endsPrint s
+  unfolding endsPrint
   print-short h e = rw (lt-ltb (length s) 8 h) e
 
   pub print-long : {head r : ℕ} {a z : List ℕ} → 8 ≤ length s → a ≡ rangeOf s 0 8 → z ≡ rangeOf s (length s - 8) 8
-      → head ≡ mixedPrint (length s % 4294967296) a → r ≡ mixedPrint head z → r ≡ namePrint s
-  unfolding namePrint
+      → head ≡ mixedPrint (length s % 4294967296) a → r ≡ mixedPrint head z → r ≡ endsPrint s
+  unfolding endsPrint
   print-long h ea ez e q = rw (le-ltb (length s) 8 h, ← ea, ← ez, ← e) q
 
 -- a table of one number a row
@@ -55,7 +55,7 @@ all-printed first second keys total n {prints} e i j h k q =
     ∙ (rw (same-names first second keys i j q, same-majors first second keys i j q, same-minors first second keys i j q))
     ∙ sym (number-at (printAt first second keys) total n j e k)
 
-pub print-at-is : (first second keys : List ℕ) (i : ℕ) {p q r x y : ℕ} {s : List ℕ} → s ≡ nameIn first second keys i → p ≡ namePrint s
-    → x ≡ cellOf keys 6 i 3 → q ≡ stirred p x → y ≡ cellOf keys 6 i 4 → r ≡ stirred q y → r ≡ printAt first second keys i
+pub print-at-is : (first second keys : List ℕ) (i : ℕ) {p q r x y : ℕ} {s : List ℕ} → s ≡ nameIn first second keys i → p ≡ endsPrint s
+    → x ≡ cellOf keys 6 i 3 → q ≡ andNumber p x → y ≡ cellOf keys 6 i 4 → r ≡ andNumber q y → r ≡ printAt first second keys i
 unfolding printAt
 print-at-is first second keys i e p x q y r = rw (← e, ← p, ← x, ← q, ← y) r

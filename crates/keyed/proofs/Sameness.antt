@@ -17,7 +17,7 @@ use Rattle.text.proofs.FindLaws.{same-is}
 use Rattle.table.specs.Table.{cellOf, rangeOf}
 use Rattle.sorting.specs.Keys.{rowOrder, nameOf, fileOf}
 use Rattle.differences.specs.Differences.{ties}
-use Rattle.keyed.specs.Keying.{columns, nameIn, keyOrder, sameKey, rankAfter, roomFor}
+use Rattle.keyed.specs.Keying.{columns, nameIn, keyOrder, sameKey, rankAfter, holdsAll}
 
 -- ---- ties
 pub ties-then : (o p : Order) → ties (andThen o p) ≡ both (ties o) (ties p)
@@ -114,14 +114,14 @@ rank-next x e h = rw (← e, h)
 
 -- ---- room
 module _ (nb nc a b c : ℕ) where
-  pub no-ranks : a < nb + nc → false ≡ roomFor (nb + nc) a b c
-  unfolding roomFor
+  pub no-ranks : a < nb + nc → false ≡ holdsAll (nb + nc) a b c
+  unfolding holdsAll
   no-ranks h = rw (lt-leb (nb + nc) a h)
 
-  pub no-marks : nb + nc ≤ a → b < nb + nc → false ≡ roomFor (nb + nc) a b c
-  unfolding roomFor
+  pub no-marks : nb + nc ≤ a → b < nb + nc → false ≡ holdsAll (nb + nc) a b c
+  unfolding holdsAll
   no-marks h k = rw (le-leb (nb + nc) a h, lt-leb (nb + nc) b k)
 
-  pub room-numbers : nb + nc ≤ a → nb + nc ≤ b → leb (nb + nc) c ≡ roomFor (nb + nc) a b c
-  unfolding roomFor
+  pub room-numbers : nb + nc ≤ a → nb + nc ≤ b → leb (nb + nc) c ≡ holdsAll (nb + nc) a b c
+  unfolding holdsAll
   room-numbers h k = rw (le-leb (nb + nc) a h, le-leb (nb + nc) b k)

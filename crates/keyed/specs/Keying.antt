@@ -60,8 +60,8 @@ module _ (first second keys : List ℕ) where
   missing nb n every = sort (rowOrder first second keys (columns every)) (selected (lostKey nb n) (upFrom 0 n))
 
 -- ---- a list in a table that is lent, where there is room to work
-unfoldable pub roomFor : ℕ → ℕ → ℕ → ℕ → Bool
-roomFor n a b c = both (leb n a) (both (leb n b) (leb n c))
+unfoldable pub holdsAll : ℕ → ℕ → ℕ → ℕ → Bool
+holdsAll n a b c = both (leb n a) (both (leb n b) (leb n c))
 
 -- all of the list, then zeros
 pub record Whole (l before after : List ℕ) (r : Sorted) : Type 0 where

@@ -17,12 +17,12 @@ mixedPrint print [] = print
 mixedPrint print (b ∷ l) = mixedPrint ((print * 2654435761 + b) % 4294967296) l
 
 -- a print, and a number
-unfoldable pub stirred : ℕ → ℕ → ℕ
-stirred print number = (print * 2654435761 + number % 4294967296) % 4294967296
+unfoldable pub andNumber : ℕ → ℕ → ℕ
+andNumber print number = (print * 2654435761 + number % 4294967296) % 4294967296
 
 -- what tells most names apart: the length, the first eight bytes and the last eight; of fewer than eight each
-unfoldable pub namePrint : List ℕ → ℕ
-namePrint s =
+unfoldable pub endsPrint : List ℕ → ℕ
+endsPrint s =
     pick (ltb (length s) 8) (mixedPrint (length s) s)
     (mixedPrint (mixedPrint (length s % 4294967296) (rangeOf s 0 8)) (rangeOf s (length s - 8) 8))
 
@@ -33,7 +33,7 @@ module _ (first second keys : List ℕ) where
 
   -- the print of row i: of its name and its two numbers
   unfoldable pub printAt : ℕ → ℕ
-  printAt i = stirred (stirred (namePrint (nameIn first second keys i)) (cellOf keys 6 i 3)) (cellOf keys 6 i 4)
+  printAt i = andNumber (andNumber (endsPrint (nameIn first second keys i)) (cellOf keys 6 i 3)) (cellOf keys 6 i 4)
 
   -- of the first n rows those of one key have one print
   unfoldable pub Printed : ℕ → List ℕ → Type 0

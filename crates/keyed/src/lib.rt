@@ -12,7 +12,7 @@ ghost use mathlib.Core.List.{[]};
 ghost use Prim.Native.Nat.{_+_};
 ghost use lib.ListN.{length};
 ghost use Rattle.table.specs.Table.{laid};
-ghost use Rattle.keyed.specs.Keying.{columns, missing, roomFor, Lacks};
+ghost use Rattle.keyed.specs.Keying.{columns, missing, holdsAll, Lacks};
 
 // A row has six cells: the list, 0 or 1, whose bytes its name lies in; the name's range; a number that counts before the name and one
 // that counts after it; and 1 where the row is wanted.
@@ -49,7 +49,7 @@ pub(crate) fn columns(every: bool) -> Keys
 
 // Each of three tables has a cell for every row of both lists.
 pub(crate) fn has_room(nb: usize, nc: usize, ranks: usize, lost: usize, numbers: usize) -> bool
-    ensures { λ r. ⌜ r ≡ roomFor (nb + nc) ranks lost numbers ⌝ }
+    ensures { λ r. ⌜ r ≡ holdsAll (nb + nc) ranks lost numbers ⌝ }
 {
     if ranks < nb {
         return false;
@@ -76,7 +76,7 @@ fn list_in<'a, 'b, 'c, 'd, 'e>(
     lost: &'d mut [usize],
     numbers: &'e mut [usize],
 ) -> Sorted
-    ensures { λ r. ⌜ Lacks (roomFor (nb + nc) (length (now (ranks .entry))) (length (now (lost .entry))) (length (now (numbers .entry))))
+    ensures { λ r. ⌜ Lacks (holdsAll (nb + nc) (length (now (ranks .entry))) (length (now (lost .entry))) (length (now (numbers .entry))))
         (missing (now (first .entry)) (now (second .entry)) (now (keys .entry)) nb (nb + nc) every)
         (now (numbers .entry)) (now (numbers .exit)) r ⌝ }
 {
@@ -104,7 +104,7 @@ pub fn list_missing<'a, 'b, 'c, 'd, 'e>(
     lost: &'d mut [usize],
     numbers: &'e mut [usize],
 ) -> Sorted
-    ensures { λ r. ⌜ (Lacks (roomFor (nb + nc) (length (now (ranks .entry))) (length (now (lost .entry))) (length (now (numbers .entry))))
+    ensures { λ r. ⌜ (Lacks (holdsAll (nb + nc) (length (now (ranks .entry))) (length (now (lost .entry))) (length (now (numbers .entry))))
         (missing (now (first .entry)) (now (second .entry)) (now (keys .entry)) nb (nb + nc) every)
         (now (numbers .entry)) (now (numbers .exit)) r)
         × (now (keys .exit) ≡ laid (length (now (keys .entry))) [])

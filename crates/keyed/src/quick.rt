@@ -15,7 +15,7 @@ ghost use lib.ListN.{length, set};
 ghost use Rattle.table.specs.Table.{laid, cells, rowsOf};
 ghost use Rattle.differences.specs.Numbers.{someFrom};
 ghost use Rattle.keyed.specs.Keying.{single};
-ghost use Rattle.keyed.specs.Quick.{mixedPrint, stirred, namePrint, printAt, Printed, Unlike, meetsKey, Seeks, foundMark, Unmarked, Tried};
+ghost use Rattle.keyed.specs.Quick.{mixedPrint, andNumber, endsPrint, printAt, Printed, Unlike, meetsKey, Seeks, foundMark, Unmarked, Tried};
 
 // A print is below this; the factor is odd and takes every bit of it along.
 const PRINTS: usize = 4294967296;
@@ -45,14 +45,14 @@ fn mix(bytes: &[u8], start: usize) -> usize
 // A print, and a number.
 fn stir(print: usize, number: usize) -> usize
     requires { ⌜ print < 4294967296 ⌝ }
-    ensures { λ r. ⌜ (r ≡ stirred print number) × (r < 4294967296) ⌝ }
+    ensures { λ r. ⌜ (r ≡ andNumber print number) × (r < 4294967296) ⌝ }
 {
     (print * SPREAD + number % PRINTS) % PRINTS
 }
 
 // A number that tells most names apart: of the length, the first bytes and the last.
 fn name_print(name: &[u8]) -> usize
-    ensures { λ r. ⌜ (r ≡ namePrint (now (name .entry))) × (r < 4294967296) ⌝ }
+    ensures { λ r. ⌜ (r ≡ endsPrint (now (name .entry))) × (r < 4294967296) ⌝ }
 {
     let n = name.len();
     if n < EDGE {

@@ -17,7 +17,7 @@ ghost use Prim.Native.Nat.{ℕ, _+_, _≤_, _<_};
 ghost use lib.ListN.{length};
 ghost use Rattle.table.specs.Table.{laid};
 ghost use Rattle.sorting.specs.Sort.{_∈_};
-ghost use Rattle.keyed.specs.Keying.{nameIn, sameKey, rankAfter, ranked, byRank, missing, roomFor, Whole, Lacks};
+ghost use Rattle.keyed.specs.Keying.{nameIn, sameKey, rankAfter, ranked, byRank, missing, holdsAll, Whole, Lacks};
 
 // The name of row i, a part of its list's bytes.
 pub(crate) fn name_at<'a, 'b>(
@@ -159,7 +159,7 @@ pub(crate) fn list_by_rank<'a, 'b, 'c, 'd, 'e>(
     lost: &'d mut [usize],
     numbers: &'e mut [usize],
 ) -> Sorted
-    ensures { λ r. ⌜ Lacks (roomFor (nb + nc) (length (now (ranks .entry))) (length (now (lost .entry))) (length (now (numbers .entry))))
+    ensures { λ r. ⌜ Lacks (holdsAll (nb + nc) (length (now (ranks .entry))) (length (now (lost .entry))) (length (now (numbers .entry))))
         (missing (now (first .entry)) (now (second .entry)) (now (keys .entry)) nb (nb + nc) every)
         (now (numbers .entry)) (now (numbers .exit)) r ⌝ }
 {

@@ -31,7 +31,8 @@ use Rattle.differences.specs.Compared.{Compares}
 use Rattle.listed.specs.Comparisons.{explained, build, against, builds}
 use Rattle.standin.specs.Passing.{witness}
 use Rattle.covering.specs.Replacing.{reversed, Rising}
-use Rattle.standin.specs.Builds.{Build, handed, view, domains, pairs, buildsCompared, StandsIn, Chain, last, exchanged}
+use Rattle.covering.specs.Covering.{exchanged}
+use Rattle.standin.specs.Builds.{Build, handed, view, domains, pairs, buildsCompared, StandsIn, Chain, last}
 use Rattle.standin.specs.Builds.{buildsTold, Read, Meets, Clear}
 use Rattle.standin.specs.Claims.{WithRoom, CellsExchanged, lentCompared, Covers, Replacement, Listing, Explanation, FailSafe}
 use Rattle.standin.proofs.Cells.{export-cells, need-cells}

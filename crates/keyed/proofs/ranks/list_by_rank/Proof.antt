@@ -5,7 +5,7 @@ use native.Mathlib.Omega.{arith}
 use borrow.Author.Needs.{needs}
 use borrow.Author.Tests.{not-true, not-false}
 use lib.ListN.{length}
-use Rattle.keyed.specs.Keying.{roomFor}
+use Rattle.keyed.specs.Keying.{holdsAll}
 use Rattle.keyed.proofs.Listing.{room-as, room-ranks, room-lost, room-list, lists-whole, lists-none, cleared-length, cleared}
 use Rattle.keyed.proofs.ranks.list_by_rank.Statement.{statement}
 use Rattle.keyed.proofs.ranks.list_by_rank.Tie as tie
@@ -25,7 +25,7 @@ start h = first h .before .before .before .before .before .before .before .befor
 
 -- the answer on the room, by the tables as they were lent
 room : (h : tie.After-has-room) → let a = start h .args in
-    h .has-room .result ≡ roomFor (a .nb + a .nc) (length (a .ranks .now)) (length (a .lost .now)) (length (a .numbers .now))
+    h .has-room .result ≡ holdsAll (a .nb + a .nc) (length (a .ranks .now)) (length (a .lost .now)) (length (a .numbers .now))
 room h =
     room-as _ (h .has-room .ensures) (cleared-length (first h .clear .ensures)) (cleared-length (second h .clear2 .ensures))
     (cleared-length (third h .clear3 .ensures))
