@@ -30,7 +30,7 @@ pub mod stack {
     pub const STRICT: usize = 335872;
     pub const MODULE: usize = 188416;
     pub const MANIFEST: usize = 77824;
-    pub const COMPARE: usize = 712704;
+    pub const COMPARE: usize = 397312;
 }
 
 as_in_c! {
