@@ -80,6 +80,24 @@ pub record ModuleOk (b : List ℕ) (z : Sizes) (m : Parsed) : Type 0 where
 abbrev pub RowsSound : Type 0
 RowsSound = (b : List ℕ) (z : Sizes) (m : Parsed) → Bytes b → moduleAt b z ≡ accepted m → ModuleOk b z m
 
+-- names do not share bytes: those of table 2 have together no more than the file, and so have those of table 3
+unfoldable pub total : {E : Type 0} → (E → ℕ) → List E → ℕ
+total size [] = 0
+total size (r ∷ rs) = size r + total size rs
+
+abbrev pub importSize : Import → ℕ
+importSize r = r .«module» .len + r .field .len
+
+abbrev pub exportSize : Export → ℕ
+exportSize r = r .name .len
+
+pub record Together (n : ℕ) (t : Tables) : Type 0 where
+  pub imports : total importSize (t .imports) ≤ n
+  pub exports : total exportSize (t .exports) ≤ n
+
+abbrev pub NamesTogether : Type 0
+NamesTogether = (b : List ℕ) (z : Sizes) (m : Parsed) → moduleAt b z ≡ accepted m → Together (length b) (m .tables)
+
 -- w has at least the room of z
 pub record Larger (z w : Sizes) : Type 0 where
   pub sections : capacityIn 1 (z .sections) ≤ capacityIn 1 (w .sections)

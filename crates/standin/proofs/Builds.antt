@@ -35,7 +35,7 @@ use Rattle.differences.specs.View.{exportKeyAt, needAt}
 use Rattle.differences.specs.View.{row as rowOf}
 use Rattle.differences.specs.Compared.{exportFits, exportsTested, tablesTested, lists, roomed, compared}
 use Rattle.standin.specs.Builds.{Build, handed, view}
-use Rattle.standin.proofs.Views.{keep-length}
+use Rattle.covering.proofs.Views.{keep-length}
 use Rattle.standin.proofs.Fitting.{row-fits}
 
 -- ---- tables whose rows are all good

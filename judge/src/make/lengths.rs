@@ -15,7 +15,7 @@ pub fn fixed(court: &mut Court) {
     ill_formed(court);
     sequences(court);
     different(court);
-    fingerprints(court);
+    prints(court);
     cut(court);
     blanks(court);
     copied(court);
@@ -120,15 +120,14 @@ fn different(court: &mut Court) {
     }
 }
 
-/// Names that the comparison's fingerprint, a polynomial of the bytes, does not tell apart.
-fn fingerprints(court: &mut Court) {
-    let twins = ["43460j88a8", "h58vhzjl2u"].map(str::as_bytes);
-    let print = |s: &[u8]| s.iter().fold(0u64, |print, b| (print * 257 + *b as u64) % 1_099_511_627_689);
-    assert_eq!(print(twins[0]), print(twins[1]));
-    for (before, after) in [(0, 0), (1, 0), (0, 1), (54, 0), (60, 60), (300, 300)] {
-        let [a, b] = twins.map(|t| [&vec![b'n'; before][..], t, &vec![b'n'; after]].concat());
-        compared(court, &a, &b);
-        compared(court, &b, &a);
+/// Names that the comparison's print, of the length and of eight bytes at each end, does not tell apart.
+fn prints(court: &mut Court) {
+    for length in [17, 18, 24, 80, 300] {
+        let name = vec![b'n'; length];
+        for at in [8, length / 2, length - 9] {
+            compared(court, &name, &with(&name, at, b'm'));
+            compared(court, &with(&name, at, b'o'), &with(&name, at, b'm'));
+        }
     }
 }
 

@@ -17,6 +17,7 @@ pub fn fixed(court: &mut Court) {
     full_tables(court);
     bad_rows(court);
     builds(court);
+    ranked(court);
     requirements(court);
     tokens(court);
     worlds(court);
@@ -232,6 +233,40 @@ fn build(rows: &[usize], longest: usize) -> Vec<u8> {
     let imports: Vec<u8> = rows.iter().flat_map(|i| [name(*i), counted(b"f"), vec![0, 0]].concat()).collect();
     let exports: Vec<u8> = rows.iter().flat_map(|i| [name(*i), vec![(*i % 4) as u8, 0]].concat()).collect();
     [HEADER, &section(2, &[&count[..], &imports].concat()), &section(7, &[&count[..], &exports].concat())].concat()
+}
+
+/// A build whose names of the rows all have one print, the length and eight bytes at each end: every fifth import is a memory. Then
+/// fields of one source, of different domains, and an export of each of these kinds.
+fn alike(imports: &[usize], exports: &[usize], fields: &[&str], kinds: &[u8]) -> Vec<u8> {
+    let name = |i: usize| counted(format!("01234567{i:04}89abcdef").as_bytes());
+    let import = |i: usize| [name(i), counted(b"f"), if i % 5 == 4 { vec![2, 0, 1] } else { vec![0, 0] }].concat();
+    let field = |f: &str| [counted(b"wasi_snapshot_preview1"), counted(f.as_bytes()), vec![0, 0]].concat();
+    let mut two = plain(imports.len() + fields.len());
+    two.extend(imports.iter().flat_map(|i| import(*i)).chain(fields.iter().flat_map(|f| field(f))));
+    let mut seven = plain(exports.len() + kinds.len());
+    seven.extend(exports.iter().flat_map(|i| [name(*i), vec![(i % 4) as u8, 0]].concat()));
+    seven.extend(kinds.iter().flat_map(|k| [counted(b"same"), vec![*k, 0]].concat()));
+    [HEADER, &section(2, &two), &section(7, &seven)].concat()
+}
+
+/// Builds that use up the comparison's budget, so that ranks decide: of both lists, of one, and of none of them.
+fn ranked(court: &mut Court) {
+    let mut hear = |one: Vec<u8>, other: Vec<u8>| {
+        say(court, Call::Compare, &[4096, 6144, 1 << 20], &[&one, &other]);
+        say(court, Call::CCompare, &[1 << 20], &[&other, &one]);
+    };
+    let (early, late) = (["clock_time_get", "random_get", "fd_write"], ["random_get", "sock_recv"]);
+    for n in [1, 2, 12, 32, 33, 40, 300] {
+        let rows: Vec<usize> = (0..2 * n).collect();
+        let turned: Vec<usize> = rows[..n].iter().rev().copied().collect();
+        let twice: Vec<usize> = rows[..n].iter().map(|i| i / 2).collect();
+        let sides: [&[usize]; 5] = [&turned, &rows[n..], &rows[n / 2..n / 2 + n], &twice, &rows[..n - 1]];
+        for other in sides {
+            hear(alike(&rows[..n], &rows[..n], &early, &[0, 1]), alike(other, other, &late, &[1, 2]));
+            hear(alike(&[], &rows[..n], &early, &[]), alike(&[], other, &late, &[3]));
+            hear(alike(&rows[..n], &[], &[], &[0, 0]), alike(other, &[], &early, &[0]));
+        }
+    }
 }
 
 /// Two builds of so many rows, no two alike: they share none, or all but the last.
