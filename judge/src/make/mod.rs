@@ -20,12 +20,12 @@ use crate::Court;
 pub use modules::{hear, reserving};
 
 pub fn fixed(court: &mut Court) {
+    asked::fixed(court);
     numbers::fixed(court);
     bad::fixed(court);
     policies::fixed(court);
     manifests::fixed(court);
     modules::fixed(court);
-    asked::fixed(court);
     places::fixed(court);
     strict::fixed(court);
     tables::fixed(court);
