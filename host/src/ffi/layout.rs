@@ -27,10 +27,10 @@ pub mod stack {
     pub const TOKENS: usize = 4096;
     pub const REWRITE: usize = 4096;
     pub const CHECK: usize = 253952;
-    pub const STRICT: usize = 393216;
+    pub const STRICT: usize = 319488;
     pub const MODULE: usize = 245760;
     pub const MANIFEST: usize = 77824;
-    pub const COMPARE: usize = 827392;
+    pub const COMPARE: usize = 512000;
 }
 
 as_in_c! {
