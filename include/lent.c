@@ -42,8 +42,8 @@ static int cells_are(const uint64_t *cells, size_t n) {
 }
 
 /* ---- a module with one import */
-static const uint8_t file[] = {0x00, 0x61, 0x73, 0x6d, 1, 0, 0, 0, 2, 7, 1, 1, 'm', 1, 'f', 0, 0};
-static const uint64_t file_cells[] = {2, 10, 7, 0, 0, 12, 1, 14, 1, 0};
+static const uint8_t file[] = {0x00, 0x61, 0x73, 0x6d, 1, 0, 0, 0, 2, 7, 1, 1, 'm', 1, 'f', 0, 5};
+static const uint64_t file_cells[] = {2, 10, 7, 0, 0, 12, 1, 14, 1, 0, 5, 0, 0, 0, 0, 0, 1};
 
 static void modules(void) {
     size_t needed = sizeof file_cells;
@@ -71,6 +71,21 @@ static void modules(void) {
         else
             expect(r.number != 0 && r.bytes == 0 && untouched_past(0), "module: a file that is cut is refused, untouched");
     }
+}
+
+/* ---- what imports ask for: a function, a table and a memory with and without a most, a global */
+static const uint8_t asking[] = {0x00, 0x61, 0x73, 0x6d, 1, 0, 0, 0, 2, 36, 6, 0, 0, 0, 9, 0, 0, 1, 0x70, 2, 3, 0, 0, 1, 0x6f, 1, 4, 5,
+                                 0, 0, 2, 0, 6, 0, 0, 2, 3, 0x80, 0x80, 4, 0, 0, 0, 3, 0x7e, 1};
+static const uint64_t asked[6][7] = {{9, 0, 0, 0, 0, 0, 1},  {0, 0x70, 2, 3, 0, 0, 14}, {0, 0x6f, 1, 4, 5, 0, 30},
+                                     {0, 0, 0, 6, 0, 0, 12}, {0, 0, 3, 65536, 0, 0, 28}, {0, 0x7e, 0, 0, 0, 1, 34}};
+
+static void imports(void) {
+    lend();
+    struct viscrombal_module_read r = viscrombal_module(asking, sizeof asking, out, MOST);
+    expect(r.number == 0 && r.imports == 6 && r.bytes == 8 * (5 + 12 * 6) && untouched_past(r.bytes), "imports: twelve cells each");
+    for (size_t i = 0; i < 6; i++)
+        for (size_t k = 0; k < 7; k++)
+            expect(cell(5 + 12 * i + 5 + k) == asked[i][k], "imports: what each asks for");
 }
 
 /* ---- a manifest with a world of two references */
@@ -177,6 +192,7 @@ static void tokens(void) {
 
 int main(void) {
     modules();
+    imports();
     manifests();
     comparisons();
     policies();

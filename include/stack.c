@@ -166,6 +166,8 @@ static void make_modules(void) {
     full("full tables, others", "two", 0);
     full("full tables, a source each", "one", 1);
     full("full tables, other sources", "two", 1);
+    full("full tables, one print", "one of one print", 1);
+    full("full tables, others of that print", "two of one print", 1);
     full("full tables, a fault in the last name", "one", 0);
     modules[module_count - 1].at[modules[module_count - 1].len - 1] = 0xff;
     imports(module("few imports"), 5, "m");

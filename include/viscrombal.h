@@ -156,8 +156,8 @@ struct viscrombal_comparison {
     size_t bytes;
 };
 
-/* The number of this interface: a change of a struct, of a number or of a place raises it. */
-#define VISCROMBAL_INTERFACE 3
+/* The number of this interface: a change of a struct, of a list, of a number or of a place raises it. */
+#define VISCROMBAL_INTERFACE 4
 uint32_t viscrombal_interface(void);
 
 /* The stack that a call needs, with its caller's frame: no file needs more. Calls keep their tables there, so that how deep one goes
@@ -165,18 +165,17 @@ uint32_t viscrombal_interface(void);
  * guard page, by a signal, and overwrites nothing: large frames are touched page by page. Each number is the deepest chain of frames of the
  * proved archive, which the worst files are measured to reach, with 512 bytes for the caller, rounded up to pages of 4,096 bytes
  * (include/stack). memcpy and memset of the C library are called besides: a program that binds them at their first call, and not when it
- * starts (-z now), needs what that takes, some KB, on top. NUMBER is for the interface's number, numbers and names. Wider rows of imports,
- * 12 cells for 5, would add 57,344 to CHECK, STRICT and MODULE, 114,688 to COMPARE, and nothing to the others. */
+ * starts (-z now), needs what that takes, some KB, on top. NUMBER is for the interface's number, numbers and names. */
 #define VISCROMBAL_STACK_NUMBER 4096
 #define VISCROMBAL_STACK_POLICY 4096
 #define VISCROMBAL_STACK_TOKEN 4096
 #define VISCROMBAL_STACK_TOKENS 4096
 #define VISCROMBAL_STACK_REWRITE 4096
-#define VISCROMBAL_STACK_CHECK 196608
-#define VISCROMBAL_STACK_STRICT 335872
-#define VISCROMBAL_STACK_MODULE 188416
+#define VISCROMBAL_STACK_CHECK 253952
+#define VISCROMBAL_STACK_STRICT 319488
+#define VISCROMBAL_STACK_MODULE 245760
 #define VISCROMBAL_STACK_MANIFEST 77824
-#define VISCROMBAL_STACK_COMPARE 712704
+#define VISCROMBAL_STACK_COMPARE 512000
 
 /* Reads at offset `at` of the bytes s[0] to s[len - 1]. */
 struct viscrombal_unsigned viscrombal_uleb128(const uint8_t *s, size_t len, size_t at);
@@ -206,9 +205,13 @@ struct viscrombal_answer viscrombal_strict(const uint8_t *file, size_t len);
  * list after another, `bytes` in all. Refused, `out` is untouched (16: its place is the bytes needed); accepted, nothing past the lists.
  * The tables behind it are at their limits, so that 13 means more than the limits of docs/RULES.md. */
 
-/* A module's file. Rows of tables 1 to 4: 5 cells a section (id, offset, size, name's offset and length), 5 an import (module name's
- * offset and length, field name's, kind), 4 an export (name's offset and length, kind, index), 3 a function name (index, name's offset
- * and length). */
+/* A module's file. Rows of tables 1 to 4: 5 cells a section (id, offset, size, name's offset and length), 12 an import, 4 an export
+ * (name's offset and length, kind, index), 3 a function name (index, name's offset and length).
+ * The cells of an import: 0 and 1 module name's offset and length, 2 and 3 field name's, 4 kind (0 func, 1 table, 2 memory, 3 global); then
+ * what it asks for: 5 type index of a func; 6 type byte, a table's element type or a global's value type; 7 flag, 8 least and 9 most, the
+ * limits of a table (entries) or a memory (pages of 65,536 bytes); 10 mutability of a global; 11 given. Bit c - 5 of given is set where the
+ * number in cell c is there: given is 1 of a func, 34 of a global, 14 of a table and 12 of a memory, and of these two 16 more where bit 0 of
+ * the flag is set, for then there is a most. A number that is not there is 0, and one that is there may be. The flag is as the file has it. */
 struct viscrombal_module_read viscrombal_module(const uint8_t *file, size_t len, uint8_t *out, size_t room);
 
 /* A manifest's text. Rows of tables 5 and 6: 2 cells a world (name's offset and length), 7 a reference (world, 0 import or 1 export,

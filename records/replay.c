@@ -11,11 +11,11 @@
 #include <string.h>
 
 /* ---- what a record gives to a call, what it wants of it, and what the call left, all laid out alike */
-enum { TABLES = 18, SLACK = 96, CELLS = 52608 + 13 * SLACK, VALUES = 16, POLICY = 25, OUTPUT = 8000, MOST_BYTES = 140000 };
+enum { TABLES = 18, SLACK = 96, CELLS = 66944 + 13 * SLACK, VALUES = 16, POLICY = 25, OUTPUT = 8000, MOST_BYTES = 140000 };
 enum { LENT_CELL = 7, LENT_BYTE = 0xaa };
 
 /* The cells of a table at its limit: so many it is lent with where a record does not say, and at most SLACK more. */
-static const size_t limits[TABLES] = {0, 1280, 5120, 4096, 12288, 128, 7168, 1024, 4096, 6144, 0, 0, 5120, 4096, 0, 1024, 0, 1024};
+static const size_t limits[TABLES] = {0, 1280, 12288, 4096, 12288, 128, 7168, 1024, 4096, 6144, 0, 0, 12288, 4096, 0, 1024, 0, 1024};
 
 struct said {
     size_t refused[3];                   /* of an answer, its refusal's number and place, and the offset beside 5 of a module */

@@ -2,7 +2,7 @@
 
 use std::fmt;
 
-use crate::error::Result;
+use crate::error::{Refusal, Result};
 use crate::ffi;
 use crate::rows::{name, number, with_room, Cells};
 
@@ -10,7 +10,10 @@ use crate::rows::{name, number, with_room, Cells};
 pub const WASM_MAGIC: [u8; 4] = *b"\0asm";
 
 /// The bytes of all four tables at their limits.
-const ROOM: usize = 8 * (256 * 5 + 1024 * 5 + 1024 * 4 + 4096 * 3);
+const ROOM: usize = 8 * (256 * 5 + 1024 * 12 + 1024 * 4 + 4096 * 3);
+
+/// The bytes of a page of memory.
+const PAGE: u64 = 65_536;
 
 /// The kind of an import or export.
 #[derive(Debug, Clone, Copy, PartialEq, Eq, Hash)]
@@ -86,6 +89,40 @@ pub struct SectionInfo<'a> {
     pub size: usize,
 }
 
+/// The limits of a table, in entries, or of a memory, in pages of 65,536 bytes, as the file states them: a most may be below the least.
+#[derive(Debug, Clone, Copy, PartialEq, Eq)]
+#[non_exhaustive]
+pub struct Limits {
+    /// The flag byte as it is. Where its bit 0 is set there is a most.
+    pub flag: u8,
+    /// How many there must be.
+    pub least: u32,
+    /// How many there may be, where that is stated. 0 is not none.
+    pub most: Option<u32>,
+}
+
+impl Limits {
+    /// Of a memory, the bytes that it must have.
+    pub fn least_bytes(&self) -> u64 {
+        u64::from(self.least) * PAGE
+    }
+
+    /// Of a memory, the bytes that it may have, where that is stated.
+    pub fn most_bytes(&self) -> Option<u64> {
+        self.most.map(|most| u64::from(most) * PAGE)
+    }
+}
+
+/// What an import asks for: its descriptor. Type bytes and mutability are as the file has them; they are not validated.
+#[derive(Debug, Clone, Copy, PartialEq, Eq)]
+#[allow(missing_docs)]
+pub enum Desc {
+    Func { type_index: u32 },
+    Table { element: u8, limits: Limits },
+    Memory { limits: Limits },
+    Global { value: u8, mutability: u8 },
+}
+
 /// An import.
 #[derive(Debug, Clone, Copy, PartialEq, Eq)]
 #[non_exhaustive]
@@ -94,6 +131,27 @@ pub struct Import<'a> {
     pub module: &'a str,
     pub field: &'a str,
     pub kind: ExternalKind,
+    desc: Desc,
+}
+
+impl Import<'_> {
+    /// What it asks for.
+    pub fn desc(&self) -> Desc {
+        self.desc
+    }
+}
+
+/// The numbers of a row that are there go by the kind and the flag's bit 0, and `given` has a bit for each of them.
+fn desc(kind: usize, [index, type_byte, flag, least, most, mutability, given]: [usize; 7]) -> Result<Desc> {
+    let bounded = given & 16 != 0;
+    let limits = || Ok(Limits { flag: number(flag)?, least: number(least)?, most: bounded.then(|| number(most)).transpose()? });
+    match (kind, given) {
+        (0, 1) => Ok(Desc::Func { type_index: number(index)? }),
+        (1, 14 | 30) => Ok(Desc::Table { element: number(type_byte)?, limits: limits()? }),
+        (2, 12 | 28) => Ok(Desc::Memory { limits: limits()? }),
+        (3, 34) => Ok(Desc::Global { value: number(type_byte)?, mutability: number(mutability)? }),
+        _ => Err(Refusal::STRANGE),
+    }
 }
 
 /// An export.
@@ -126,9 +184,9 @@ pub fn parse(file: &[u8]) -> Result<Module<'_>> {
         let id = number(id)?;
         Ok(SectionInfo { id, name: section_name(id), custom_name: name(file, from, len)?, offset, size })
     })?;
-    let imports = cells.rows(told.imports, |[module, module_len, field, field_len, kind]| {
-        let kind = ExternalKind::from_byte(number(kind)?);
-        Ok(Import { module: name(file, module, module_len)?, field: name(file, field, field_len)?, kind })
+    let imports = cells.rows(told.imports, |[module, module_len, field, field_len, kind, asked @ ..]: [usize; 12]| {
+        let (desc, kind) = (desc(kind, asked)?, ExternalKind::from_byte(number(kind)?));
+        Ok(Import { module: name(file, module, module_len)?, field: name(file, field, field_len)?, kind, desc })
     })?;
     let exports = cells.rows(told.exports, |[from, len, kind, index]| {
         let kind = ExternalKind::from_byte(number(kind)?);
@@ -209,11 +267,44 @@ impl<'a> Module<'a> {
         self.imports.iter().filter(|import| import.kind == ExternalKind::Memory).count()
     }
 
+    /// The limits of each memory that is imported: what a sandbox must hold for the module.
+    pub fn imported_memory_limits(&self) -> Vec<Limits> {
+        let limits = |import: &Import| match import.desc {
+            Desc::Memory { limits } => Some(limits),
+            _ => None,
+        };
+        self.imports.iter().filter_map(limits).collect()
+    }
+
     /// The module names of all imports, by bytes, each once.
     pub fn import_namespaces(&self) -> Vec<&'a str> {
         let mut names: Vec<_> = self.imports.iter().map(|import| import.module).collect();
         names.sort_unstable();
         names.dedup();
         names
+    }
+}
+
+#[cfg(test)]
+mod tests {
+    use super::*;
+
+    /// What the archive cannot answer is told, and not taken for a descriptor.
+    #[test]
+    fn a_strange_descriptor() {
+        for (kind, given) in (0..6).flat_map(|kind| (0..70).map(move |given| (kind, given))) {
+            let fits = matches!((kind, given), (0, 1) | (1, 14 | 30) | (2, 12 | 28) | (3, 34));
+            assert_eq!(desc(kind, [0, 0, 0, 0, 0, 0, given]).is_ok(), fits, "kind {kind}, given {given}");
+        }
+        for (kind, cells) in [
+            (0, [1 << 32, 0, 0, 0, 0, 0, 1]),
+            (1, [0, 256, 0, 0, 0, 0, 14]),
+            (2, [0, 0, 256, 0, 0, 0, 12]),
+            (2, [0, 0, 0, 1 << 32, 0, 0, 12]),
+            (2, [0, 0, 1, 0, 1 << 32, 0, 28]),
+            (3, [0, 0, 0, 0, 0, 256, 34]),
+        ] {
+            assert_eq!(desc(kind, cells), Err(Refusal::STRANGE), "kind {kind}, {cells:?}");
+        }
     }
 }

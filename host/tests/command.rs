@@ -167,7 +167,7 @@ fn a_table_of_all_samples() {
     let ran = check(&files, &of_sample("portal.policy"), &[]);
     assert_eq!((ran.status, ran.err.as_str()), (1, ""), "no progress where there is no terminal");
     assert!(ran.out.starts_with("policy portal (") && is_plain(&ran.out));
-    assert!(ran.out.ends_with("\n9 files: 5 compliant, 4 not compliant, 0 refused, 0 not readable\n"), "{}", ran.out);
+    assert!(ran.out.ends_with("\n10 files: 5 compliant, 5 not compliant, 0 refused, 0 not readable\n"), "{}", ran.out);
     assert!(ran.out.contains("feed.wasm: network is not allowed: imports sock_open from wasi_snapshot_preview1\n"));
 }
 
@@ -176,7 +176,7 @@ fn an_object_for_each_sample() {
     let files: Vec<_> = samples(".wasm").iter().map(|(name, _)| of_sample(name)).collect();
     let ran = check(&files, &of_sample("portal.policy"), &["--json"]);
     let lines = objects(&ran.out);
-    assert_eq!((ran.status, lines.len()), (1, 9));
+    assert_eq!((ran.status, lines.len()), (1, 10));
     for (line, file) in lines.iter().zip(&files) {
         assert!(line.starts_with(&format!("{{\"file\":\"{}\",", file.to_str().unwrap())), "in the order of the words");
     }
@@ -191,7 +191,7 @@ fn a_strict_check() {
     let files: Vec<_> = samples(".wasm").iter().map(|(name, _)| of_sample(name)).collect();
     let ran = check(&files, &of_sample("portal.policy"), &["--strict"]);
     assert_eq!((ran.status, ran.err.as_str()), (2, ""));
-    assert!(ran.out.ends_with("\n9 files, read strictly: 4 compliant, 4 not compliant, 1 refused, 0 not readable\n"), "{}", ran.out);
+    assert!(ran.out.ends_with("\n10 files, read strictly: 4 compliant, 5 not compliant, 1 refused, 0 not readable\n"), "{}", ran.out);
     let told = ran.out.lines().find(|line| line.contains("/gauge-1.wasm ")).unwrap();
     assert!(told.ends_with("  refused 20 at 4: not strict (rule 4: a section twice, or out of order)"), "{told}");
     let ran = check(&files, &of_sample("portal.policy"), &["--strict", "--json"]);
@@ -280,6 +280,87 @@ fn bytes_are_located() {
     assert!(!check(&[file.clone()], &policy, &[]).out.contains("import 1 of 1"));
     let ran = compare(&file, &file, &["--explain"]);
     assert!(ran.status == 2 && ran.out.ends_with(&format!("kind.wasm: {words}\n")), "{}", ran.out);
+}
+
+fn imports(files: &[OsString], options: &[&str]) -> Ran {
+    run(command().current_dir(folder()).arg("imports").args(files).args(options))
+}
+
+#[test]
+fn what_imports_ask_for() {
+    let ran = imports(&["legend.wasm".into(), "relief.wasm".into()], &[]);
+    let want = "\
+file         module  field                      kind    asks for
+legend.wasm  env     memory                     memory  2 or more pages, 131,072 or more bytes
+legend.wasm  portal  draw_label                 func    type 0
+relief.wasm  env     memory                     memory  10 to 16 pages, 655,360 to 1,048,576 bytes
+relief.wasm  env     __indirect_function_table  table   1 or more entries of funcref
+relief.wasm  portal  pen                        func    type 1
+
+a sandbox must hold  memories  bytes                 tables  entries
+legend.wasm          1         131,072 or more       -       -
+relief.wasm          1         655,360 to 1,048,576  1       1 or more
+in all               2         786,432 or more       1       1 or more
+
+2 files: 2 read, 0 refused, 0 not readable
+";
+    assert_eq!((ran.status, ran.out.as_str(), ran.err.as_str()), (0, want, ""));
+    let ran = imports(&["relief.wasm".into(), "legend.wasm".into()], &["--json"]);
+    let lines = objects(&ran.out);
+    let memory =
+        r#"{"module":"env","field":"memory","kind":"memory","flag":1,"least":10,"most":16,"least_bytes":655360,"most_bytes":1048576}"#;
+    let table = r#"{"module":"env","field":"__indirect_function_table","kind":"table","element":112,"flag":0,"least":1}"#;
+    let func = r#"{"module":"portal","field":"pen","kind":"func","type_index":1}"#;
+    let sums = r#""memories":1,"least_bytes":655360,"most_bytes":1048576,"tables":1,"least_entries":1,"strict":false"#;
+    let want = format!(r#"{{"file":"relief.wasm","answer":"read","imports":[{memory},{table},{func}],{sums}}}"#);
+    assert_eq!((ran.status, lines.len(), lines[0]), (0, 3, want.as_str()));
+    let all = r#"{"answer":"in all","files":2,"memories":2,"least_bytes":786432,"tables":1,"least_entries":1}"#;
+    assert_eq!(lines[2], all, "no most in all, since one has none");
+}
+
+/// One import of each kind and odd numbers; what it comes to; and files that have none, or are not read.
+#[test]
+fn what_odd_imports_ask_for() {
+    let place = place("imports");
+    let words = "H 02 36 08 00 00 00 07 00 00 01 70 01 02 02 00 00 01 05 03 00 00 00 00 02 01 01 01 00 00 02 07 00 80 02 \
+                 00 00 03 7e 00 00 00 03 7b 01 00 00 03 40 02";
+    let file = bytes(words);
+    let file = [&file[..9], &[file.len() as u8 - 10], &file[10..]].concat();
+    let odd = write(&place, "odd.wasm", &file);
+    let ran = imports(&[odd], &[]);
+    let asks: Vec<_> = ran.out.lines().skip(1).take(8).map(|line| line.rsplit_once("\"\"").unwrap().1.trim_start()).collect();
+    let want = [
+        "func    type 7",
+        "table   2 entries of funcref",
+        "table   0 entries of type 0x05, flag 0x03",
+        "memory  1 page, 65,536 bytes",
+        "memory  0 to 256 pages, 0 to 16,777,216 bytes, flag 0x07",
+        "global  i64, constant",
+        "global  v128, mutable",
+        "global  type 0x40, mutability 0x02",
+    ];
+    assert_eq!(asks, want, "{}", ran.out);
+    assert!(ran.status == 0 && ran.out.contains(" 2         65,536 to 16,842,752  2       2\n"), "{}", ran.out);
+    let files = [of_sample("README.md"), write(&place, "none.wasm", &bytes("H")), place.join("no.wasm").into()];
+    let ran = imports(&files, &["--explain"]);
+    assert!(ran.status == 2 && ran.out.ends_with("\n3 files: 1 read, 1 refused, 1 not readable\n"), "{}", ran.out);
+    assert!(ran.out.contains("none.wasm") && ran.out.contains(" nothing\n") && ran.out.contains("byte 0x23: the magic"), "{}", ran.out);
+    let ran = imports(&files, &["--json"]);
+    let lines = objects(&ran.out);
+    assert_eq!((ran.status, lines.len()), (2, 4));
+    assert!(lines[0].contains(r#""answer":"refused","number":2,"#) && lines[2].contains(r#""answer":"cannot be read","os_error":2"#));
+    assert!(lines[1].contains(r#""imports":[],"memories":0,"least_bytes":0,"most_bytes":0,"tables":0,"least_entries":0,"most_entries":0"#));
+    assert!(lines[3].starts_with(r#"{"answer":"in all","files":3,"memories":0,"least_bytes":0,"most_bytes":0,"#), "{}", lines[3]);
+    // strictly, and every module below a folder
+    let ran = imports(&["gauge-1.wasm".into()], &["--strict"]);
+    assert!(ran.status == 2 && ran.out.contains("refused 20 at 4: "), "{}", ran.out);
+    let ran = imports(&[place.clone().into()], &["--recursive"]);
+    assert!(ran.status == 0 && ran.out.ends_with("\n2 files: 2 read, 0 refused, 0 not readable\n"), "{}", ran.out);
+    let evil = write(&place, "evil.wasm", &module(&[("x\nin all\r\u{1b}[2K\u{202e}", "\u{5d0}")], &[("", 0); 0], &[""; 0]));
+    for options in [&[][..], &["--json"]] {
+        let ran = imports(&[evil.clone()], options);
+        assert!(ran.status == 0 && is_plain(&ran.out) && !ran.out.contains(['\u{202e}', '\u{5d0}']), "{}", ran.out);
+    }
 }
 
 /// Every sample, and copies of each that are cut or changed: an answer with a number, or a verdict.

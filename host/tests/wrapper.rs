@@ -10,7 +10,7 @@ use std::thread;
 use common::{bomb, bytes, damaged, every, full, long, module, sample, samples, section, HEADER};
 use viscrombal::compat::{compare_modules, Change};
 use viscrombal::policy::{capabilities, Domain, Policy};
-use viscrombal::wasm::{self, ExternalKind, Module};
+use viscrombal::wasm::{self, Desc, ExternalKind, Module};
 use viscrombal::{check, wit, ErrorKind, Refusal, StrictRule, LONGEST_MODULE, LONGEST_TEXT};
 
 const NONE: [(&str, &str); 0] = [];
@@ -62,6 +62,56 @@ fn names_are_parts_of_the_file() {
     }
 }
 
+/// Limits as numbers: the flag, the least and the most.
+fn limits_of(desc: Desc) -> (u8, u32, Option<u32>) {
+    match desc {
+        Desc::Table { limits, .. } | Desc::Memory { limits } => (limits.flag, limits.least, limits.most),
+        _ => panic!("{desc:?} has no limits"),
+    }
+}
+
+/// The worked cases of what an import asks for, and a few more.
+#[test]
+fn what_an_import_asks_for() {
+    let one = |words: &str| wasm::parse(&bytes(&format!("H {words}"))).unwrap().imports()[0].desc();
+    assert_eq!(one("02 07 01 01 6d 01 66 00 05"), Desc::Func { type_index: 5 });
+    assert_eq!(one("02 07 01 01 6d 01 66 00 00"), Desc::Func { type_index: 0 });
+    assert_eq!(one("02 0b 01 01 6d 01 66 00 ff ff ff ff 0f"), Desc::Func { type_index: u32::MAX });
+    assert_eq!(limits_of(one("02 09 01 01 6d 01 66 02 01 01 02")), (1, 1, Some(2)));
+    assert_eq!(limits_of(one("02 09 01 01 6d 01 66 02 01 01 00")), (1, 1, Some(0)), "a most of 0 is not none");
+    assert_eq!(limits_of(one("02 08 01 01 6d 01 66 02 02 01")), (2, 1, None), "the flag is as it is");
+    assert_eq!(limits_of(one("02 08 01 01 6d 01 66 02 00 01")), (0, 1, None));
+    assert!(matches!(one("02 0a 01 01 6d 01 66 01 6f 01 03 04"), Desc::Table { element: 0x6f, .. }));
+    assert_eq!(limits_of(one("02 0a 01 01 6d 01 66 01 6f 01 03 04")), (1, 3, Some(4)));
+    assert_eq!(limits_of(one("02 09 01 01 6d 01 66 01 70 00 03")), (0, 3, None));
+    assert_eq!(one("02 08 01 01 6d 01 66 03 7f 00"), Desc::Global { value: 0x7f, mutability: 0 });
+    assert_eq!(one("02 08 01 01 6d 01 66 03 00 ff"), Desc::Global { value: 0, mutability: 0xff });
+}
+
+#[test]
+fn memories_that_are_imported() {
+    // a memory without a most, a function, one of 4 GiB, a table, and the largest that can be stated
+    let file = bytes(
+        "H 02 34 05 00 01 61 02 00 03 00 00 00 01 00 01 62 02 01 80 80 04 80 80 04 00 00 01 70 01 01 07 \
+         00 01 63 02 03 ff ff ff ff 0f ff ff ff ff 0f",
+    );
+    let file = [&file[..9], &[file.len() as u8 - 10], &file[10..]].concat();
+    let module = wasm::parse(&file).unwrap();
+    let limits = module.imported_memory_limits();
+    assert_eq!((limits.len(), module.imported_memories(), module.imported_functions()), (3, 3, 1));
+    let pages = limits.iter().map(|l| (l.flag, l.least, l.most)).collect::<Vec<_>>();
+    assert_eq!(pages, [(0, 3, None), (1, 65_536, Some(65_536)), (3, u32::MAX, Some(u32::MAX))]);
+    let bytes = limits.iter().map(|l| (l.least_bytes(), l.most_bytes())).collect::<Vec<_>>();
+    let most = 281_474_976_645_120;
+    assert_eq!(bytes, [(196_608, None), (4_294_967_296, Some(4_294_967_296)), (most, Some(most))]);
+    assert!(wasm::parse(HEADER).unwrap().imported_memory_limits().is_empty());
+    let relief = sample("relief.wasm");
+    let relief = wasm::parse(&relief).unwrap();
+    let bytes = relief.imported_memory_limits().iter().map(|l| (l.least_bytes(), l.most_bytes())).collect::<Vec<_>>();
+    assert_eq!(bytes, [(655_360, Some(1_048_576))]);
+    assert_eq!(limits_of(relief.imports()[1].desc()), (0, 1, None));
+}
+
 #[test]
 fn refusals_of_modules() {
     let with = |id, payload: &[u8]| [HEADER.to_vec(), section(id, payload.to_vec())].concat();
@@ -109,7 +159,7 @@ fn verdicts_on_the_samples() {
     let policy = Policy::parse(&text).unwrap();
     let violations: Vec<_> =
         samples(".wasm").iter().map(|(name, file)| (name.clone(), check(file, &policy).unwrap().violations())).collect();
-    let want: [(&str, &[Domain]); 9] = [
+    let want: [(&str, &[Domain]); 10] = [
         ("contours-1.wasm", &[]),
         ("contours-2.wasm", &[Domain::Network]),
         ("contours-3.wasm", &[]),
@@ -117,6 +167,7 @@ fn verdicts_on_the_samples() {
         ("gauge-1.wasm", &[]),
         ("gauge-2.wasm", &[Domain::Network]),
         ("legend.wasm", &[Domain::Unknown]),
+        ("relief.wasm", &[Domain::Unknown]),
         ("soundings.wasm", &[]),
         ("tide.wasm", &[]),
     ];
@@ -164,6 +215,7 @@ fn damaged_copies_are_read_or_refused() {
                 }
                 (Ok(module), Ok(_)) => {
                     read += 1;
+                    assert!(module.imports().iter().all(|import| kind_of(import.desc()) == import.kind), "{name}");
                     both_ways(&whole, &module);
                     rules.extend(read_strictly(&module).map(StrictRule::number));
                 }
@@ -174,6 +226,15 @@ fn damaged_copies_are_read_or_refused() {
     let kinds = if every() == 1 { 5 } else { 4 };
     assert!(read > 1000 / every() && numbers.len() >= kinds, "{read} read, refused by {numbers:?}");
     assert!(rules.len() >= kinds, "refused by the rules {rules:?}");
+}
+
+fn kind_of(desc: Desc) -> ExternalKind {
+    match desc {
+        Desc::Func { .. } => ExternalKind::Func,
+        Desc::Table { .. } => ExternalKind::Table,
+        Desc::Memory { .. } => ExternalKind::Memory,
+        Desc::Global { .. } => ExternalKind::Global,
+    }
 }
 
 /// A strict read of a module that was read plainly: the rule that it breaks, or the very same module.
@@ -507,7 +568,7 @@ fn refusals_have_words() {
     for tell in [ErrorKind::words, ErrorKind::slug] {
         assert_eq!(ErrorKind::ALL.iter().map(|kind| tell(*kind)).collect::<HashSet<_>>().len(), 19);
     }
-    assert_eq!((viscrombal::interface(), viscrombal::INTERFACE), (Ok(()), 3));
+    assert_eq!((viscrombal::interface(), viscrombal::INTERFACE), (Ok(()), 4));
     assert_eq!(StrictRule::ALL.map(StrictRule::number), [1, 2, 3, 4, 5, 6, 7, 8]);
     assert_eq!(StrictRule::ALL.map(StrictRule::words).into_iter().collect::<HashSet<_>>().len(), 8);
     let said = |file: &[u8]| wasm::parse(file).unwrap_err().to_string();

@@ -11,7 +11,8 @@
 #include <stdlib.h>
 #include <string.h>
 
-enum { MARK = 0xa5, MOST_NUMBERS = 1 << 15, MOST_STRINGS = 2, MOST_BYTES = 16777216 + 64 };
+/* IMPORT: the cells of a row of table 2 */
+enum { IMPORT = 12, MARK = 0xa5, MOST_NUMBERS = 1 << 16, MOST_STRINGS = 2, MOST_BYTES = 16777216 + 64 };
 
 static uint64_t number[MOST_NUMBERS];
 static uint8_t *string[MOST_STRINGS];
@@ -78,7 +79,7 @@ static void read_by(read_call *call) {
     tell(r.number), tell(r.place), tell(r.version), tell(r.length), tell(r.named), tell(r.start), tell(r.size);
     tell(r.sections), tell(r.imports), tell(r.exports), tell(r.symbols), tell(r.offset);
     tell_table(a, number[0], r.sections * 5);
-    tell_table(b, number[1], r.imports * 5);
+    tell_table(b, number[1], r.imports * IMPORT);
     tell_table(c, number[2], r.exports * 4);
     tell_table(d, number[3], r.symbols * 3);
 }
@@ -300,7 +301,7 @@ static void compared(struct given b, struct given c, size_t room8, size_t room9,
     for (size_t i = 0; i < r.capabilities && i < room9 / 3; i++) {
         size_t change = cd[3 * i], row = cd[3 * i + 2];
         struct given g = change ? c : b;
-        tell(change), tell(row), tell_range(g.imports, g.cells2, 5, row), tell(cd[3 * i + 1]);
+        tell(change), tell(row), tell_range(g.imports, g.cells2, IMPORT, row), tell(cd[3 * i + 1]);
         tell_name(source_byte, b, c, change, row);
     }
     free(xd), free(cd);
@@ -308,15 +309,16 @@ static void compared(struct given b, struct given c, size_t room8, size_t room9,
 
 /* numbers: the cells of tables 8 and 9, the room for reasons. Both modules are read into tables at their limits first. */
 static void compare(void) {
-    static size_t sections[1280], names[12288], imports[2][5120], exports[2][4096];
+    static size_t sections[1280], names[12288], imports[2][1024 * IMPORT], exports[2][4096];
     struct given g[2];
     for (int i = 0; i < 2; i++) {
-        struct judged_module_told m = judged_module(string[i], length[i], sections, 1280, imports[i], 5120, exports[i], 4096, names, 12288);
+        struct judged_module_told m = judged_module(string[i], length[i], sections, 1280, imports[i], 1024 * IMPORT, exports[i], 4096,
+                                                    names, 12288);
         if (m.number != 0) {
             tell(m.number), tell(m.place), tell(m.offset);
             return;
         }
-        g[i] = (struct given){string[i], length[i], m.imports, m.exports, 5120, 4096, imports[i], exports[i]};
+        g[i] = (struct given){string[i], length[i], m.imports, m.exports, 1024 * IMPORT, 4096, imports[i], exports[i]};
     }
     compared(g[0], g[1], number[0], number[1], number[2]);
 }

@@ -1,4 +1,5 @@
 //! The lists of the C interface, 8-byte cells in a lent buffer: decoded, they say what the calls with lent tables say.
+use crate::asked::WIDTH;
 use crate::compare::{listed, text_of};
 use crate::limits::module_alone;
 use crate::says::{self, answered, answered_of, parse, part, refused, whole, zeros_to, DOMAINS, LONGEST_MODULE, MARK};
@@ -59,7 +60,7 @@ pub fn module(file: &[u8], room: u64) -> String {
         Ok(m) => m,
         Err(why) => return why + "; the rest untouched",
     };
-    let sizes = [5 * m.sections.len(), 5 * m.imports.len(), 4 * m.exports.len(), 3 * m.function_names.len()].map(|n| n as u64);
+    let sizes = [5 * m.sections.len(), WIDTH * m.imports.len(), 4 * m.exports.len(), 3 * m.function_names.len()].map(|n| n as u64);
     into(8 * sizes.iter().sum::<u64>() as usize, room, module_alone(file) + &zeros_to(&sizes))
 }
 
@@ -68,7 +69,7 @@ pub fn port_module(file: &[u8], t: &[u64], bytes: &[u8]) -> String {
         return untouched(answered_of(t, 13, |_| String::new()), 0, bytes);
     }
     let mut told = [&t[..11], &t[12..]].concat();
-    tables(bytes, &[5 * t[7], 5 * t[8], 4 * t[9], 3 * t[10]], &mut told);
+    tables(bytes, &[5 * t[7], WIDTH as u64 * t[8], 4 * t[9], 3 * t[10]], &mut told);
     untouched(format!("{}; bytes {}", says::port_module(file, &told), t[11]), t[11], bytes)
 }
 

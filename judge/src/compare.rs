@@ -1,5 +1,6 @@
 //! compat.rs: what the original says of two modules, and what the port's tables 8 and 9 say, in the same words. The original has no rows:
 //! docs/RULES.md says which a difference is, the next of those that are alike for an export, the lowest for a capability.
+use crate::asked::{bad, WIDTH};
 use crate::case::hex;
 use crate::limits::module_alone;
 use crate::says::{
@@ -38,13 +39,13 @@ impl Handed<'_> {
     /// 15 for table 2, then for table 3.
     fn tested(&self) -> Result<(), String> {
         let out = |r: &[u64], k: usize| !inside(self.file, r[k], r[k + 1]);
-        rows_tested(self.imports, 5, 1024, self.counts[0], |r| r[4] > 255 || out(r, 0) || out(r, 2))?;
+        rows_tested(self.imports, WIDTH, 1024, self.counts[0], |r| bad(r) || out(r, 0) || out(r, 2))?;
         rows_tested(self.exports, 4, 1024, self.counts[1], |r| r[2] > 255 || out(r, 0))
     }
 
     fn module(&self) -> Module {
         let text = |r: &[u64], k: usize| latin(self.file, r[k], r[k + 1]);
-        let imports = self.imports.chunks_exact(5).take(self.counts[0] as usize);
+        let imports = self.imports.chunks_exact(WIDTH).take(self.counts[0] as usize);
         let exports = self.exports.chunks_exact(4).take(self.counts[1] as usize);
         Module {
             imports: imports.map(|r| Import { module: text(r, 0), field: text(r, 2), kind: kind_of(r[4]) }).collect(),

@@ -6,14 +6,15 @@
 //! one entry more than there is room for: refused, that refusal comes first; accepted, the answer is 13. A shortened count is padded
 //! to as many bytes as it had, so that no offset moves. A count beyond the bytes that follow it is shortened too: an entry takes at
 //! least one byte, so both run out at the same place, and the original, which reserves memory for the count, would end its process.
+use crate::asked::WIDTH;
 use crate::says::{manifest_says, module_says, whole, zeros_to, LONGEST_MODULE};
 use original::leb::Reader;
 use original::wit;
 
 /// Cells to a row and most rows of tables 1 to 4.
-const TABLES: [(u64, u64); 4] = [(5, 256), (5, 1024), (4, 1024), (3, 4096)];
+const TABLES: [(u64, u64); 4] = [(5, 256), (WIDTH as u64, 1024), (4, 1024), (3, 4096)];
 /// Cells of tables 1 to 4 at their limits.
-pub const FULL: [u64; 4] = [5 * 256, 5 * 1024, 4 * 1024, 3 * 4096];
+pub const FULL: [u64; 4] = [5 * 256, WIDTH as u64 * 1024, 4 * 1024, 3 * 4096];
 
 pub fn module(file: &[u8], cells: [u64; 4]) -> String {
     module_within(file, cells) + &zeros_to(&cells)

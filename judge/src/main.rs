@@ -1,4 +1,5 @@
 //! The comparison of the port with the original: see docs/JUDGE.md.
+mod asked;
 mod bad;
 mod case;
 mod cells;

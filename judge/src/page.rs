@@ -1,6 +1,7 @@
 //! A page of docs/ whose tables have inputs: each is run by the original alone, in a process of its own, and by the port. What the page has
 //! in backquotes in the column of either must stand in what that side says.
 use crate::case::{Call, Case, CALLS};
+use crate::limits::FULL;
 use crate::{both_sides, the_port};
 
 const HEADER: &[u8] = b"\0asm\x01\0\0\0";
@@ -84,7 +85,7 @@ fn spans(cell: &str) -> Vec<&str> {
 fn usual(call: Call) -> &'static [u64] {
     match call {
         Call::Uleb128 | Call::Uleb128U32 | Call::Sleb128 | Call::Name => &[0],
-        Call::Module => &[1280, 5120, 4096, 12288],
+        Call::Module => &FULL,
         Call::Manifest => &[128, 7168],
         Call::Compare => &[4096, 6144, 4096],
         _ => &[],

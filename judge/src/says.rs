@@ -1,5 +1,6 @@
 //! What the original says of a case, and what the port's answer says, in the same words. Where the original has nothing to say (limits,
 //! lent memory, tables that are handed in), docs/RULES.md decides, and this file says what that is.
+use crate::asked::{self, Asked};
 use crate::bad::{in_module, which_bad};
 use crate::case::{hex, Answer, Call, Case};
 use crate::cells;
@@ -51,7 +52,7 @@ pub fn original_says(case: &Case) -> String {
         Call::Compare => compare::files(s(0), s(1), n),
         Call::Differences => compare::tables(s(0), s(1), n),
         Call::ExportName => compare::name(s(0), s(1), n, 4),
-        Call::SourceName => compare::name(s(0), s(1), n, 5),
+        Call::SourceName => compare::name(s(0), s(1), n, asked::WIDTH),
         Call::Reasons => compare::reasons(s(0), s(1), n),
         Call::CModule => cells::module(s(0), n[0]),
         Call::CManifest => cells::manifest(s(0), n[0]),
@@ -81,7 +82,7 @@ pub fn alone(case: &Case) -> String {
         Call::Module => match parse(s(0)) {
             Err(e) if e.offset().is_none() => format!("refused without an offset: {e}"),
             Err(e) => error_says(&e, one_kind),
-            Ok(_) => module_says(s(0)),
+            Ok(m) => module_told(&m, &[]),
         },
         Call::Policy => policy_alone(s(0)),
         Call::Manifest => of_text(s(0), |t| manifest_says(&wit::parse(t))),
@@ -262,17 +263,22 @@ fn from_byte_0(file: &[u8], e: &Error) -> String {
 }
 
 pub fn module_says(file: &[u8]) -> String {
-    let m = match parse(file) {
-        Ok(m) => m,
-        Err(e) => return from_byte_0(file, &e),
-    };
+    match parse(file) {
+        Ok(m) => module_told(&m, &Asked::of(file)),
+        Err(e) => from_byte_0(file, &e),
+    }
+}
+
+/// A module in words; each import with what it asks for, or none of them.
+fn module_told(m: &Module, asked: &[Asked]) -> String {
     let mut out = format!("version {} length {} name ", m.version, m.byte_len);
     out += &m.module_name.as_ref().map_or("none".into(), |n| format!("={}", hex(n.as_bytes())));
     for s in &m.sections {
         out += &format!("; section {} {} {} {}", s.id, s.offset, s.size, hex(s.custom_name.as_bytes()));
     }
-    for i in &m.imports {
+    for (n, i) in m.imports.iter().enumerate() {
         out += &format!("; import {} {} {}", hex(i.module.as_bytes()), hex(i.field.as_bytes()), kind_byte(i.kind));
+        out += &asked.get(n).map_or(String::new(), |a| asks(&a.cells()));
     }
     for e in &m.exports {
         out += &format!("; export {} {} {}", hex(e.field.as_bytes()), kind_byte(e.kind), e.index);
@@ -281,6 +287,11 @@ pub fn module_says(file: &[u8]) -> String {
         out += &format!("; symbol {index} {}", hex(name.as_bytes()));
     }
     out
+}
+
+/// Cells 5 to 11 of an import.
+fn asks(cells: &[u64]) -> String {
+    format!(" asks {cells:?}")
 }
 
 /// The rows of the tables as told: cells, then where the first cell is that is not zero.
@@ -296,7 +307,7 @@ fn tables<'a>(mut t: &'a [u64], widths: &[usize]) -> (Vec<std::slice::ChunksExac
 }
 
 pub fn port_module(s: &[u8], t: &[u64]) -> String {
-    let (rows, zeros) = tables(&t[12..], &[5, 5, 4, 3]);
+    let (rows, zeros) = tables(&t[12..], &[5, asked::WIDTH, 4, 3]);
     let mut out = answered_of(&t[..12], 12, |t| {
         let mut out = format!("version {} length {} name ", t[2], t[3]);
         out += &match (t[4], t[5], t[6]) {
@@ -311,7 +322,7 @@ pub fn port_module(s: &[u8], t: &[u64]) -> String {
             }
         }
         for r in rows[1].clone() {
-            out += &format!("; import {} {} {}", part(s, r[0], r[1]), part(s, r[2], r[3]), r[4]);
+            out += &format!("; import {} {} {}{}", part(s, r[0], r[1]), part(s, r[2], r[3]), r[4], asks(&r[asked::FIRST..]));
         }
         for r in rows[2].clone() {
             out += &format!("; export {} {} {}", part(s, r[0], r[1]), r[2], r[3]);
@@ -343,15 +354,15 @@ pub fn kind_of(byte: u64) -> ExternalKind {
     }
 }
 
-/// 15 for table 2.
+/// 15 for table 2: of a row its kind and descriptor, and what else is bad, its ranges where there is a file.
 fn imports_tested(cells: &[u64], n: u64, bad: impl Fn(&[u64]) -> bool) -> Option<String> {
-    rows_tested(cells, 5, 1024, n, |r| r[4] > 255 || bad(r)).err()
+    rows_tested(cells, asked::WIDTH, 1024, n, |r| asked::bad(r) || bad(r)).err()
 }
 
 fn kinds(numbers: &[u64], count: impl Fn(&Module) -> usize) -> String {
     let (n, cells) = (numbers[0], &numbers[1..]);
     imports_tested(cells, n, |_| false).unwrap_or_else(|| {
-        let rows = cells.chunks_exact(5).take(n as usize);
+        let rows = cells.chunks_exact(asked::WIDTH).take(n as usize);
         let imports = rows.map(|r| Import { module: String::new(), field: String::new(), kind: kind_of(r[4]) }).collect();
         count(&Module { imports, ..Module::default() }).to_string()
     })
@@ -374,7 +385,7 @@ fn namespaces(file: &[u8], numbers: &[u64]) -> String {
     } else if let Some(bad) = imports_tested(cells, n, bad) {
         bad
     } else {
-        let rows = cells.chunks_exact(5).take(n as usize);
+        let rows = cells.chunks_exact(asked::WIDTH).take(n as usize);
         let imports = rows.map(|r| Import { module: latin(file, r[0], r[1]), field: String::new(), kind: kind_of(r[4]) });
         let m = Module { imports: imports.collect(), ..Module::default() };
         let names = m.import_namespaces();
@@ -791,7 +802,7 @@ fn requirements(file: &[u8], numbers: &[u64]) -> String {
     } else if let Some(bad) = imports_tested(cells, n, bad) {
         bad
     } else {
-        let rows = cells.chunks_exact(5).take(n as usize);
+        let rows = cells.chunks_exact(asked::WIDTH).take(n as usize);
         let import = |r: &[u64]| Import { module: latin(file, r[0], r[1]), field: latin(file, r[2], r[3]), kind: kind_of(r[4]) };
         let m = Module { imports: rows.clone().map(import).collect(), ..Module::default() };
         let domains: Vec<usize> = policy::requirements_from_module(&m).iter().map(|r| number_of(r.domain)).collect();

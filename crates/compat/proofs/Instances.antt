@@ -23,15 +23,16 @@ use Rattle.differences.proofs.Ranks.{rank-order}
 use Rattle.differences.proofs.Only.{lawful-export, lawful-exports, lawful-needs}
 use Rattle.differences.proofs.Numbered.{sided-first, sided-second, number-order}
 use Rattle.compat.specs.declared.keys.Key.{Key}
-use Rattle.compat.specs.Keying.{keySize, keyIn, keyName, printOf, exportKey, needKey, exportKeys, needKeys, Printed, tableOf, missing}
+use Rattle.compat.specs.Keying.{keyName, exportKey, needKey, exportKeys, needKeys, tableOf}
 use Rattle.compat.specs.Listing.{exportsBetween, exportNumbered, needsBetween, needNumbered}
-use Rattle.compat.proofs.Keyed.{keyThen, key-is}
-use Rattle.compat.proofs.Joining.{joined, then-equal}
+use Rattle.keyed.specs.Keying.{missing}
+use Rattle.keyed.proofs.Joining.{joined}
+use Rattle.compat.proofs.Keyed.{keyThen, order-is, wanted-is}
 
-then-assoc : (a b c : Order) → andThen (andThen a b) c ≡ andThen a (andThen b c)
-then-assoc Less b c = refl
-then-assoc Equal b c = refl
-then-assoc Greater b c = refl
+then-equal : (o : Order) → andThen o Equal ≡ o
+then-equal Less = refl
+then-equal Equal = refl
+then-equal Greater = refl
 
 -- what a key says
 record Says (b c : List ℕ) (k : Key) (major : ℕ) (name : List ℕ) (minor : ℕ) (wanted : Bool) : Type 0 where
@@ -39,7 +40,6 @@ record Says (b c : List ℕ) (k : Key) (major : ℕ) (name : List ℕ) (minor : 
   pub name-is : keyName b c k ≡ name
   pub minor-is : k .minor ≡ minor
   pub mark-is : eqb (k .mark) 1 ≡ wanted
-  pub printed : Printed b c k
 
 sided-same : {A : Type 0} (nb : ℕ) (x : A) (i : ℕ) → sided nb (λ j. x) (λ j. x) i ≡ x
 unfolding sided
@@ -57,33 +57,30 @@ module _ (b be c ce : List ℕ) (nb : ℕ) where
   abbrev ExportSays : Key → ExportKey → Type 0
   ExportSays k e = Says b c k 0 (e .name) (rankOf (e .kind)) true
 
-  export-says : (i : ℕ) → ExportSays (exportKeys b be nb c ce i) (exportNumbered b be nb c ce i .row .key)
-  unfolding exportKey exportKeyAt keyName Printed
+  export-says : (i : ℕ) → ExportSays (exportKeys be nb ce i) (exportNumbered b be nb c ce i .row .key)
+  unfolding exportKey exportKeyAt keyName
   export-says i = by (ltb i nb) refl
     where
-      first : (j : ℕ) → ExportSays (exportKey 0 b be j) (exportKeyAt b be j)
-      first j = record { major-is = refl; name-is = refl; minor-is = refl; mark-is = refl; printed = refl }
+      first : (j : ℕ) → ExportSays (exportKey 0 be j) (exportKeyAt b be j)
+      first j = record { major-is = refl; name-is = refl; minor-is = refl; mark-is = refl }
 
-      second : (j : ℕ) → ExportSays (exportKey 1 c ce j) (exportKeyAt c ce j)
-      second j = record { major-is = refl; name-is = refl; minor-is = refl; mark-is = refl; printed = refl }
+      second : (j : ℕ) → ExportSays (exportKey 1 ce j) (exportKeyAt c ce j)
+      second j = record { major-is = refl; name-is = refl; minor-is = refl; mark-is = refl }
 
-      by : (t : Bool) → ltb i nb ≡ t → ExportSays (exportKeys b be nb c ce i) (exportNumbered b be nb c ce i .row .key)
+      by : (t : Bool) → ltb i nb ≡ t → ExportSays (exportKeys be nb ce i) (exportNumbered b be nb c ce i .row .key)
       by true e =
           let l = ltb-true i nb e in
-          rw (sided-first nb (exportKey 0 b be) (exportKey 1 c ce) i l, sided-first nb _ _ i l) (first i)
+          rw (sided-first nb (exportKey 0 be) (exportKey 1 ce) i l, sided-first nb _ _ i l) (first i)
       by false e =
           let l = ltb-false i nb e in
-          rw (sided-second nb (exportKey 0 b be) (exportKey 1 c ce) i l, sided-second nb _ _ i l) (second (i - nb))
+          rw (sided-second nb (exportKey 0 be) (exportKey 1 ce) i l, sided-second nb _ _ i l) (second (i - nb))
 
-  pub export-printed : (n i : ℕ) → i < n → Printed b c (keyIn (tableOf keySize (exportKeys b be nb c ce) n) i)
-  export-printed n i h = rw (key-is b c keySize (exportKeys b be nb c ce) n i h) (export-says i .printed)
-
-  export-orders : {k l : Key} {e f : ExportKey} → ExportSays k e → ExportSays l f → e .kind ≤ 255 → f .kind ≤ 255 → (o : Order)
-      → keyThen b c k l o ≡ andThen (cmpExport e f) o
+  export-orders : {k l : Key} {e f : ExportKey} → ExportSays k e → ExportSays l f → e .kind ≤ 255 → f .kind ≤ 255
+      → keyThen b c k l ≡ cmpExport e f
   unfolding cmpExport cmpBytes keyName kindOf
-  export-orders {e = e} {f = f} p q h m o =
+  export-orders {e = e} {f = f} p q h m =
       rw (p .major-is, q .major-is, p .name-is, q .name-is, p .minor-is, q .minor-is, rank-order (e .kind) (f .kind) h m)
-      (sym (then-assoc (cmpBytes (e .name) (f .name)) (cmpBytes (kindSlug (e .kind)) (kindSlug (f .kind))) o))
+      (ap (andThen (cmpBytes (e .name) (f .name))) (then-equal (cmpBytes (kindSlug (e .kind)) (kindSlug (f .kind)))))
 
 keep-all : (l : List ℕ) → selected (λ i. true) l ≡ l
 keep-all [] = refl
@@ -105,17 +102,18 @@ module _ (b be c ce : List ℕ) (nb nc : ℕ) (goodB : (i : ℕ) → i < nb → 
       by true e = let l = ltb-true i nb e in rw (sided-first nb _ _ i l) (first i l)
       by false e = let l = ltb-false i nb e in rw (sided-second nb _ _ i l) (second (i - nb) (omega arith))
 
-  pub exports-listed : map (exportNumbered b be nb c ce)
-      (missing b c (tableOf keySize (exportKeys b be nb c ce) (nb + nc)) nb (nb + nc) true)
+  pub exports-listed : (size : ℕ)
+      → map (exportNumbered b be nb c ce) (missing b c (tableOf size (exportKeys be nb ce) (nb + nc)) nb (nb + nc) true)
       ≡ exportsBetween b be nb c ce nc
   unfolding exportsBetween exportOrder
-  exports-listed =
-      joined cmpExport (exportKeyAt b be) (exportKeyAt c ce) (λ i. true) (λ i. true) nb nc b c (exportKeys b be nb c ce)
-      (λ i j h k o. export-orders b be c ce nb (export-says b be c ce nb i) (export-says b be c ce nb j) (kind-good i h) (kind-good j k) o)
-      (λ i h. export-says b be c ce nb i .mark-is ∙ sym (sided-same nb true i))
+  exports-listed size =
+      joined cmpExport (exportKeyAt b be) (exportKeyAt c ce) (λ i. true) (λ i. true) nb nc b c
+      (tableOf size (exportKeys be nb ce) (nb + nc))
+      (λ i j h k. order-is b c size (exportKeys be nb ce) (nb + nc) i j h k
+      ∙ export-orders b be c ce nb (export-says b be c ce nb i) (export-says b be c ce nb j) (kind-good i h) (kind-good j k))
+      (λ i h. wanted-is b c size (exportKeys be nb ce) (nb + nc) i h ∙ export-says b be c ce nb i .mark-is ∙ sym (sided-same nb true i))
       true exportOrder lawful-exports
-      (λ i j h k li lj. number-order cmpExport (exportKeyAt b be) (exportKeyAt c ce) (λ i. true)
-      (λ i. true) nb nc lawful-export i j h k li lj)
+      (λ i j h k li lj. number-order cmpExport (exportKeyAt b be) (exportKeyAt c ce) (λ i. true) (λ i. true) nb nc lawful-export i j h k li lj)
       ∙ ap
       (λ (l : List ℕ). sort exportOrder
       (changes cmpExport (map (row (exportKeyAt b be)) l) (map (row (exportKeyAt c ce)) (selected (λ i. true) (upFrom 0 nc)))))
@@ -130,14 +128,14 @@ module _ (b bi c ci : List ℕ) (nb : ℕ) where
 
   need-says : (i : ℕ)
       → NeedSays (needKeys b bi nb c ci i) (needNumbered b bi nb c ci i .row .key) (sided nb (kindIs bi 0) (kindIs ci 0) i)
-  unfolding needKey needAt keyName Printed
+  unfolding needKey needAt keyName
   need-says i = by (ltb i nb) refl
     where
       first : (j : ℕ) → NeedSays (needKey 0 b bi j) (needAt b bi j) (kindIs bi 0 j)
-      first j = record { major-is = refl; name-is = refl; minor-is = refl; mark-is = wanted-one (kindIs bi 0 j); printed = refl }
+      first j = record { major-is = refl; name-is = refl; minor-is = refl; mark-is = wanted-one (kindIs bi 0 j) }
 
       second : (j : ℕ) → NeedSays (needKey 1 c ci j) (needAt c ci j) (kindIs ci 0 j)
-      second j = record { major-is = refl; name-is = refl; minor-is = refl; mark-is = wanted-one (kindIs ci 0 j); printed = refl }
+      second j = record { major-is = refl; name-is = refl; minor-is = refl; mark-is = wanted-one (kindIs ci 0 j) }
 
       by : (t : Bool) → ltb i nb ≡ t
           → NeedSays (needKeys b bi nb c ci i) (needNumbered b bi nb c ci i .row .key) (sided nb (kindIs bi 0) (kindIs ci 0) i)
@@ -154,27 +152,25 @@ module _ (b bi c ci : List ℕ) (nb : ℕ) where
           )
           (second (i - nb))
 
-  pub need-printed : (n i : ℕ) → i < n → Printed b c (keyIn (tableOf keySize (needKeys b bi nb c ci) n) i)
-  need-printed n i h = rw (key-is b c keySize (needKeys b bi nb c ci) n i h) (need-says i .printed)
-
   -- the domain of a number's row
   pub need-major : (i : ℕ) → needKeys b bi nb c ci i .major ≡ needNumbered b bi nb c ci i .row .key .domain
   need-major i = need-says i .major-is
 
-  need-orders : {k l : Key} {e f : Need} {v w : Bool} → NeedSays k e v → NeedSays l f w → (o : Order)
-      → keyThen b c k l o ≡ andThen (cmpNeed e f) o
+  need-orders : {k l : Key} {e f : Need} {v w : Bool} → NeedSays k e v → NeedSays l f w → keyThen b c k l ≡ cmpNeed e f
   unfolding cmpNeed cmpBytes keyName
-  need-orders {e = e} {f = f} p q o =
+  need-orders {e = e} {f = f} p q =
       rw (p .major-is, q .major-is, p .name-is, q .name-is, p .minor-is, q .minor-is)
-      (sym (then-assoc (cmpNat (e .domain) (f .domain)) (cmpBytes (e .source) (f .source)) o))
+      (ap (andThen (cmpNat (e .domain) (f .domain))) (then-equal (cmpBytes (e .source) (f .source))))
 
 pub needs-listed : (b bi c ci : List ℕ) (nb nc : ℕ)
-    → map (needNumbered b bi nb c ci) (missing b c (tableOf keySize (needKeys b bi nb c ci) (nb + nc)) nb (nb + nc) false)
+    → (size : ℕ) → map (needNumbered b bi nb c ci) (missing b c (tableOf size (needKeys b bi nb c ci) (nb + nc)) nb (nb + nc) false)
     ≡ needsBetween b bi nb c ci nc
 unfolding needsBetween needOrder
-needs-listed b bi c ci nb nc =
-    joined cmpNeed (needAt b bi) (needAt c ci) (kindIs bi 0) (kindIs ci 0) nb nc b c (needKeys b bi nb c ci)
-    (λ i j h k o. need-orders b bi c ci nb (need-says b bi c ci nb i) (need-says b bi c ci nb j) o)
-    (λ i h. need-says b bi c ci nb i .mark-is)
+needs-listed b bi c ci nb nc size =
+    joined cmpNeed (needAt b bi) (needAt c ci) (kindIs bi 0) (kindIs ci 0) nb nc b c
+    (tableOf size (needKeys b bi nb c ci) (nb + nc))
+    (λ i j h k. order-is b c size (needKeys b bi nb c ci) (nb + nc) i j h k
+    ∙ need-orders b bi c ci nb (need-says b bi c ci nb i) (need-says b bi c ci nb j))
+    (λ i h. wanted-is b c size (needKeys b bi nb c ci) (nb + nc) i h ∙ need-says b bi c ci nb i .mark-is)
     false needOrder lawful-needs
     (λ i j h k li lj. then-equal (cmpNeed (needNumbered b bi nb c ci i .row .key) (needNumbered b bi nb c ci j .row .key)))

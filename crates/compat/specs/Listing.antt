@@ -6,6 +6,8 @@ use Prim.Native.Nat.{ℕ, _≤_}
 use lib.Dec.{eqb}
 use lib.ListN.{length, take}
 use Rattle.sorting.specs.Sort.{sort}
+use Rattle.sorting.specs.declared.Sorted.{Sorted}
+use Rattle.sorting.specs.declared.Sorted.the-variants.{Rows, Full}
 use Rattle.differences.specs.declared.Change.the-variants.{Removed, Added}
 use Rattle.differences.specs.View.{ExportKey, Need, row, exportKeyAt, needAt, exportRows, needRows}
 use Rattle.differences.specs.Differences.{Entry, entry, changes, cmpExport, cmpNeed, exportOrder, needOrder}
@@ -31,6 +33,11 @@ needNumbered b bi nb c ci = sided nb (λ i. entry Removed (row (needAt b bi) i))
 pub record Numbers {K : Type 0} (at : ℕ → Entry K) (d : List (Entry K)) (table : List ℕ) (r : ℕ) : Type 0 where
   pub within : r ≤ length table
   pub these : map at (take r table) ≡ d
+
+-- how many rows
+abbrev pub rowsSorted : Sorted → ℕ
+rowsSorted (Rows m) = m
+rowsSorted Full = 0
 
 -- ---- a number's module and row
 unfoldable pub sideOf : ℕ → ℕ → Place

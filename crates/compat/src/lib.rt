@@ -1,7 +1,6 @@
 // compat.rs: the comparison of two builds.
 mod keys;
 mod lists;
-mod marks;
 
 use crate::keys::MAX_KEYS;
 use crate::lists::breaks_nothing;

@@ -27,14 +27,14 @@ use Rattle.wasm.specs.Entry.{limitsAt, funcAt, tableAt, memoryAt, globalAt, des
 use Rattle.wasm.specs.Rows.{importsOf, exportsOf, symbolsOf}
 use Rattle.wasm.specs.Custom.{Names, labelAt, toldBy, subsectionAt, nameWord, customAt}
 use Rattle.wasm.specs.Module.{Tables, Sizes, contentsAt, addSection, sectionAt, magic, headerAt, noTables, Parsed, moduleAt}
-use Rattle.conform.specs.Places.{PlacesInFile, KindThere, withOffset, OnlyOffsets, startAdded, SectionPlace, SubsectionPlace}
+use Rattle.conform.specs.Places.{PlacesInFile, KindThere, withOffset, OnlyOffsets, TablesFew, startAdded, SectionPlace, SubsectionPlace}
 use Rattle.conform.proofs.Parts.{part-length}
 use Rattle.conform.proofs.Sections.{took, took-sub}
 
 -- an offset of s or its end; a table or 0; a byte of s that is no kind, at its offset: each with its numbers
 abbrev Placed : List ℕ → ℕ → Place → Type 0
 Placed s n (offset p) = (withOffset n ≡ true) × (p ≤ length s)
-Placed s n (spot p) = within 13 14 n ≡ true
+Placed s n (spot p) = (within 13 14 n ≡ true) × (p ≤ 4)
 Placed s n (kindAt k o) = (n ≡ 5) × (o < length s) × (getD s o 0 ≡ k) × (3 < k)
 
 -- what x refuses is placed in s
@@ -261,13 +261,14 @@ module _ (s : List ℕ) (size : length s ≤ fileLimit) where
         well-onward s (nameAt s a) _ (name-well a h1) (λ p b e2 h2. well-done s _ b h2))
 
 -- a run of entries
-module _ (s : List ℕ) {E : Type 0} (read : ℕ → Said (Got E)) (good : (at : ℕ) → at ≤ length s → Well s (read at)) (tn room : ℕ) where
+module _ (s : List ℕ) {E : Type 0} (read : ℕ → Said (Got E)) (good : (at : ℕ) → at ≤ length s → Well s (read at)) (tn room : ℕ)
+    (few : tn ≤ 4) where
   entries-well : (n at : ℕ) (rows : List E) → at ≤ length s → Well s (entriesFrom read tn room n at rows)
   unfolding entriesFrom
   entries-well zero at rows h = well-done s rows at h
   entries-well (suc n) at rows h =
       well-onward s (read at) _ (good at h) (λ v d e k.
-      well-pick s (ltb (length rows) room) _ _ (entries-well n d (rows ++ (v ∷ [])) k) (well-stop s 13 (spot tn) refl))
+      well-pick s (ltb (length rows) room) _ _ (entries-well n d (rows ++ (v ∷ [])) k) (well-stop s 13 (spot tn) (refl, few)))
 
   run-well : (rows : List E) → Well s (onward (u32At s 0) (λ n at. entriesFrom read tn room n at rows))
   run-well rows = well-onward s (u32At s 0) _ (u32-well s 0 (omega arith)) (λ n at e k. entries-well n at rows k)
@@ -328,7 +329,7 @@ module _ (s : List ℕ) (size : length s ≤ fileLimit) (base n : ℕ) where
   told-well id t =
       well-pick s (eqb id 0) _ _ (well-onward s (nameAt s 0) _ (name-well s size 0 (omega arith)) (λ p e q k. well-done s _ e k))
       (well-pick s (eqb id 1) _ _
-      (well-onward s _ _ (run-well s (symbolAt s base) (symbol-well s size base) 4 _ (t .symbols)) (λ rows e q k. well-done s _ e k))
+      (well-onward s _ _ (run-well s (symbolAt s base) (symbol-well s size base) 4 _ (omega arith) (t .symbols)) (λ rows e q k. well-done s _ e k))
       (well-done s t 0 (omega arith)))
 
 module _ (s : List ℕ) (size : length s ≤ fileLimit) (base n : ℕ) where
@@ -360,9 +361,9 @@ module _ (s : List ℕ) (size : length s ≤ fileLimit) (base : ℕ) (z : Sizes)
   contents-well id t =
       well-pick s (eqb id 0) _ _ (well-onward s _ _ (custom-well s size base (z .names) (t .names)) (λ u e q k. well-done s _ e k))
       (well-pick s (eqb id 2) _ _
-      (well-onward s _ _ (run-well s (importAt s base) (import-well s size base) 2 _ []) (λ rows e q k. well-done s _ e k))
+      (well-onward s _ _ (run-well s (importAt s base) (import-well s size base) 2 _ (omega arith) []) (λ rows e q k. well-done s _ e k))
       (well-pick s (eqb id 7) _ _
-      (well-onward s _ _ (run-well s (exportAt s base) (export-well s size base) 3 _ []) (λ rows e q k. well-done s _ e k))
+      (well-onward s _ _ (run-well s (exportAt s base) (export-well s size base) 3 _ (omega arith) []) (λ rows e q k. well-done s _ e k))
       (well-done s _ 0 (omega arith))))
 
 module _ (b : List ℕ) (size : length b ≤ fileLimit) (z : Sizes) where
@@ -376,7 +377,7 @@ module _ (b : List ℕ) (size : length b ≤ fileLimit) (z : Sizes) where
       well-after b (relocated (p .from) (contentsAt id (partBytes b p) (p .from) z t)) _
       (stops-moved b size p i _ (contents-well (partBytes b p) (part-small b size p i) (p .from) z id t .stop-in))
       (λ u e q. well-pick b (ltb (length (u .tables .sections)) (capacityIn 1 (z .sections))) _ _ (well-done b _ d h2)
-      (well-stop b 13 (spot 1) refl))))
+      (well-stop b 13 (spot 1) (refl, omega arith)))))
 
   header-well : Well b (headerAt b)
   unfolding headerAt
@@ -403,7 +404,7 @@ placed b z n p e = by (ltb fileLimit (length b)) refl e where
   by : (x : Bool) → ltb fileLimit (length b) ≡ x
       → pick {A = Said Parsed} x (refused 14 (spot 0)) (onward (headerAt b) (λ v c. onward (walkFrom (sectionAt b z) b c noTables) (λ t d.
       accepted (record { version = v; tables = t })))) ≡ refused n p → Placed b n p
-  by true t f = stops-at b 14 (spot 0) refl n p f
+  by true t f = stops-at b 14 (spot 0) (refl, omega arith) n p f
   by false t f = file-stops b (ltb-false fileLimit (length b) t) z n p f
 
 pub places-in-file : PlacesInFile
@@ -416,8 +417,11 @@ kind-there b z n k o bytes e =
 
 pub only-offsets : OnlyOffsets
 only-offsets b z n (offset p) e = placed b z n (offset p) e .0
-only-offsets b z n (spot p) e = placed b z n (spot p) e
+only-offsets b z n (spot p) e = placed b z n (spot p) e .0
 only-offsets b z n (kindAt k o) e = placed b z n (kindAt k o) e .0
+
+pub tables-few : TablesFew
+tables-few b z n p e = placed b z n (spot p) e .1
 
 -- ---- a start that is added: no sum leaves 64 bits
 module _ (b : List ℕ) (size : length b ≤ fileLimit) (p : Part) (whole : p .from + p .len ≤ length b) where

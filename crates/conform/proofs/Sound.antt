@@ -1,13 +1,14 @@
--- The rows that the reader leaves: ranges lie in the file, kinds and indices are small, tables hold them, and payloads follow one another.
+-- The rows that the reader leaves: ranges lie in the file, kinds and indices are small, what imports ask for is of
+-- their kind, tables hold them, and payloads follow one another.
 -- So they never give 15. Assumes nothing.
-use Prim.Native.Nat.{ℕ, zero, suc, _+_, _≤_, _<_}
+use Prim.Native.Nat.{ℕ, zero, suc, _+_, _%_, _^_, _≤_, _<_}
 use native.Mathlib.Omega.{arith}
-use mathlib.Core.Path.{_≡_, refl, subst}
+use mathlib.Core.Path.{_≡_, refl, sym, subst}
 use mathlib.Core.Bool.{Bool, true, false}
 use mathlib.Core.List.{List, [], _∷_, _++_}
 use lib.ListN.{length, getD, length-append}
 use lib.Dec.{ltb, eqb}
-use borrow.Author.Tests.{ltb-true, eqb-true}
+use borrow.Author.Tests.{ltb-true, eqb-true, eqb-false}
 use Rattle.refusal.specs.Pick.{pick}
 use Rattle.refusal.specs.Sizes.{fileLimit}
 use Rattle.refusal.specs.Said.{Said, accepted, refused, Got, got, onward, offset, spot, kindAt}
@@ -20,8 +21,8 @@ use Rattle.refusal.specs.Each.{Each, each-nil, each-cons}
 use Rattle.table.proofs.Giving.{Gives, Of, gives-done, gives-stop, gives-pick, gives-onward, gives-from, gives-entries}
 use Rattle.leb.specs.Reads.{partBytes, byteAt, u32At, nameAt, countedAt}
 use Rattle.leb.proofs.Bounds.{u32-in, counted-in, name-in}
-use Rattle.wasm.specs.Shapes.{Section}
-use Rattle.wasm.specs.Entry.{descAt, importAt, exportAt, symbolAt}
+use Rattle.wasm.specs.Shapes.{Desc, Section}
+use Rattle.wasm.specs.Entry.{limitsAt, funcAt, tableAt, memoryAt, globalAt, descAt, importAt, exportAt, symbolAt}
 use Rattle.wasm.specs.Rows.{importsOf, exportsOf, symbolsOf}
 use Rattle.wasm.specs.Custom.{Names, labelAt, toldBy, subsectionAt, nameWord, CustomSaid, customAt}
 use Rattle.wasm.specs.Module.{Tables, Sizes, Inner, contentsAt, sectionAt, headerAt, noTables}
@@ -29,7 +30,7 @@ use Rattle.wasm.specs.Module.{Parsed, moduleAt}
 use Rattle.wasm.proofs.Framing.{contents-keep}
 use Rattle.conform.specs.Claims.{Bytes}
 use Rattle.conform.specs.Sound.{InFile, ImportOk, ExportOk, SymbolOk, SectionOk, NamesOk, TablesOk, Apart, last, next, ModuleOk}
-use Rattle.conform.specs.Sound.{RowsSound}
+use Rattle.conform.specs.Sound.{LimitsFit, even, odd, DescFits, function, tables, memories, globals, RowsSound}
 use Rattle.conform.proofs.Parts.{part-bytes, part-length}
 use Rattle.conform.proofs.Walks.{walk-out}
 use Rattle.conform.proofs.Sections.{took, rowOf}
@@ -66,24 +67,77 @@ byte-small s h at v d e = by (ltb at (length s)) e where
   by true f = let k : getD s at 0 ≡ v = cc in subst (λ (x : ℕ). x < 256) k (h at)
   by false f = absurd (never f)
 
--- a descriptor that was read has a kind below 4
-unfoldable Small : {T : Type 0} → ℕ → T → Type 0
-Small kind v = kind < 4
+-- ---- what an import asks for
+by-kind : {T : Type 0} (P : T → Type 0) (kind n : ℕ) (x y : Said T) → (kind ≡ n → Gives P x) → Gives P y → Gives P (pick (eqb kind n) x y)
+by-kind P kind n x y g h = by (eqb kind n) refl where
+  by : (t : Bool) → eqb kind n ≡ t → Gives P (pick t x y)
+  by true t = g (eqb-true kind n t)
+  by false t = h
 
-small-case : {T : Type 0} (kind n : ℕ) (x y : Said T) → n < 4 → Gives (Small kind) y → Gives (Small kind) (pick (eqb kind n) x y)
-unfolding Gives Small
-small-case kind n x y h g = by (eqb kind n) refl where
-  by : (t : Bool) → eqb kind n ≡ t → Gives (Small kind) (pick t x y)
-  by true t v q = omega (arith, eqb-true kind n t)
-  by false t v q = g v q
+fits-small : {kind : ℕ} {d : Desc} → DescFits kind d → kind < 4
+fits-small (function h) = omega arith
+fits-small (tables h m) = omega arith
+fits-small (memories m) = omega arith
+fits-small (globals h k) = omega arith
 
-kind-small : (s : List ℕ) (kind i at : ℕ) → Gives (Small kind) (descAt s kind i at)
-unfolding descAt
-kind-small s kind i at =
-    small-case kind 0 _ _ (omega arith)
-    (small-case kind 1 _ _ (omega arith)
-    (small-case kind 2 _ _ (omega arith)
-    (small-case kind 3 _ _ (omega arith) (gives-stop (Small kind) 5 (kindAt kind i)))))
+module _ (s : List ℕ) (bytes : Bytes s) where
+  limits-fit : (at : ℕ) → Gives (Of LimitsFit) (limitsAt s at)
+  unfolding limitsAt Of
+  limits-fit at =
+      gives-onward (Of LimitsFit) (byteAt s at) _ (λ f a e1.
+      gives-onward (Of LimitsFit) (u32At s a) _ (λ n c e2.
+      by f n c (byte-small s bytes at f a e1) (u32-in s a n c e2 .1) (eqb (f % 2) 1) refl))
+    where
+      low : (f : ℕ) → (f % 2 ≡ 1 → ⊥) → f % 2 ≡ 0
+      low f h = omega (arith, h)
+
+      by : (f n c : ℕ) → f < 256 → n < 2 ^ 32 → (t : Bool) → eqb (f % 2) 1 ≡ t
+          → Gives (Of LimitsFit)
+          (pick t
+          (onward (u32At s c) (λ k d. accepted (got (record { flag = f; least = n; bounded = true; most = k }) d)))
+          (accepted (got (record { flag = f; least = n; bounded = false; most = 0 }) c)))
+      by f n c h g true t =
+          gives-onward (Of LimitsFit) (u32At s c) _ (λ k d e3.
+          gives-done (Of LimitsFit) _ (odd h (eqb-true (f % 2) 1 t) g (u32-in s c k d e3 .1)))
+      by f n c h g false t = gives-done (Of LimitsFit) _ (even h (low f (eqb-false (f % 2) 1 t)) g)
+
+  func-fit : (at : ℕ) → Gives (Of (DescFits 0)) (funcAt s at)
+  unfolding funcAt Of
+  func-fit at =
+      gives-onward (Of (DescFits 0)) (u32At s at) _ (λ x a e1.
+      gives-done (Of (DescFits 0)) _ (function (u32-in s at x a e1 .1)))
+
+  table-fit : (at : ℕ) → Gives (Of (DescFits 1)) (tableAt s at)
+  unfolding tableAt Of Gives
+  table-fit at =
+      gives-onward (Of (DescFits 1)) (byteAt s at) _ (λ e a e1.
+      gives-onward (Of (DescFits 1)) (limitsAt s a) _ (λ m c e2.
+      gives-done (Of (DescFits 1)) _ (tables (byte-small s bytes at e a e1) (limits-fit a (got m c) e2))))
+
+  memory-fit : (at : ℕ) → Gives (Of (DescFits 2)) (memoryAt s at)
+  unfolding memoryAt Of Gives
+  memory-fit at =
+      gives-onward (Of (DescFits 2)) (limitsAt s at) _ (λ m a e1.
+      gives-done (Of (DescFits 2)) _ (memories (limits-fit at (got m a) e1)))
+
+  global-fit : (at : ℕ) → Gives (Of (DescFits 3)) (globalAt s at)
+  unfolding globalAt Of
+  global-fit at =
+      gives-onward (Of (DescFits 3)) (byteAt s at) _ (λ t a e1.
+      gives-onward (Of (DescFits 3)) (byteAt s a) _ (λ m c e2.
+      gives-done (Of (DescFits 3)) _ (globals (byte-small s bytes at t a e1) (byte-small s bytes a m c e2))))
+
+  desc-fit : (kind i at : ℕ) → Gives (Of (DescFits kind)) (descAt s kind i at)
+  unfolding descAt
+  desc-fit kind i at =
+      by-kind (Of (DescFits kind)) kind 0 _ _ (λ h. is 0 h (funcAt s at) (func-fit at))
+      (by-kind (Of (DescFits kind)) kind 1 _ _ (λ h. is 1 h (tableAt s at) (table-fit at))
+      (by-kind (Of (DescFits kind)) kind 2 _ _ (λ h. is 2 h (memoryAt s at) (memory-fit at))
+      (by-kind (Of (DescFits kind)) kind 3 _ _ (λ h. is 3 h (globalAt s at) (global-fit at))
+      (gives-stop (Of (DescFits kind)) 5 (kindAt kind i)))))
+    where
+      is : (n : ℕ) → kind ≡ n → (x : Said (Got Desc)) → Gives (Of (DescFits n)) x → Gives (Of (DescFits kind)) x
+      is n h x g = subst (λ (k : ℕ). Gives (Of (DescFits k)) x) (sym h) g
 
 -- ---- entries: s lies in a file of n bytes, from base on
 pub record SpokenOk (n : ℕ) (z : Sizes) (u : CustomSaid) : Type 0 where
@@ -100,14 +154,15 @@ module _ (n : ℕ) (z : Sizes) where
     ranged at p d e = let w = name-in s at p d e in omega (arith, w .end, w .in-s)
 
     import-ok : (at : ℕ) → Gives (Of (ImportOk n)) (importAt s base at)
-    unfolding importAt Of Gives Small
+    unfolding importAt Of Gives
     import-ok at =
         gives-onward (Of (ImportOk n)) (nameAt s at) _ (λ m a e1.
         gives-onward (Of (ImportOk n)) (nameAt s a) _ (λ f c e2.
         gives-onward (Of (ImportOk n)) (byteAt s c) _ (λ kind d e3.
         gives-onward (Of (ImportOk n)) (descAt s kind c d) _ (λ desc e e4.
+        let w = desc-fit s bytes kind c d (got desc e) e4 in
         gives-done (Of (ImportOk n)) _
-        (record { module-in = ranged at m a e1; field-in = ranged a f c e2; kind-small = kind-small s kind c d (got desc e) e4 })))))
+        (record { module-in = ranged at m a e1; field-in = ranged a f c e2; kind-small = fits-small w; desc-fits = w })))))
 
     export-ok : (at : ℕ) → Gives (Of (ExportOk n)) (exportAt s base at)
     unfolding exportAt Of

@@ -38,6 +38,10 @@ ComesWith n (kindAt k o) = n ≡ 5
 abbrev pub OnlyOffsets : Type 0
 OnlyOffsets = (b : List ℕ) (z : Sizes) (n : ℕ) (p : Place) → moduleAt b z ≡ refused n p → ComesWith n p
 
+-- beside 13 and 14 stands the number of a table, or 0
+abbrev pub TablesFew : Type 0
+TablesFew = (b : List ℕ) (z : Sizes) (n p : ℕ) → moduleAt b z ≡ refused n (spot p) → p ≤ 4
+
 -- ---- the place is the reader's own of the payload, or of the subsection, with the start added: no sum leaves 64 bits
 abbrev pub startAdded : ℕ → Place → Place
 startAdded by (offset p) = offset (by + p)

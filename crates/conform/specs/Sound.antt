@@ -1,14 +1,15 @@
 -- docs/PROMISES.md, "The module": what holds of the rows that the reader leaves, whatever the file; and of the room that it is lent.
 -- docs/RULES.md, "Numbered answers": a row of which this holds never gives 15. Assumes nothing.
-use Prim.Native.Nat.{ℕ, _+_, _*_, _^_, _≤_, _<_}
+use Prim.Native.Nat.{ℕ, _+_, _*_, _%_, _^_, _≤_, _<_}
 use mathlib.Core.Path.{_≡_}
+use mathlib.Core.Bool.{true, false}
 use mathlib.Core.List.{List, [], _∷_}
 use lib.ListN.{length}
 use Rattle.refusal.specs.Said.{accepted, refused, Place}
 use Rattle.refusal.specs.declared.Part.{Part}
 use Rattle.table.specs.Shape.{width, fullCells, capacityIn}
 use Rattle.refusal.specs.Each.{Each}
-use Rattle.wasm.specs.Shapes.{Import, Export, Symbol, Section}
+use Rattle.wasm.specs.Shapes.{Limits, Desc, func, tableDesc, memory, global, Import, Export, Symbol, Section}
 use Rattle.wasm.specs.Custom.{Names}
 use Rattle.wasm.specs.Module.{Tables, Sizes, Parsed, moduleAt}
 use Rattle.conform.specs.Claims.{Bytes, Room, Derives}
@@ -17,10 +18,23 @@ use Rattle.conform.specs.Claims.{Bytes, Room, Derives}
 abbrev pub InFile : ℕ → Part → Type 0
 InFile n p = p .from + p .len ≤ n
 
+-- bit 0 of the flag says whether there is a most, which is 0 where there is none
+pub data LimitsFit : Limits → Type 0 where
+  even : {f n : ℕ} → f < 256 → f % 2 ≡ 0 → n < 2 ^ 32 → LimitsFit (record { flag = f; least = n; bounded = false; most = 0 })
+  odd : {f n k : ℕ} → f < 256 → f % 2 ≡ 1 → n < 2 ^ 32 → k < 2 ^ 32 → LimitsFit (record { flag = f; least = n; bounded = true; most = k })
+
+-- what an import asks for is of its kind: an index; an element type and limits; limits; a value type and mutability
+pub data DescFits : ℕ → Desc → Type 0 where
+  function : {x : ℕ} → x < 2 ^ 32 → DescFits 0 (func x)
+  tables : {e : ℕ} {m : Limits} → e < 256 → LimitsFit m → DescFits 1 (tableDesc e m)
+  memories : {m : Limits} → LimitsFit m → DescFits 2 (memory m)
+  globals : {t m : ℕ} → t < 256 → m < 256 → DescFits 3 (global t m)
+
 pub record ImportOk (n : ℕ) (r : Import) : Type 0 where
   pub module-in : InFile n (r .«module»)
   pub field-in : InFile n (r .field)
   pub kind-small : r .kind < 4
+  pub desc-fits : DescFits (r .kind) (r .desc)
 
 pub record ExportOk (n : ℕ) (r : Export) : Type 0 where
   pub name-in-file : InFile n (r .name)
@@ -65,6 +79,24 @@ pub record ModuleOk (b : List ℕ) (z : Sizes) (m : Parsed) : Type 0 where
 
 abbrev pub RowsSound : Type 0
 RowsSound = (b : List ℕ) (z : Sizes) (m : Parsed) → Bytes b → moduleAt b z ≡ accepted m → ModuleOk b z m
+
+-- names do not share bytes: those of table 2 have together no more than the file, and so have those of table 3
+unfoldable pub total : {E : Type 0} → (E → ℕ) → List E → ℕ
+total size [] = 0
+total size (r ∷ rs) = size r + total size rs
+
+abbrev pub importSize : Import → ℕ
+importSize r = r .«module» .len + r .field .len
+
+abbrev pub exportSize : Export → ℕ
+exportSize r = r .name .len
+
+pub record Together (n : ℕ) (t : Tables) : Type 0 where
+  pub imports : total importSize (t .imports) ≤ n
+  pub exports : total exportSize (t .exports) ≤ n
+
+abbrev pub NamesTogether : Type 0
+NamesTogether = (b : List ℕ) (z : Sizes) (m : Parsed) → moduleAt b z ≡ accepted m → Together (length b) (m .tables)
 
 -- w has at least the room of z
 pub record Larger (z w : Sizes) : Type 0 where

@@ -11,7 +11,62 @@ ghost use lib.ListN.{length};
 ghost use Rattle.refusal.specs.Said.{saidAnswer, saidCount};
 ghost use Rattle.table.specs.Testing.{countFrom};
 ghost use Rattle.table.specs.Listing.{ListsRows};
-ghost use Rattle.import_rows.specs.Queries.{importFits, importsTested, kindsTested, kindIs, importedOf, namespacesOf};
+ghost use Prim.Native.Nat.{_≤_, _<_};
+ghost use Rattle.import_rows.specs.Queries.{givenOf, numberFits, descFits, kindFits, importFits, importsTested, kindsTested};
+ghost use Rattle.import_rows.specs.Queries.{kindIs, importedOf, namespacesOf};
+
+// The mark of an import of this kind: bit c - 5 is set where the number in cell c is there. Bit 0 of a flag says whether the most is.
+fn given_of(kind: usize, flag: usize) -> usize
+    ensures { λ r. ⌜ r ≡ givenOf kind flag ⌝ }
+{
+    let most = (flag & 1) * 16;
+    match kind {
+        0 => 1,
+        1 => 14 + most,
+        2 => 12 + most,
+        3 => 34,
+        _ => 0,
+    }
+}
+
+// The number in a column of row i is there, or 0.
+fn number_fits(given: usize, imports: &[usize], i: usize, column: usize) -> bool
+    requires { ⌜ (5 ≤ column) × (column < 11) ⌝ }
+    ensures { λ r. ⌜ r ≡ numberFits given (now (imports .entry)) i column ⌝ }
+{
+    if (given >> (column - 5)) & 1 == 1 {
+        return true;
+    }
+    table::cell(imports, IMPORT_WIDTH, i, column) == 0
+}
+
+// The mark of row i is that of its kind and flag, and a number that is not there is 0.
+fn desc_fits(imports: &[usize], i: usize) -> bool
+    ensures { λ r. ⌜ r ≡ descFits (now (imports .entry)) i ⌝ }
+{
+    let given = given_of(
+        table::cell(imports, IMPORT_WIDTH, i, 4),
+        table::cell(imports, IMPORT_WIDTH, i, 7),
+    );
+    if table::cell(imports, IMPORT_WIDTH, i, 11) != given {
+        return false;
+    }
+    for column in 5..11 {
+        if !number_fits(given, imports, i, column) {
+            return false;
+        }
+    }
+    true
+}
+
+fn kind_fits(imports: &[usize], i: usize) -> bool
+    ensures { λ r. ⌜ r ≡ kindFits (now (imports .entry)) i ⌝ }
+{
+    if 255 < table::cell(imports, IMPORT_WIDTH, i, 4) {
+        return false;
+    }
+    desc_fits(imports, i)
+}
 
 fn import_fits(length: usize, imports: &[usize], i: usize) -> bool
     ensures { λ r. ⌜ r ≡ importFits length (now (imports .entry)) i ⌝ }
@@ -30,10 +85,10 @@ fn import_fits(length: usize, imports: &[usize], i: usize) -> bool
     ) {
         return false;
     }
-    table::cell(imports, IMPORT_WIDTH, i, 4) <= 255
+    kind_fits(imports, i)
 }
 
-// 15 for table 2, handed in with a file of so many bytes: the count, then each row's ranges and kind.
+// 15 for table 2, handed in with a file of so many bytes: the count, then each row's ranges, kind and descriptor.
 pub fn check_imports(length: usize, imports: &[usize], n: usize) -> Answer
     ensures { λ r. ⌜ saidAnswer r ≡ importsTested length (now (imports .entry)) n ⌝ }
 {
@@ -51,7 +106,7 @@ pub fn check_imports(length: usize, imports: &[usize], n: usize) -> Answer
     Answer::Accepted
 }
 
-// 15 for table 2, handed in without a file: the count, then each row's kind.
+// 15 for table 2, handed in without a file: the count, then each row's kind and descriptor.
 fn check_kinds(imports: &[usize], n: usize) -> Answer
     ensures { λ r. ⌜ saidAnswer r ≡ kindsTested (now (imports .entry)) n ⌝ }
 {
@@ -61,7 +116,7 @@ fn check_kinds(imports: &[usize], n: usize) -> Answer
     }
     let mut i = 0;
     while i < n {
-        if 255 < table::cell(imports, IMPORT_WIDTH, i, 4) {
+        if !kind_fits(imports, i) {
             return Answer::Refused(Refusal::BadTable(i));
         }
         i += 1;

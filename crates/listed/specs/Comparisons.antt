@@ -12,7 +12,8 @@ use Rattle.table.specs.Table.{laid, cells}
 use Rattle.table.specs.Shape.{width, limit, fullCells}
 use Rattle.output.specs.Cells.{cellBytes}
 use Rattle.wasm.specs.Rows as rows
-use Rattle.wasm.specs.Module.{Parsed, moduleAt}
+use Rattle.wasm.specs.declared.Module.{Module}
+use Rattle.wasm.specs.Module.{Sizes, Parsed, moduleAt, lend, ModuleIs}
 use Rattle.conform.specs.Sound.{limits}
 use Rattle.differences.specs.Compared.{Given, given, Lists, compared, Verdict, verdictOn, exportDiffCells, needDiffCells}
 use Rattle.output.specs.Bytes.{roomFor}
@@ -97,6 +98,12 @@ comparison baseline candidate =
     (pick (ltb fileLimit (length candidate)) (refused 14 (spot 0)) (builds baseline candidate))
 
 -- ---- for the code
+-- the promise of `read_module` on the imports and exports: there are sections and names beside them, in tables at the limits
+abbrev pub RowsRead : List ℕ → ℕ → ℕ → List ℕ → List ℕ → Said Module → Type 0
+RowsRead file i e imports exports a =
+    let z : Sizes = record { sections = fullCells 1; imports = i; exports = e; names = fullCells 4 } in
+    (s : List ℕ) × (n : List ℕ) × ModuleIs (length file) z (moduleAt file z) (lend s imports exports n) a
+
 -- the counts are of rows that lie in the tables, which are at the limits
 pub record ComparisonCounted (m n : ℕ) (xd cd : List ℕ) : Type 0 where
   pub exports-in : m * width 8 ≤ length xd

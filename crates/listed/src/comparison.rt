@@ -17,12 +17,14 @@ use table::shape::SECTION_CELLS;
 use wasm::ModuleRead;
 ghost use mathlib.Core.Path.{_≡_};
 ghost use Rattle.refusal.specs.Said.{numberOf, whereOf};
+ghost use lib.ListN.{length};
+ghost use Rattle.wasm.specs.Module.{saidModule};
 ghost use Rattle.differences.specs.Compared.{given};
 ghost use Rattle.reasons.specs.Reasons.{diffs};
 ghost use Rattle.listed.specs.Delivered.{Delivers};
 ghost use Rattle.listed.specs.Comparisons.{noComparison, comparisonBytes, comparisonTold, ComparisonCounted, Explains};
 ghost use Rattle.listed.specs.Comparisons.{explained, against};
-ghost use Rattle.listed.specs.Comparisons.{builds, comparison};
+ghost use Rattle.listed.specs.Comparisons.{builds, comparison, RowsRead};
 
 // The offset beside 5, how long the lists of differences are, whether nothing is broken, how many bytes the reasons are, and how many were
 // written in all.
@@ -117,12 +119,12 @@ fn lay_comparison<'a, 'b, 'c, 'd, 'e, 'f, 'g, 'h>(
 
 // The differences of two modules that were read, in tables at the limits.
 fn list_differences<'a, 'b, 'c, 'd, 'e, 'f>(
-    baseline: &'a [u8],
+    b: &'a [u8],
     bi: &'b [usize],
     nbi: usize,
     be: &'c [usize],
     nbe: usize,
-    candidate: &'a [u8],
+    c: &'a [u8],
     ci: &'d [usize],
     nci: usize,
     ce: &'e [usize],
@@ -130,38 +132,25 @@ fn list_differences<'a, 'b, 'c, 'd, 'e, 'f>(
     out: &'f mut [u8],
 ) -> ComparisonTold
     ensures { λ r. ⌜ Delivers comparisonBytes comparisonTold
-        (explained (given (now (baseline .entry)) (now (bi .entry)) nbi (now (be .entry)) nbe)
-        (given (now (candidate .entry)) (now (ci .entry)) nci (now (ce .entry)) nce))
+        (explained (given (now (b .entry)) (now (bi .entry)) nbi (now (be .entry)) nbe)
+        (given (now (c .entry)) (now (ci .entry)) nci (now (ce .entry)) nce))
         (now (out .entry)) r (now (out .exit)) ⌝ }
 {
     let mut xd = [0usize; EXPORT_DIFF_CELLS];
     let mut cd = [0usize; NEED_DIFF_CELLS];
-    match compare_modules(
-        baseline,
-        bi,
-        nbi,
-        be,
-        nbe,
-        candidate,
-        ci,
-        nci,
-        ce,
-        nce,
-        &mut xd,
-        &mut cd,
-    ) {
+    match compare_modules(b, bi, nbi, be, nbe, c, ci, nci, ce, nce, &mut xd, &mut cd) {
         Compared::Refused(why) => no_comparison(why),
         Compared::Lists {
             exports,
             capabilities,
             compatible,
         } => lay_comparison(
-            baseline,
+            b,
             bi,
             nbi,
             be,
             nbe,
-            candidate,
+            c,
             ci,
             nci,
             ce,
@@ -174,6 +163,16 @@ fn list_differences<'a, 'b, 'c, 'd, 'e, 'f>(
             out,
         ),
     }
+}
+
+// A module's imports and exports. What else a reader notes takes room only while it reads.
+fn read_rows(file: &[u8], imports: &mut [usize], exports: &mut [usize]) -> ModuleRead
+    ensures { λ r. ⌜ RowsRead (now (file .entry)) (length (now (imports .entry))) (length (now (exports .entry)))
+        (now (imports .exit)) (now (exports .exit)) (saidModule r) ⌝ }
+{
+    let mut sections = [0usize; SECTION_CELLS];
+    let mut names = [0usize; NAME_CELLS];
+    wasm::read_module(file, &mut sections, imports, exports, &mut names)
 }
 
 // A module that was read against a candidate's file.
@@ -190,17 +189,9 @@ fn list_against<'a, 'b, 'c, 'd>(
         (against (given (now (baseline .entry)) (now (bi .entry)) nbi (now (be .entry)) nbe) (now (candidate .entry)))
         (now (out .entry)) r (now (out .exit)) ⌝ }
 {
-    let mut sections = [0usize; SECTION_CELLS];
     let mut imports = [0usize; IMPORT_CELLS];
     let mut exports = [0usize; EXPORT_CELLS];
-    let mut names = [0usize; NAME_CELLS];
-    match wasm::read_module(
-        candidate,
-        &mut sections,
-        &mut imports,
-        &mut exports,
-        &mut names,
-    ) {
+    match read_rows(candidate, &mut imports, &mut exports) {
         ModuleRead::Refused(why) => no_comparison(why),
         ModuleRead::Module(m) => list_differences(
             baseline,
@@ -223,17 +214,9 @@ fn list_builds<'a, 'b>(baseline: &'a [u8], candidate: &'a [u8], out: &'b mut [u8
     ensures { λ r. ⌜ Delivers comparisonBytes comparisonTold (builds (now (baseline .entry)) (now (candidate .entry)))
         (now (out .entry)) r (now (out .exit)) ⌝ }
 {
-    let mut sections = [0usize; SECTION_CELLS];
     let mut imports = [0usize; IMPORT_CELLS];
     let mut exports = [0usize; EXPORT_CELLS];
-    let mut names = [0usize; NAME_CELLS];
-    match wasm::read_module(
-        baseline,
-        &mut sections,
-        &mut imports,
-        &mut exports,
-        &mut names,
-    ) {
+    match read_rows(baseline, &mut imports, &mut exports) {
         ModuleRead::Refused(why) => no_comparison(why),
         ModuleRead::Module(m) => list_against(
             baseline,

@@ -20,17 +20,17 @@ use Rattle.text.specs.Utf8.{upTo, seqLen, after, followIn, covers, utf8Table}
 use Rattle.text.specs.Utf8.{followers}
 use Rattle.text.specs.Walk.{walk}
 use Rattle.table.specs.Table.{capacityOf, cellOf, rangeOf, cells, laid}
-use Rattle.table.specs.Testing.{tested, firstFrom}
+use Rattle.table.specs.Testing.{tested, countFrom, firstFrom}
 use Rattle.table.specs.Listing.{fitted}
 use Rattle.table.specs.Entries.{entriesFrom}
 use Rattle.table.specs.Walking.{turnOf, walkFrom}
 use Rattle.table.specs.Shape.{width}
 use Rattle.wasm.specs.Entry.{funcAt, descAt, importAt}
-use Rattle.wasm.specs.Rows.{importCells, importsOf}
+use Rattle.wasm.specs.Rows.{descCells, importCells, importsOf}
 use Rattle.wasm.specs.Module.{Sizes, Parsed, noTables, magic, headerAt, contentsAt, addSection, sectionAt, moduleAt}
 use Rattle.wasm.specs.Shapes.{func}
 use Rattle.sorting.specs.Keys.{rowName}
-use Rattle.import_rows.specs.Queries.{asked, importsTested, importFits, kindIs}
+use Rattle.import_rows.specs.Queries.{asked, importsTested, givenOf, numberFits, marked, descFits, kindFits, importFits, kindIs}
 use Rattle.domains.specs.Domain.{words, wordIn, domainOf}
 use Rattle.domains.specs.Classify.{passes, classedBy, preview, heads, preview1, unstable, headOf, pathDomain, importDomain}
 use Rattle.text.specs.Whole.{wholeText}
@@ -164,7 +164,8 @@ pub examples-hold : AllHold examples
 unfolding ulebAt u32At slebAt toldAt narrowed onward uN sN twos grown spent byteAt fixedAt takeAt countedAt checked nameAt moduleAt headerAt
     relocated magic same walkFrom walk turnOf sectionAt contentsAt addSection capacityOf noTables importsOf entriesFrom importAt descAt
     funcAt upTo scan seqLen after followers followIn covers utf8Table
-    follow laid cells importCells moduleRows asked importsTested tested firstFrom importFits kindIs cellOf rangeOf fitted
+    follow laid cells importCells descCells moduleRows asked importsTested tested firstFrom importFits kindFits descFits marked
+    numberFits countFrom givenOf kindIs cellOf rangeOf fitted
     importDomain pathDomain headOf classedBy passes preview heads seek begins indexOf
     readPolicy readWith wholeText run zeroPolicy obey linesOf linesFrom lineLen lineStep crBefore policyDirective policyCore
     policySpoken policyWorded

@@ -15,6 +15,7 @@ pub mod OfRequirements
 pub mod OfRecords
 pub mod OfChecking
 pub mod OfDifferences
+pub mod OfKeyed
 pub mod OfCompat
 pub mod OfReasons
 pub mod Examples

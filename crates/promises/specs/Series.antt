@@ -44,7 +44,7 @@ use Rattle.capi.proofs.lists.viscrombal_compare.Kinds as compare-kinds
 use Rattle.capi.proofs.lists.viscrombal_compare.Reads as compare
 use Rattle.capi.proofs.policies.viscrombal_policy.Kinds as policy-kinds
 use Rattle.capi.proofs.policies.viscrombal_policy.Reads as policy
-use Rattle.standin.specs.Replacing.{Reports}
+use Rattle.covering.specs.Replacing.{Reports}
 use Rattle.standin.specs.Builds.{Clear, Replaces, lastFile}
 use Rattle.series.specs.Steps.{SomeStep, ExportReported, NeedReported, FileSeries}
 use Rattle.series.proofs.Theorems.{length-none}

@@ -9,7 +9,7 @@ use lib.ListN.{length}
 use borrow.Author.Tests.{lt-ltb, le-ltb, ltb-true, ltb-false}
 use Rattle.refusal.specs.Pick.{pick}
 use Rattle.refusal.specs.Sizes.{textLimit}
-use Rattle.refusal.specs.Said.{Said, accepted, refused, refusedBy, follow, offset, spot, Place, numberAt}
+use Rattle.refusal.specs.Said.{Said, accepted, refused, refusedBy, follow, offset, spot, Place, numberAt, besideAt}
 use Rattle.refusal.specs.declared.Refusal.{Refusal}
 use Rattle.refusal.proofs.Following.{never}
 use Rattle.text.specs.Find.{begins}
@@ -35,9 +35,10 @@ use Rattle.rewritten.specs.Claims.{Printing}
 use Rattle.rewritten.proofs.Long.{fault-small, all-lines, whole-short, longer-by-half, rewritten-most}
 
 -- ---- where a text is refused: a number of the table, and a line or a byte of a text
-record Placed (n : ℕ) (p : Place) : Type 0 where
-  number : n ≤ 14
-  place : numberAt p ≤ 65537
+pub record Placed (n : ℕ) (p : Place) : Type 0 where
+  pub number : n ≤ 14
+  pub place : numberAt p ≤ 65537
+  pub beside : besideAt p ≡ 0
 
 run-placed : (n : ℕ) (v : Policy) (ps : List Piece) {k : ℕ} {q : Place} → n + length ps ≤ 65538 → run obey n v ps ≡ refused k q → Placed k q
 unfolding run
@@ -51,7 +52,7 @@ run-placed n v (p ∷ ps) {k} {q} h e = by (fault (policyDirective p)) refl (run
         let b : refused (suc m) (spot n) ≡ refused k q = rw (z, run) at e in
         let i : suc m ≡ k = cc in
         let j : spot n ≡ q = cc in
-        record { number = omega (arith, fault-small p, z, i); place = omega (arith, ap numberAt j) }
+        record { number = omega (arith, fault-small p, z, i); place = omega (arith, ap numberAt j); beside = sym (ap besideAt j) }
 
 whole-placed : (s : List ℕ) {n : ℕ} {p : Place} → wholeText s ≡ refused n p → Placed n p
 unfolding wholeText
@@ -63,13 +64,14 @@ whole-placed s {n} {p} e = by (ltb textLimit (length s)) refl (ltb (upTo s) (len
     by true q u r e =
         let i : 14 ≡ n = cc in
         let j : spot 0 ≡ p = cc in
-        record { number = omega (arith, i); place = omega (arith, ap numberAt j) }
+        record { number = omega (arith, i); place = omega (arith, ap numberAt j); beside = sym (ap besideAt j) }
     by false q true r e =
         let i : 4 ≡ n = cc in
         let j : offset (upTo s) ≡ p = cc in
         record {
           number = omega (arith, i);
           place = omega (arith, ap numberAt j, ltb-false textLimit (length s) q, ltb-true (upTo s) (length s) r);
+          beside = sym (ap besideAt j);
         }
     by false q false r e = absurd (never (sym e))
 
@@ -77,7 +79,7 @@ unit-free : {m n : ℕ} {k p : Place} → _≡_ {A = Said Policy} (refused m k) 
     → _≡_ {A = Said (Unit {0})} (refused m k) (refused n p)
 unit-free {m} {n} {k} {p} e = let i : m ≡ n = cc in let j : k ≡ p = cc in rw (i, j)
 
-read-placed : (s : List ℕ) {n : ℕ} {p : Place} → readPolicy s ≡ refused n p → Placed n p
+pub read-placed : (s : List ℕ) {n : ℕ} {p : Place} → readPolicy s ≡ refused n p → Placed n p
 unfolding readPolicy readWith follow linesOf
 read-placed s {n} {p} e = by (wholeText s) refl e
   where

@@ -22,19 +22,19 @@ use Rattle.text.specs.Whole.{wholeText}
 use Rattle.table.specs.Table.{capacityOf, cells, laid, cellOf, rangeOf}
 use Rattle.table.specs.Entries.{entriesFrom}
 use Rattle.table.specs.Listing.{fitted}
-use Rattle.table.specs.Testing.{tested, firstFrom}
+use Rattle.table.specs.Testing.{tested, countFrom, firstFrom}
 use Rattle.table.specs.Walking.{turnOf, walkFrom}
 use Rattle.leb.specs.Groups.{uN, twos, grown, spent}
 use Rattle.leb.specs.Reads as Reads
 use Rattle.leb.specs.Reads.{toldAt, narrowed, ulebAt, u32At, part, byteAt, fixedAt, takeAt, countedAt, nameAt}
 use Rattle.kinds.specs.Kinds.{kindOf}
 use Rattle.wasm.specs.Entry.{funcAt, descAt, importAt, exportAt}
-use Rattle.wasm.specs.Rows.{importCells, exportCells, importsOf, exportsOf}
+use Rattle.wasm.specs.Rows.{descCells, importCells, exportCells, importsOf, exportsOf}
 use Rattle.wasm.specs.Module.{Parsed, noTables, magic, headerAt, contentsAt, addSection, sectionAt, moduleAt}
 use Rattle.wasm.specs.Shapes.{Export, func}
 use Rattle.conform.specs.Claims.{Bytes}
 use Rattle.conform.specs.Sound.{limits}
-use Rattle.import_rows.specs.Queries.{asked, kindIs, importFits, importsTested}
+use Rattle.import_rows.specs.Queries.{asked, kindIs, givenOf, numberFits, marked, descFits, kindFits, importFits, importsTested}
 use Rattle.domains.specs.Domain.{words, wordIn, domainOf, slugs, slug}
 use Rattle.domains.specs.Classify as Classify
 use Rattle.domains.specs.Classify.{classedBy, preview, heads, headOf, pathDomain, importDomain}
@@ -122,13 +122,15 @@ differ : Differs wider approved two one (entry Removed (exportB 1) ∷ []) []
     × Differs elsewhere turned one two (entry Added (exportB 0) ∷ []) back
     × Differs turned approved two one (entry Removed (exportB 0) ∷ []) []
     × Differs wider turned two two [] []
-unfolding exportDiff needDiff exportKeyAt needAt cmpExport cmpNeed exportOrder needOrder hasKey laid cells importCells exportCells cellOf
+unfolding exportDiff needDiff exportKeyAt needAt cmpExport cmpNeed exportOrder needOrder hasKey laid cells importCells descCells
+    exportCells cellOf
     rangeOf kindIs kindOf importDomain pathDomain headOf classedBy Classify.passes preview heads seek begins same indexOf cmpBytes
 differ = ((refl, refl), (refl, refl), (refl, refl), (refl, refl), (refl, refl))
 
 fine : (verdictOn (lists (viewed (build wider two)) (viewed (build turned two))) .compatible ≡ true)
     × (verdictOn (lists (viewed (build turned two)) (viewed (build wider two))) .compatible ≡ true)
 unfolding verdictOn exportDiff needDiff exportKeyAt needAt cmpExport cmpNeed exportOrder needOrder hasKey hasNo laid cells importCells
+    descCells
     exportCells cellOf rangeOf kindIs kindOf importDomain pathDomain headOf classedBy Classify.passes preview heads seek begins same indexOf
     cmpBytes
 fine = (refl, refl)
@@ -147,10 +149,11 @@ checked : (checkedOf (sole 2) clockAlone ≡ accepted (outcome clockPolicy (2 �
     × (checkedOf (sole 0) allButNetwork ≡ accepted (outcome (allBut 3) (0 ∷ [])))
     × (checkedOf (sole 0) clockAlone ≡ accepted (outcome clockPolicy (0 ∷ [])))
 unfolding sole witness slug slugs words wordIn domainOf checkedOf readThen heldTo weighed evaluated domainsTest firstPast moduleRows asked
-    importsTested tested firstFrom importFits fitted ulebAt u32At toldAt narrowed onward uN twos grown spent byteAt fixedAt takeAt countedAt
+    importsTested tested firstFrom importFits kindFits descFits marked numberFits countFrom givenOf fitted ulebAt u32At toldAt narrowed
+    onward uN twos grown spent byteAt fixedAt takeAt countedAt
     Reads.checked nameAt moduleAt headerAt magic same walkFrom walk turnOf relocated sectionAt contentsAt addSection capacityOf noTables importsOf
     exportsOf entriesFrom importAt exportAt descAt funcAt upTo scan seqLen after followers followIn covers utf8Table follow seek begins
-    indexOf laid cells importCells cellOf rangeOf kindIs importDomain pathDomain headOf classedBy Classify.passes preview heads
+    indexOf laid cells importCells descCells cellOf rangeOf kindIs importDomain pathDomain headOf classedBy Classify.passes preview heads
     readPolicy readWith wholeText run zeroPolicy stanceOf obey linesOf linesFrom lineLen lineStep crBefore policyDirective policyCore
     policySpoken policyWorded defaulted plainBy listedBy ruleDirective quotes shorn bare fault trim trimStart trimEnd startLen endLen chars
     charsFrom more moreBy codeOf codeBy isWhite whites inSome

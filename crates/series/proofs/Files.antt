@@ -20,10 +20,10 @@ use Rattle.differences.specs.View.{View, ExportKey, Need}
 use Rattle.differences.specs.Differences.{exportDiff, needDiff}
 use Rattle.differences.specs.Compared.{viewed, verdictOn}
 use Rattle.listed.specs.Comparisons.{Comparison, build, builds, comparison}
-use Rattle.standin.specs.Replacing.{keys, Reports}
+use Rattle.covering.specs.Replacing.{keys, Reports}
 use Rattle.standin.specs.Builds.{Build, view, buildsTold, last, Replaces, lastFile}
 use Rattle.standin.proofs.Builds.{read}
-use Rattle.standin.proofs.Views.{exports-removed, exports-added, needs-removed, needs-added}
+use Rattle.covering.proofs.Views.{exports-removed, exports-added, needs-removed, needs-added}
 use Rattle.standin.proofs.Limits.{left, whole, at-limits, full, same-exports, same-pairs}
 use Rattle.standin.proofs.Theorems.{explanation}
 use Rattle.standin.proofs.Files.{files-told}

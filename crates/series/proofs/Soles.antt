@@ -17,7 +17,7 @@ use Rattle.leb.specs.Groups.{uN, twos, grown, spent}
 use Rattle.leb.specs.Reads as Reads
 use Rattle.leb.specs.Reads.{toldAt, narrowed, ulebAt, u32At, part, byteAt, fixedAt, takeAt, countedAt, nameAt}
 use Rattle.wasm.specs.Entry.{funcAt, descAt, importAt}
-use Rattle.wasm.specs.Rows.{importCells, importsOf}
+use Rattle.wasm.specs.Rows.{descCells, importCells, importsOf}
 use Rattle.wasm.specs.Module.{Parsed, noTables, magic, headerAt, contentsAt, addSection, sectionAt, moduleAt, moduleOf, countsOf}
 use Rattle.wasm.specs.Shapes.{func}
 use Rattle.conform.specs.Claims.{Bytes}
@@ -80,7 +80,8 @@ abbrev pub soleBuild : (d : ℕ) → d < 7 → Build
 soleBuild d h = whole (sole d) (soleRead d) (sole-reads d h) (sole-bytes d h)
 
 pub sole-domains : (d : ℕ) (h : d < 7) → domains (soleBuild d h) ≡ d ∷ []
-unfolding sole whole left moduleOf countsOf needAt laid cells importCells cellOf rangeOf kindIs importDomain pathDomain headOf classedBy
+unfolding sole whole left moduleOf countsOf needAt laid cells importCells descCells cellOf rangeOf kindIs importDomain pathDomain headOf
+    classedBy
     Classify.passes preview heads seek begins same indexOf
 sole-domains zero h = refl
 sole-domains (suc zero) h = refl

@@ -15,11 +15,11 @@ use Rattle.differences.specs.declared.Change.the-variants.{Removed, Added}
 use Rattle.differences.specs.View.{View, ExportKey, Need}
 use Rattle.differences.specs.Differences.{Entry, exportDiff, needDiff}
 use Rattle.differences.specs.Compared.{Lists, lists, roomed, Verdict, verdictOn}
-use Rattle.standin.specs.Replacing.{keys, Reports}
+use Rattle.covering.specs.Replacing.{keys, Reports}
 use Rattle.standin.specs.Builds.{Build, view, exports, pairs, buildsCompared, StandsIn, last}
-use Rattle.standin.proofs.Differ.{known}
-use Rattle.standin.proofs.Orders.{of-exports, of-needs}
-use Rattle.standin.proofs.Views.{says, exports-removed, exports-added, needs-removed, needs-added}
+use Rattle.covering.proofs.Differ.{known}
+use Rattle.covering.proofs.Orders.{of-exports, of-needs}
+use Rattle.covering.proofs.Views.{says, exports-removed, exports-added, needs-removed, needs-added}
 use Rattle.standin.proofs.Builds.{compared-is}
 use Rattle.standin.proofs.Theorems.{replacement}
 use Rattle.series.specs.Steps.{here, there, SomeStep}

@@ -16,7 +16,7 @@ use Rattle.differences.specs.Differences.{exportDiff, needDiff}
 use Rattle.differences.specs.Compared.{Verdict}
 use Rattle.listed.specs.Comparisons.{Comparison, comparison}
 use Rattle.standin.specs.Passing.{Passes}
-use Rattle.standin.specs.Replacing.{Reports}
+use Rattle.covering.specs.Replacing.{Reports}
 use Rattle.standin.specs.Builds.{Build, view, buildsCompared, StandsIn, last, Meets, Clear, Replaces, lastFile}
 use Rattle.series.specs.Steps.{SomeStep, Answered, ExportReported, NeedReported, FileSeries}
 use Rattle.series.specs.Policies.{NoStricter, sole}

@@ -7,7 +7,7 @@ use Rattle.conform.specs.Claims.{Bytes}
 use Rattle.differences.specs.declared.Change.{Change}
 use Rattle.differences.specs.View.{ExportKey, Need}
 use Rattle.listed.specs.Comparisons.{Comparison, comparison}
-use Rattle.standin.specs.Replacing.{Reports}
+use Rattle.covering.specs.Replacing.{Reports}
 
 -- ---- any series: its first, and the others in order
 -- y comes right after x in the series of b and then cs

@@ -25,7 +25,9 @@ use Rattle.wasm.specs.Shapes.{Import, Export, func}
 use Rattle.wasm.specs.Rows.{importCells, exportCells}
 use Rattle.wasm.specs.Module.{Tables, Parsed, moduleAt, moduleOf, countsOf, tablesOf, Holds}
 use Rattle.conform.specs.Sound.{ImportOk, ExportOk, ModuleOk}
+use Rattle.wasm.proofs.Asked.{import-wide}
 use Rattle.conform.proofs.Sound.{rows-sound}
+use Rattle.conform.proofs.Asked.{rows-fit}
 use Rattle.conform.proofs.Exactly.{only-these}
 use Rattle.sorting.specs.Sort.{selected, upFrom}
 use Rattle.import_rows.specs.Queries.{kindIs, importFits, importsTested}
@@ -33,7 +35,8 @@ use Rattle.differences.specs.View.{exportKeyAt, needAt}
 use Rattle.differences.specs.View.{row as rowOf}
 use Rattle.differences.specs.Compared.{exportFits, exportsTested, tablesTested, lists, roomed, compared}
 use Rattle.standin.specs.Builds.{Build, handed, view}
-use Rattle.standin.proofs.Views.{keep-length}
+use Rattle.covering.proofs.Views.{keep-length}
+use Rattle.standin.proofs.Fitting.{row-fits}
 
 -- ---- tables whose rows are all good
 all-good : (test : ℕ → Bool) (i k : ℕ) → ((j : ℕ) → i ≤ j → j < i + k → test j ≡ false) → firstFrom test i k ≡ accepted tt
@@ -69,10 +72,6 @@ noImport = record { «module» = part 0 0; field = part 0 0; kind = 0; desc = fu
 pub noExport : Export
 noExport = record { name = part 0 0; kind = 0; index = 0 }
 
-pub import-wide : (r : Import) → length (importCells r) ≡ width 2
-unfolding importCells
-import-wide r = refl
-
 export-wide : (r : Export) → length (exportCells r) ≡ width 3
 unfolding exportCells
 export-wide r = refl
@@ -101,7 +100,7 @@ module _ (m n : ℕ) (rows : List Import) (ok : Each (ImportOk m) rows) where
       (omega (arith, r .module-in, import-cell n rows i 0 h (omega arith), import-cell n rows i 1 h (omega arith)))
       (fits (cellIn 2 imported i 2) (cellIn 2 imported i 3)
       (omega (arith, r .field-in, import-cell n rows i 2 h (omega arith), import-cell n rows i 3 h (omega arith)))
-      (le-leb (cellIn 2 imported i 4) 255 (omega (arith, r .kind-small, import-cell n rows i 4 h (omega arith))))))
+      (row-fits imported i _ (λ j l. import-cell n rows i (suc (suc (suc (suc j)))) h (omega arith)) (rows-fit m _ r))))
 
   pub imports-good : length rows ≤ capacityIn 2 n → importsTested m imported (length rows) ≡ accepted tt
   unfolding importsTested

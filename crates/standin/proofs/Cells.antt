@@ -17,7 +17,7 @@ use Rattle.differences.specs.declared.Change.the-variants.{Removed, Added}
 use Rattle.differences.specs.View.{ExportKey, Need}
 use Rattle.differences.specs.Differences.{Entry, entry}
 use Rattle.differences.specs.Compared.{changeNumber, exportDiffCells, needDiffCells}
-use Rattle.standin.specs.Replacing.{other, reversed}
+use Rattle.covering.specs.Replacing.{other, reversed}
 use Rattle.standin.specs.Claims.{CellsExchanged}
 
 -- past the rows of a table every cell is zero

@@ -26,12 +26,12 @@ use Rattle.differences.specs.View.{Need, Row, row, needAt}
 use Rattle.import_rows.specs.Queries.{asked, kindIs, importsTested}
 use Rattle.requirements.specs.Requirements.{functionRows, rowDomain, moduleRows}
 use Rattle.table.specs.Listing.{fitted}
-use Rattle.standin.specs.Replacing.{keys}
+use Rattle.covering.specs.Replacing.{keys}
 use Rattle.standin.specs.Passing.{Allows, Passes}
 use Rattle.standin.specs.Builds.{Build, view, pairs, domains, Meets}
 use Rattle.standin.proofs.Passing.{allows-passes, passes-allows}
-use Rattle.standin.proofs.Differ.{map-mem}
-use Rattle.standin.proofs.Views.{keep-length}
+use Rattle.covering.proofs.Differ.{map-mem}
+use Rattle.covering.proofs.Views.{keep-length}
 use Rattle.standin.proofs.Builds.{up-length, short, imports-tested, few-imports}
 
 -- ---- classification gives the number of a domain

@@ -25,7 +25,7 @@ use Rattle.text.specs.Whole.{wholeText}
 use Rattle.table.specs.Table.{capacityOf, cells, laid, cellOf, rangeOf}
 use Rattle.table.specs.Entries.{entriesFrom}
 use Rattle.table.specs.Listing.{fitted}
-use Rattle.table.specs.Testing.{tested, firstFrom}
+use Rattle.table.specs.Testing.{tested, countFrom, firstFrom}
 use Rattle.table.specs.Walking.{turnOf, walkFrom}
 use Rattle.sorting.specs.Sort.{_∈_}
 use Rattle.leb.specs.Groups.{uN, twos, grown, spent}
@@ -33,12 +33,12 @@ use Rattle.leb.specs.Reads as Reads
 use Rattle.leb.specs.Reads.{toldAt, narrowed, ulebAt, u32At, part, byteAt, fixedAt, takeAt, countedAt, nameAt}
 use Rattle.kinds.specs.Kinds.{kindOf}
 use Rattle.wasm.specs.Entry.{funcAt, descAt, importAt, exportAt}
-use Rattle.wasm.specs.Rows.{importCells, exportCells, importsOf, exportsOf}
+use Rattle.wasm.specs.Rows.{descCells, importCells, exportCells, importsOf, exportsOf}
 use Rattle.wasm.specs.Module.{Parsed, noTables, magic, headerAt, contentsAt, addSection, sectionAt, moduleAt, moduleOf, countsOf}
 use Rattle.wasm.specs.Shapes.{Section, Import, Export, func}
 use Rattle.conform.specs.Claims.{Bytes}
 use Rattle.conform.specs.Sound.{limits}
-use Rattle.import_rows.specs.Queries.{asked, kindIs, importFits, importsTested}
+use Rattle.import_rows.specs.Queries.{asked, kindIs, givenOf, numberFits, marked, descFits, kindFits, importFits, importsTested}
 use Rattle.domains.specs.Classify as Classify
 use Rattle.domains.specs.Classify.{classedBy, preview, heads, headOf, pathDomain, importDomain}
 use Rattle.policy.specs.declared.Policy.{Policy}
@@ -118,6 +118,7 @@ fine f m g n = verdictOn (lists (viewed (build f m)) (viewed (build g n))) .comp
 judged : (fine approved readApproved wider readWider ≡ true) × (fine wider readWider approved readApproved ≡ false)
     × (fine approved readApproved elsewhere readApproved ≡ false) × (fine elsewhere readApproved approved readApproved ≡ false)
 unfolding verdictOn exportDiff needDiff exportKeyAt needAt cmpExport cmpNeed exportOrder needOrder hasKey hasNo laid cells importCells
+    descCells
     exportCells cellOf rangeOf kindIs kindOf importDomain pathDomain headOf classedBy Classify.passes preview heads seek begins same indexOf
     cmpBytes
 judged = (refl, refl, refl, refl)
@@ -138,7 +139,8 @@ abbrev second : Build
 second = whole elsewhere readApproved (reads .2) (bytes .2)
 
 one-domain : (domains first ≡ 6 ∷ []) × (domains second ≡ 6 ∷ [])
-unfolding whole left moduleOf countsOf needAt laid cells importCells cellOf rangeOf kindIs importDomain pathDomain headOf classedBy
+unfolding whole left moduleOf countsOf needAt laid cells importCells descCells cellOf rangeOf kindIs importDomain pathDomain headOf
+    classedBy
     Classify.passes preview heads seek begins same indexOf
 one-domain = (refl, refl)
 
@@ -163,10 +165,11 @@ policyBy t =
 checked : (checkedOf approved (defaultW ++ allow) ≡ accepted (outcome (policyBy true) (6 ∷ [])))
     × (checkedOf approved [] ≡ accepted (outcome (policyBy false) (6 ∷ [])))
 unfolding checkedOf readThen heldTo weighed evaluated domainsTest firstPast moduleRows asked importsTested tested firstFrom importFits
+    kindFits descFits marked numberFits countFrom givenOf
     fitted ulebAt u32At toldAt narrowed onward uN twos grown spent byteAt fixedAt takeAt countedAt Reads.checked nameAt moduleAt headerAt
     relocated magic same walkFrom walk turnOf sectionAt contentsAt addSection capacityOf noTables importsOf exportsOf entriesFrom
     importAt exportAt descAt funcAt upTo scan seqLen after followers followIn covers utf8Table follow seek begins indexOf
-    laid cells importCells cellOf rangeOf kindIs importDomain pathDomain headOf classedBy Classify.passes preview heads
+    laid cells importCells descCells cellOf rangeOf kindIs importDomain pathDomain headOf classedBy Classify.passes preview heads
     readPolicy readWith wholeText run zeroPolicy obey linesOf linesFrom lineLen lineStep crBefore policyDirective policyCore policySpoken
     policyWorded defaulted fault trim trimStart trimEnd startLen endLen chars charsFrom more moreBy codeOf codeBy isWhite whites inSome
 checked = (refl, refl)

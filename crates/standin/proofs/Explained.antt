@@ -29,11 +29,11 @@ use Rattle.differences.specs.Compared.{changeNumber, exportDiffCells, needDiffC
 use Rattle.reasons.specs.Reasons.{exportDiffFits, needDiffFits, exportDiffsTested, needDiffsTested}
 use Rattle.reasons.specs.Reasons.{diffsTested, reasonsTested}
 use Rattle.listed.specs.Comparisons.{tabled, explained}
-use Rattle.standin.specs.Replacing.{IsChange}
+use Rattle.covering.specs.Replacing.{IsChange}
 use Rattle.standin.specs.Builds.{withReasons}
-use Rattle.standin.proofs.Differ.{map-mem, changes-mem}
-use Rattle.standin.proofs.Orders.{of-needs}
-use Rattle.standin.proofs.Views.{exports-each}
+use Rattle.covering.proofs.Differ.{map-mem, changes-mem}
+use Rattle.covering.proofs.Orders.{of-needs}
+use Rattle.covering.proofs.Views.{exports-each}
 use Rattle.standin.proofs.Builds.{rows-good}
 use Rattle.standin.proofs.Domains.{need-small}
 

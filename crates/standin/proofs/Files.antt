@@ -22,7 +22,7 @@ use Rattle.listed.specs.Comparisons.{Comparison, build, builds, comparison}
 use Rattle.policy.specs.declared.Policy.{Policy}
 use Rattle.standin.specs.Builds.{Build, view, StandsIn, buildsTold, Read, Meets, Clear, Replaces, FileChain, lastFile, Stood}
 use Rattle.standin.specs.Claims.{OfFiles}
-use Rattle.standin.proofs.Views.{says}
+use Rattle.covering.proofs.Views.{says}
 use Rattle.standin.proofs.Builds.{read, short}
 use Rattle.standin.proofs.Limits.{left, whole, at-limits, full, same-exports, same-pairs, meets-clear, clear-meets}
 use Rattle.standin.proofs.Theorems.{replacement, explanation}

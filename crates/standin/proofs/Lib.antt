@@ -1,9 +1,6 @@
 -- The proofs of the statements.
 pub mod Passing
-pub mod Differ
-pub mod Orders
-pub mod Lowest
-pub mod Views
+pub mod Fitting
 pub mod Builds
 pub mod Domains
 pub mod Limits

@@ -30,16 +30,17 @@ use Rattle.differences.specs.Compared.{Lists, lists, roomed, compared, Verdict,
 use Rattle.differences.specs.Compared.{Compares}
 use Rattle.listed.specs.Comparisons.{explained, build, against, builds}
 use Rattle.standin.specs.Passing.{witness}
-use Rattle.standin.specs.Replacing.{reversed}
-use Rattle.standin.specs.Builds.{Build, handed, view, domains, pairs, buildsCompared, StandsIn, Chain, last, exchanged}
+use Rattle.covering.specs.Replacing.{reversed, Rising}
+use Rattle.covering.specs.Covering.{exchanged}
+use Rattle.standin.specs.Builds.{Build, handed, view, domains, pairs, buildsCompared, StandsIn, Chain, last}
 use Rattle.standin.specs.Builds.{buildsTold, Read, Meets, Clear}
 use Rattle.standin.specs.Claims.{WithRoom, CellsExchanged, lentCompared, Covers, Replacement, Listing, Explanation, FailSafe}
 use Rattle.standin.proofs.Cells.{export-cells, need-cells}
 use Rattle.standin.proofs.Passing.{allBut, witness-reads, but-denied, but-allowed}
-use Rattle.standin.proofs.Differ.{mem-map, map-mem}
-use Rattle.standin.proofs.Lowest.{Rising, rising-rows, lowest-each}
-use Rattle.standin.proofs.Views.{few-changes, says, exports-exchange, needs-exchange, exports-ascend, needs-ascend, exports-each}
-use Rattle.standin.proofs.Views.{exports-removed, exports-added, needs-removed, needs-added}
+use Rattle.covering.proofs.Differ.{mem-map, map-mem}
+use Rattle.covering.proofs.Lowest.{rising-rows, lowest-each}
+use Rattle.covering.proofs.Views.{few-changes, says, exports-exchange, needs-exchange, exports-ascend, needs-ascend, exports-each}
+use Rattle.covering.proofs.Views.{exports-removed, exports-added, needs-removed, needs-added}
 use Rattle.standin.proofs.Builds.{view-exports, view-needs, compared-is}
 use Rattle.standin.proofs.Limits.{left, whole, clear-reads, meets-clear, clear-meets}
 use Rattle.standin.proofs.Explained.{lists-pass, explained-lists}

@@ -20,7 +20,7 @@ use Rattle.differences.specs.Compared.{Given, given, viewed, Lists, lists, comp
 use Rattle.reasons.specs.Reasons.{reasonsOf}
 use Rattle.listed.specs.Comparisons.{Comparison, tabled, comparison}
 use Rattle.standin.specs.Passing.{Passes}
-use Rattle.standin.specs.Replacing.{keys, reversed}
+use Rattle.covering.specs.Replacing.{keys}
 
 -- ---- reading
 -- a file that `read_module` accepted with tables of some sizes: its answer, and the tables as its promise says that it leaves them
@@ -68,10 +68,6 @@ Chain b (c ∷ cs) = StandsIn b c × Chain c cs
 abbrev pub last : Build → List Build → Build
 last b [] = b
 last b (c ∷ cs) = last c cs
-
--- the lists with the two modules exchanged
-abbrev pub exchanged : Lists → Lists
-exchanged l = record { exports = map reversed (l .exports); needs = map reversed (l .needs) }
 
 -- ---- explaining
 -- lists of two modules, and the reasons that their rows give

@@ -21,9 +21,10 @@ use Rattle.conform.specs.Claims.{Bytes}
 use Rattle.conform.specs.Sound.{limits}
 use Rattle.reasons.specs.Reasons.{reasonsTested}
 use Rattle.listed.specs.Comparisons.{tabled, explained, build, builds}
-use Rattle.standin.specs.Replacing.{Reports, IsChange, IsLowest}
+use Rattle.covering.specs.Replacing.{Reports, IsChange, IsLowest}
+use Rattle.covering.specs.Covering.{ViewCovers, exchanged}
 use Rattle.standin.specs.Builds.{Build, handed, view, exports, pairs, domains, buildsCompared, StandsIn, Chain, last}
-use Rattle.standin.specs.Builds.{exchanged, withReasons, buildsTold, Read, Meets, Clear, Replaces, FileChain, lastFile, Stood}
+use Rattle.standin.specs.Builds.{withReasons, buildsTold, Read, Meets, Clear, Replaces, FileChain, lastFile, Stood}
 
 -- The registry's first question: bytes in, verdict out.
 pub record OfFiles : Type 0 where
@@ -40,9 +41,8 @@ pub record OfFiles : Type 0 where
   pub checks : (f : List ℕ) (gs : List (List ℕ)) → Bytes f → FileChain f gs → (text : List ℕ) → Clear f text → Clear (lastFile f gs) text
 
 -- c has every export of b, by name and kind, and its function imports need no pair of domain and source that those of b do not
-pub record Covers (b c : Build) : Type 0 where
-  pub has : (e : ExportKey) → e ∈ exports b → e ∈ exports c
-  pub needs : (n : Need) → n ∈ pairs c → n ∈ pairs b
+abbrev pub Covers : Build → Build → Type 0
+Covers b c = ViewCovers (view b) (view c)
 
 -- What a comparison answers with less room: of two builds, with room for so many rows in tables 8 and 9.
 pub record WithRoom (b c : Build) (room8 room9 : ℕ) : Type 0 where

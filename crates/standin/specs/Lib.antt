@@ -1,6 +1,5 @@
 -- What a replacement keeps: the statements.
 pub mod Passing
-pub mod Replacing
 pub mod Builds
 pub mod Claims
 pub mod Examples

@@ -1,7 +1,7 @@
--- Laws of the second walk: a number of one byte or two, a run of entries, a frame, a custom section. Assumes nothing.
+-- Laws of the second walk: a number of one byte, two or four, a run of entries, a frame, a custom section. Assumes nothing.
 use Prim.Native.Nat.{ℕ, suc, _+_, _-_, _*_, _≤_, _<_}
 use native.Mathlib.Omega.{arith}
-use mathlib.Core.Path.{_≡_, sym, _∙_, ap}
+use mathlib.Core.Path.{_≡_, refl, sym, _∙_, ap}
 use mathlib.Core.Bool.{true, false}
 use mathlib.Core.List.{List, _∷_}
 use lib.ListN.{length, getD, drop}
@@ -47,6 +47,41 @@ two-bytes s at {v} h a b c e =
       two-left s at h,
       two-groups (getD s at 0) (getD s (at + 1) 0) (drop (at + 1 + 1) s) a c,
       le-leb (128 * getD s (at + 1) 0 + (getD s at 0 - 128)) 4294967295 (omega arith),
+    )
+
+-- and of four
+four-groups : (x y z w : ℕ) (l : List ℕ) → 128 ≤ x → 128 ≤ y → 128 ≤ z → w < 128
+    → uN 64 (x ∷ y ∷ z ∷ w ∷ l) ≡ value (128 * (128 * (128 * w + (z - 128)) + (y - 128)) + (x - 128)) 4
+unfolding uN grown
+four-groups x y z w l a b c d =
+    rw (le-ltb x 128 a, le-ltb y 128 b, le-ltb z 128 c, lt-ltb w 128 d, lt-ltb w 8796093022208 (omega arith))
+
+one-left : (s : List ℕ) (at next : ℕ) → at < length s → next ≡ at + 1 → drop at s ≡ getD s at 0 ∷ drop next s
+one-left s at next h e = rw e (left-next s at h)
+
+four-left : (s : List ℕ) (at : ℕ) → at + 3 < length s
+    → drop at s ≡ getD s at 0 ∷ getD s (at + 1) 0 ∷ getD s (at + 2) 0 ∷ getD s (at + 3) 0 ∷ drop (at + 4) s
+four-left s at h =
+    one-left s at (at + 1) (omega arith) refl
+    ∙ ap (λ (l : List ℕ). getD s at 0 ∷ l) (one-left s (at + 1) (at + 2) (omega arith) (omega arith)
+    ∙ ap (λ (l : List ℕ). getD s (at + 1) 0 ∷ l) (one-left s (at + 2) (at + 3) (omega arith) (omega arith)
+    ∙ ap (λ (l : List ℕ). getD s (at + 2) 0 ∷ l) (one-left s (at + 3) (at + 4) h (omega arith))))
+
+pub four-bytes : (s : List ℕ) (at x y z w : ℕ) {v : ℕ} → at + 3 < length s → x ≡ getD s at 0 → y ≡ getD s (at + 1) 0
+    → z ≡ getD s (at + 2) 0 → w ≡ getD s (at + 3) 0 → 128 ≤ x → 128 ≤ y → 128 ≤ z → w < 128 → x < 256 → y < 256 → z < 256
+    → v ≡ x + 128 * y + 16384 * z + 2097152 * w - 2113664 → accepted (got v (at + 4)) ≡ u32At s at
+unfolding u32At ulebAt toldAt onward narrowed
+four-bytes s at x y z w {v} h ex ey ez ew a b c d xs ys zs e =
+    let sum : v ≡ 128 * (128 * (128 * w + (z - 128)) + (y - 128)) + (x - 128) = omega (arith, e) in
+    rw (
+      sum,
+      four-left s at h,
+      sym ex,
+      sym ey,
+      sym ez,
+      sym ew,
+      four-groups x y z w (drop (at + 4) s) a b c d,
+      le-leb (128 * (128 * (128 * w + (z - 128)) + (y - 128)) + (x - 128)) 4294967295 (omega arith),
     )
 
 -- ---- entries

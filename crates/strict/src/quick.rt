@@ -30,9 +30,9 @@ pub(crate) const FIRST_SPOT: usize = 8;
 const BLOCK: usize = 64;
 
 // Up to so many names, marks of so many places: cleared in no time against a read of as many exports.
-const FEW: usize = 16;
+pub(crate) const FEW: usize = 16;
 
-const FEW_PLACES: usize = 512;
+pub(crate) const FEW_PLACES: usize = 1024;
 
 const SOME: usize = 128;
 
@@ -146,7 +146,7 @@ fn note(marks: &mut [u8], last: usize, print: usize)
 }
 
 // From the last name to the first, each print is new.
-fn all_new(
+pub(crate) fn all_new(
     file: &[u8],
     exports: &[usize],
     n: usize,

@@ -1,6 +1,9 @@
 // The eight rules, of the rows that a plain read leaves and of the marks of the second walk.
 use crate::again::Marks;
+use crate::quick::FEW;
+use crate::quick::FEW_PLACES;
 use crate::quick::FIRST_SPOT;
+use crate::quick::all_new;
 use crate::quick::parting_of;
 use crate::quick::surely_differ;
 use sorting::Sorted;
@@ -102,24 +105,38 @@ fn sorted_differ(file: &[u8], exports: &[usize], n: usize) -> bool
     }
 }
 
-// The same by quick looks, at the ends of the names and then where two of them part; they are sorted where these do not tell. A function
-// that calls itself is not merged with the ones that it calls: so the pages of marks and of the sort are not touched where they are not used.
-fn names_differ(file: &[u8], sort: bool, exports: &[usize], n: usize) -> bool
+// The same by quick looks: few names were looked at already. They are sorted where these do not tell.
+fn looked_differ(file: &[u8], exports: &[usize], n: usize) -> bool
+    requires { ⌜ n ≤ limit 3 ⌝ }
+    ensures { λ r. ⌜ r ≡ different (namesOf (now (file .entry)) (now (exports .entry)) n) ⌝ }
+{
+    if n > FEW && surely_differ(file, exports, n, FIRST_SPOT) {
+        return true;
+    }
+    let spot = parting_of(file, exports, n);
+    if surely_differ(file, exports, n, spot) {
+        return true;
+    }
+    sorted_differ(file, exports, n)
+}
+
+// The same by a first look at few names, and by more where that does not tell. A function that calls itself and has more than 1,024 bytes
+// of its own is not merged with others: so the pages of more marks and of the sort are not touched where they are not used.
+fn names_differ(file: &[u8], more: bool, exports: &[usize], n: usize) -> bool
     requires { ⌜ n ≤ limit 3 ⌝ }
     ensures { λ r. ⌜ r ≡ different (namesOf (now (file .entry)) (now (exports .entry)) n) ⌝ }
 {
     if n < 2 {
         return true;
     }
-    if sort {
-        return sorted_differ(file, exports, n);
+    if more {
+        return looked_differ(file, exports, n);
     }
-    if surely_differ(file, exports, n, FIRST_SPOT) {
-        return true;
-    }
-    let spot = parting_of(file, exports, n);
-    if surely_differ(file, exports, n, spot) {
-        return true;
+    if n <= FEW {
+        let mut marks = [0u8; FEW_PLACES];
+        if all_new(file, exports, n, FIRST_SPOT, &mut marks, FEW_PLACES - 1) {
+            return true;
+        }
     }
     names_differ(file, true, exports, n)
 }

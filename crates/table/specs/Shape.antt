@@ -10,8 +10,9 @@ abbrev pub width : ℕ → ℕ
 width t =
     -- sections: id; payload: from, size; a custom section's name: from, length
     pick (eqb t 1) 5
-    -- imports: module: from, length; field: from, length; kind
-    (pick (eqb t 2) 5
+    -- imports: module: from, length; field: from, length; kind; what is asked for: type index; type byte; flag, least, most;
+    -- mutability; and which of these six are given
+    (pick (eqb t 2) 12
     -- exports: name: from, length; kind; index
     (pick (eqb t 3) 4
     -- function names: index; name: from, length

@@ -8,8 +8,9 @@ pub const MAX_SECTIONS: usize = 256;
 
 pub const SECTION_CELLS: usize = MAX_SECTIONS * SECTION_WIDTH;
 
-// 2, imports: module: from, length; field: from, length; kind.
-pub const IMPORT_WIDTH: usize = 5;
+// 2, imports: module: from, length; field: from, length; kind; what is asked for: type index; type byte; flag, least, most;
+// mutability; and which of these six are given.
+pub const IMPORT_WIDTH: usize = 12;
 
 pub const MAX_IMPORTS: usize = 1024;
 

@@ -17,7 +17,7 @@ macro_rules! as_in_c {
     };
 }
 
-pub const INTERFACE: u32 = 3;
+pub const INTERFACE: u32 = 4;
 
 pub mod stack {
     #![allow(missing_docs)]
@@ -26,11 +26,11 @@ pub mod stack {
     pub const TOKEN: usize = 4096;
     pub const TOKENS: usize = 4096;
     pub const REWRITE: usize = 4096;
-    pub const CHECK: usize = 196608;
-    pub const STRICT: usize = 335872;
-    pub const MODULE: usize = 188416;
+    pub const CHECK: usize = 253952;
+    pub const STRICT: usize = 319488;
+    pub const MODULE: usize = 245760;
     pub const MANIFEST: usize = 77824;
-    pub const COMPARE: usize = 712704;
+    pub const COMPARE: usize = 512000;
 }
 
 as_in_c! {

@@ -53,6 +53,13 @@ pub const CASES: [(&str, u32, fn() -> Case); 38] = [
     ("compare: 1,000 + 1,000, all differ", 2, || compare(inputs::build(0), inputs::build(1))),
     ("compare: 1,000 exports of 16 KiB, equal", 0, || compare(inputs::long_exports(0), inputs::long_exports(0))),
     ("compare: 1,000 exports of 16 KiB, all differ at the end", 0, || compare(inputs::long_exports(0), inputs::long_exports(1))),
+    ("compare: 1,000 exports of 16 KiB, reversed, equal", 0, || compare(inputs::turned(0, false), inputs::turned(0, false))),
+    ("compare: 1,000 exports of 16 KiB, reversed, all differ", 0, || compare(inputs::turned(0, false), inputs::turned(1, false))),
+    ("compare: 1,000 exports of 16 KiB, organ-pipe, equal", 0, || compare(inputs::turned(0, true), inputs::turned(0, true))),
+    ("compare: 1,000 exports of 16 KiB, organ-pipe, all differ", 0, || compare(inputs::turned(0, true), inputs::turned(1, true))),
+    ("compare: 1,000 exports, prefixes of each other", 0, || compare(inputs::prefixes(0), inputs::prefixes(1))),
+    ("compare: 1,000 exports of 16 KiB, one print, equal", 0, || compare(inputs::one_print(0), inputs::one_print(0))),
+    ("compare: 1,000 exports of 16 KiB, one print, all differ", 0, || compare(inputs::one_print(0), inputs::one_print(1))),
     ("compare: 1,000 imports of 16 KiB, equal", 0, || compare(inputs::long_imports(0), inputs::long_imports(0))),
     ("compare: 1,000 imports of 16 KiB, all differ at the end", 0, || compare(inputs::long_imports(0), inputs::long_imports(1))),
     ("compare: 1,000 exports of 16 KiB, made to be slow", 0, || compare(inputs::hostile_exports(0), inputs::hostile_exports(1))),
@@ -151,10 +158,10 @@ fn strict(file: Vec<u8>, rule: usize) -> Case {
 /// The same over the C interface: the rows one table after another in a buffer that takes those of any module.
 fn listed(file: Vec<u8>) -> Case {
     let (a, b) = (file.clone(), file.clone());
-    let mut rows = vec![0; 8 * 22_784];
+    let mut rows = vec![0; 8 * 29_952];
     Case {
         said: Box::new(move || {
-            let mut rows = vec![0; 8 * 22_784];
+            let mut rows = vec![0; 8 * 29_952];
             let m = port::listed(&file, &mut rows);
             let mut cells = rows[..m.bytes].chunks_exact(8).map(|c| u64::from_le_bytes(c.try_into().unwrap()) as usize);
             let counts = [m.module.sections, m.module.imports, m.module.exports, m.module.symbols];

@@ -90,6 +90,30 @@ pub fn surface_1000() -> Vec<u8> {
     surface(&imports, &exports("exported_function", 0, 1000, 1))
 }
 
+/// The same, from the last to the first, or upwards in every second and back down in the others.
+pub fn turned(side: usize, pipe: bool) -> Vec<u8> {
+    let mut names = exports(&"p".repeat(16_384 - 6), side, 1000, 2);
+    names.reverse();
+    if pipe {
+        let (up, down) = (names.iter().rev().step_by(2), names.iter().step_by(2));
+        names = up.chain(down).cloned().collect();
+    }
+    surface(&[], &names)
+}
+
+/// 1,000 exports of about 16 KiB, each the start of all that are longer.
+pub fn prefixes(side: usize) -> Vec<u8> {
+    let names: Vec<_> = (0..1000).map(|i| "p".repeat(15_284 + 2 * i + side)).collect();
+    surface(&[], &names)
+}
+
+/// 1,000 exports of 16 KiB each that differ just before their last sixteen bytes: lengths and ends are the same, so all have one print.
+pub fn one_print(side: usize) -> Vec<u8> {
+    let end = "p".repeat(16);
+    let names: Vec<_> = exports(&"p".repeat(16_384 - 6 - 16), side, 1000, 2).iter().map(|n| format!("{n}{end}")).collect();
+    surface(&[], &names)
+}
+
 /// 1,000 imports from sources of 16 KiB each, in sequences of one to four bytes.
 pub fn long_names() -> Vec<u8> {
     let source = MIXED.repeat(16_384 / MIXED.len());
@@ -191,7 +215,7 @@ pub fn long_imports(side: usize) -> Vec<u8> {
     file
 }
 
-/// Two texts that the comparison's fingerprint does not tell apart, whatever stands before and after them.
+/// Two texts that a polynomial of the bytes, which the comparison once had for a print, does not tell apart, whatever stands around them.
 const TWINS: [&str; 2] = ["43460j88a8", "h58vhzjl2u"];
 
 fn fingerprint(s: &str) -> u64 {

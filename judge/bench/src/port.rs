@@ -160,7 +160,7 @@ fn answered<T>(call: impl FnOnce(*mut T)) -> T {
 
 /// Tables 1 to 4, and the cells to a row.
 pub struct Tables(pub [Vec<usize>; 4]);
-pub const WIDTHS: [usize; 4] = [5, 5, 4, 3];
+pub const WIDTHS: [usize; 4] = [5, 12, 4, 3];
 
 impl Tables {
     pub fn of(rows: [usize; 4]) -> Tables {

@@ -1,10 +1,8 @@
 //! Numbers that are bad in each way, nearly bad ones and good ones, in every place of a module where a number is read.
-use super::modules::{plain, HEADER};
+use super::modules::{plain, FULL, HEADER};
 use crate::case::{Call, Case};
 use crate::Court;
 
-/// Cells of tables at their limits.
-const FULL: [u64; 4] = [1280, 5120, 4096, 12288];
 /// An import's two names, before its kind.
 const NAMES: &[u8] = b"\x01m\x01f";
 

@@ -1,6 +1,8 @@
 //! compat.rs: two modules, as files and as tables that are handed in.
+use super::asked::{descriptor, rows_of};
 use super::damaged;
 use super::modules::{plain, HEADER};
+use crate::asked::WIDTH;
 use crate::case::{Call, Case};
 use crate::random::Random;
 use crate::says::LONGEST_MODULE;
@@ -21,7 +23,7 @@ fn named(name: &[u8]) -> Vec<u8> {
 }
 
 fn import(r: &mut Random) -> Vec<u8> {
-    let kind = if r.one_in(5) { vec![3, 0x7f, 0] } else { vec![0, 0] };
+    let kind = if r.one_in(5) { vec![3, 0x7f, 0] } else { vec![0, r.below(3) as u8] };
     [named(NAMES[r.below(8)]), named(FIELDS[r.below(5)]), kind].concat()
 }
 
@@ -67,8 +69,19 @@ pub struct Tables {
 }
 
 impl Tables {
+    /// Of imports the ranges and the kind, five cells each: what they ask for is made up, another thing for each.
     pub fn of(imports: Vec<u64>, exports: Vec<u64>) -> Tables {
-        let counts = [imports.len() as u64 / 5, exports.len() as u64 / 4];
+        Tables::whole(rows_of(&imports), exports)
+    }
+
+    /// Cells of table 2 and a count, whatever they are.
+    pub fn counted(imports: Vec<u64>, count: u64) -> Tables {
+        Tables { imports, exports: Vec::new(), counts: [count, 0] }
+    }
+
+    /// Whole rows of both.
+    pub fn whole(imports: Vec<u64>, exports: Vec<u64>) -> Tables {
+        let counts = [(imports.len() / WIDTH) as u64, exports.len() as u64 / 4];
         Tables { imports, exports, counts }
     }
 }
@@ -115,16 +128,18 @@ fn some_tables(file: &[u8], r: &mut Random) -> Tables {
     let mut imports = Vec::new();
     for _ in 0..r.below(6) {
         imports.extend([range(file, r), range(file, r)].concat());
-        imports.push(if r.one_in(3) { kind(r) } else { 0 });
+        let kind = if r.one_in(3) { kind(r) } else { 0 };
+        imports.push(kind);
+        imports.extend(descriptor(kind, r));
     }
     let mut exports = Vec::new();
     for _ in 0..r.below(7) {
         exports.extend(range(file, r));
         exports.extend([kind(r), r.below(3) as u64]);
     }
-    let mut out = Tables::of(imports, exports);
+    let mut out = Tables::whole(imports, exports);
     // room that no count speaks of, with anything in it, and counts beyond the room
-    out.imports.extend((0..if r.one_in(4) { r.below(12) } else { 0 }).map(|i| i as u64));
+    out.imports.extend((0..if r.one_in(4) { r.below(30) } else { 0 }).map(|i| i as u64));
     out.exports.extend((0..if r.one_in(4) { r.below(12) } else { 0 }).map(|i| i as u64));
     for n in &mut out.counts {
         match r.below(20) {
@@ -209,7 +224,7 @@ pub fn fixed(court: &mut Court) {
 fn rooms(court: &mut Court) {
     let file = b"abcd";
     let roomy = |mut t: Tables| {
-        t.imports.extend([9; 30]);
+        t.imports.extend([9; 50]);
         t.exports.extend([9; 24]);
         t
     };
@@ -278,15 +293,18 @@ fn repeats(court: &mut Court) {
     }
 }
 
-/// 14, then 15 in each of the four tables (a count, a range, a kind), then 13 of table 8, then of table 9: every two of them at once.
+/// 14, then 15 in each of the four tables (a count, a range, a kind, a descriptor), then 13 of table 8, then of table 9: every two of them
+/// at once.
 fn order(court: &mut Court) {
     let good = || Tables::of(sources(0..2), letters(0..2));
     let none = Tables::default;
-    let faults: [fn(&mut Tables); 7] = [
+    let faults: [fn(&mut Tables); 9] = [
         |t| t.counts[0] = 3,
-        |t| t.imports[5] = 9,
+        |t| t.imports[WIDTH] = 9,
         |t| t.imports[2] = 9,
         |t| t.imports[4] = 256,
+        |t| t.imports[WIDTH + 6] = 1,
+        |t| t.imports[11] = 3,
         |t| t.counts[1] = 3,
         |t| t.exports[1] = 9,
         |t| t.exports[6] = 256,
@@ -354,7 +372,7 @@ fn limits(court: &mut Court) {
 
 /// A row below its count and its capacity, whose range lies in its file: each at its edge.
 fn many_names(court: &mut Court) {
-    for (call, width) in [(Call::ExportName, 4), (Call::SourceName, 5)] {
+    for (call, width) in [(Call::ExportName, 4), (Call::SourceName, WIDTH)] {
         let row = |from: u64, len: u64| [vec![from, len], vec![7; width - 2]].concat();
         let cells = [row(0, 2), row(1, 1), row(2, 0), row(0, 3), row(3, 0), row(u64::MAX, 1), row(1, u64::MAX)].concat();
         for (change, at) in (0..2).flat_map(|c| (0..9).map(move |at| (c, at))) {

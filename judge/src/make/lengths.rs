@@ -1,5 +1,6 @@
 //! Names, tokens, lines and paths of many lengths: ill-formed, different, cut or blank in each single byte. What compares, searches, trims
 //! and copies goes in steps, and a mistake may show at the edge of one alone.
+use super::asked::rows_of;
 use super::contrasts::{numbers, Tables};
 use super::modules::{hear, plain, HEADER, ROOMY};
 use crate::case::{Call, Case};
@@ -14,7 +15,7 @@ pub fn fixed(court: &mut Court) {
     ill_formed(court);
     sequences(court);
     different(court);
-    fingerprints(court);
+    prints(court);
     cut(court);
     blanks(court);
     copied(court);
@@ -90,7 +91,7 @@ fn compared(court: &mut Court, a: &[u8], b: &[u8]) {
     let of_one = numbers(&[16, 24, 2 * (n + m) + 200], &tables(&[[0, n], [n, m]]), &tables(&[]));
     say(court, Call::Differences, &of_two, &[a, b]);
     say(court, Call::Differences, &of_one, &[&both, b""]);
-    say(court, Call::Namespaces, &[4, 2, 0, n, 0, 0, 0, n, m, 0, 0, 0], &[&both]);
+    say(court, Call::Namespaces, &[&[4, 2], &rows_of(&[0, n, 0, 0, 0, n, m, 0, 0, 0])[..]].concat(), &[&both]);
     if both.len() <= LONGEST && std::str::from_utf8(&both).is_ok() {
         let rows = |direction: u64| [1, 2, 2, 0, 0, 0, direction, 0, n, 0, 0, 0, 0, direction, n, m, 0, 0, 0];
         say(court, Call::AllImports, &[&[4], &rows(0)[..]].concat(), &[&both]);
@@ -119,15 +120,14 @@ fn different(court: &mut Court) {
     }
 }
 
-/// Names that the comparison's fingerprint, a polynomial of the bytes, does not tell apart.
-fn fingerprints(court: &mut Court) {
-    let twins = ["43460j88a8", "h58vhzjl2u"].map(str::as_bytes);
-    let print = |s: &[u8]| s.iter().fold(0u64, |print, b| (print * 257 + *b as u64) % 1_099_511_627_689);
-    assert_eq!(print(twins[0]), print(twins[1]));
-    for (before, after) in [(0, 0), (1, 0), (0, 1), (54, 0), (60, 60), (300, 300)] {
-        let [a, b] = twins.map(|t| [&vec![b'n'; before][..], t, &vec![b'n'; after]].concat());
-        compared(court, &a, &b);
-        compared(court, &b, &a);
+/// Names that the comparison's print, of the length and of eight bytes at each end, does not tell apart.
+fn prints(court: &mut Court) {
+    for length in [17, 18, 24, 80, 300] {
+        let name = vec![b'n'; length];
+        for at in [8, length / 2, length - 9] {
+            compared(court, &name, &with(&name, at, b'm'));
+            compared(court, &with(&name, at, b'o'), &with(&name, at, b'm'));
+        }
     }
 }
 

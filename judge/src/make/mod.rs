@@ -1,4 +1,5 @@
 //! The inputs: exhaustive short ones, good ones made by a grammar, damaged copies. A round of seeded ones is the same for the same seed.
+mod asked;
 mod bad;
 mod contrasts;
 mod lengths;
@@ -19,6 +20,7 @@ use crate::Court;
 pub use modules::{hear, reserving};
 
 pub fn fixed(court: &mut Court) {
+    asked::fixed(court);
     numbers::fixed(court);
     bad::fixed(court);
     policies::fixed(court);
@@ -47,7 +49,7 @@ pub fn seeded(court: &mut Court, seed: u64) {
             file = damaged(&file, r);
             text = damaged(&text, r);
         }
-        let room = |r: &mut Random| if r.one_in(2) { 2000 } else { 8 * r.below(60) as u64 + r.below(2) as u64 };
+        let room = |r: &mut Random| if r.one_in(2) { 4000 } else { 8 * r.below(120) as u64 + r.below(2) as u64 };
         court.hear(Case::new(Call::CModule, &[room(r)], &[&file]));
         modules::strictly(court, &file, modules::FULL);
         court.hear(Case::new(Call::CManifest, &[room(r)], &[&text]));

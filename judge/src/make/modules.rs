@@ -1,5 +1,6 @@
 //! wasm.rs: modules.
 use super::{damaged, every};
+use crate::asked::WIDTH;
 use crate::case::{Call, Case};
 use crate::random::Random;
 use crate::Court;
@@ -8,7 +9,9 @@ pub use crate::limits::FULL;
 
 pub const HEADER: &[u8] = b"\0asm\x01\0\0\0";
 /// Cells of roomy small tables.
-pub const ROOMY: [u64; 4] = [40, 60, 48, 36];
+pub const ROOMY: [u64; 4] = [40, 12 * IMPORT, 48, 36];
+/// Cells of a row of table 2.
+const IMPORT: u64 = WIDTH as u64;
 
 /// Plainly and strictly.
 pub fn hear(court: &mut Court, file: &[u8], cells: [u64; 4]) {
@@ -167,7 +170,7 @@ pub fn module(r: &mut Random) -> Vec<u8> {
 
 /// Tables of a few rows, and now and then with cells that make no row.
 pub fn small(r: &mut Random) -> [u64; 4] {
-    [5, 5, 4, 3].map(|w| w * r.below(4) as u64 + if r.one_in(4) { r.below(w as usize) as u64 } else { 0 })
+    [5, IMPORT, 4, 3].map(|w| w * r.below(4) as u64 + if r.one_in(4) { r.below(w as usize) as u64 } else { 0 })
 }
 
 /// A number in as few bytes as it takes.
@@ -239,7 +242,8 @@ fn around(rooms: [usize; 3], mut f: impl FnMut(&[u8])) {
 /// Around the small tables which the calls over the C interface begin with.
 fn few(court: &mut Court) {
     let mut hear = |file: &[u8]| {
-        for room in [0, 159, 160, 639, 640, 2_000] {
+        // 4 and 16 imports or exports, and the section
+        for room in [0, 167, 168, 423, 424, 551, 552, 1_575, 1_576, 4_000] {
             court.hear(Case::new(Call::CModule, &[room], &[file]));
         }
         strictly(court, file, FULL);
@@ -285,7 +289,7 @@ pub fn fixed(court: &mut Court) {
     // short payloads of the sections that are read
     for (id, alphabet) in [(2u8, [0x00, 0x01, 0x02, 0x03, 0x04, 0x80]), (7, [0x00, 0x01, 0x02, 0x04, 0x80, 0xff])] {
         for length in 0..=5 {
-            every(&alphabet, length, |s| hear(court, &[HEADER, &[id, s.len() as u8], s].concat(), [5, 5, 8, 3]));
+            every(&alphabet, length, |s| hear(court, &[HEADER, &[id, s.len() as u8], s].concat(), [5, IMPORT, 8, 3]));
         }
         // the parts after a first name
         for length in 0..=4 {
@@ -296,7 +300,7 @@ pub fn fixed(court: &mut Court) {
     }
     for length in 0..=5 {
         every(&[0x00, 0x01, 0x02, 0x03, 0x80], length, |s| {
-            hear(court, &[HEADER, &[0, s.len() as u8 + 5, 4], &b"name"[..], s].concat(), [5, 5, 4, 6])
+            hear(court, &[HEADER, &[0, s.len() as u8 + 5, 4], &b"name"[..], s].concat(), [5, IMPORT, 4, 6])
         });
     }
     // every id, every import kind, every flag, every export kind
@@ -311,7 +315,7 @@ pub fn fixed(court: &mut Court) {
     // tables: small, then at the limits
     for room in 0..=3 {
         let n = room as u64;
-        for cells in [[40, 5 * n, 4 * n, 3 * n], [0, 5 * n + 4, 4 * n + 3, 3 * n + 2], [5, 5 * n, 4 * n, 3 * n]] {
+        for cells in [[40, IMPORT * n, 4 * n, 3 * n], [0, IMPORT * (n + 1) - 1, 4 * n + 3, 3 * n + 2], [5, IMPORT * n, 4 * n, 3 * n]] {
             around([room; 3], |file| hear(court, file, cells));
         }
     }
@@ -319,7 +323,7 @@ pub fn fixed(court: &mut Court) {
     for n in 0..=4 {
         for after in [&b""[..], b"\x01", b"\x01\x01", b"\x02\x00", b"\x02\x01\x00", b"\x00\x01\x05", b"\x07\x02\x01\x00"] {
             for cells in [0, 4, 5, 9, 10, 14, 15] {
-                hear(court, &sections(n, after), [cells, 5, 4, 3]);
+                hear(court, &sections(n, after), [cells, IMPORT, 4, 3]);
             }
         }
     }

@@ -244,6 +244,41 @@ pub fn fixed(court: &mut Court) {
         }
     }
     many_rows(court);
+    no_domains(court);
+    offsets(court);
+}
+
+/// Numbers that are no domain's, at each place of a few rows, below the count and past it; and two of them.
+fn no_domains(court: &mut Court) {
+    let numbers = |rows: &[u64], count: usize| [&[count as u64, rows.len() as u64], rows, &[0; 25]].concat();
+    for number in (0..10).chain([15, 16, 255, 256, 1 << 32, u64::MAX]) {
+        for (at, count) in (0..3).flat_map(|at| (0..=4).map(move |count| (at, count))) {
+            let mut rows = [6, 0, 3];
+            rows[at] = number;
+            both_ways(court, &numbers(&rows, count));
+            rows[2] = 7;
+            both_ways(court, &numbers(&rows, count));
+        }
+    }
+}
+
+/// A list in the middle of a text, and a token looked for from every offset: before the list, in it, at its end and past it.
+fn offsets(court: &mut Court) {
+    for list in ["", "a", ",", "a,", ",a", "a, b", "a,b,,c ,", " a , b ", "a,,", "ab,cd,ef"] {
+        for (before, after) in [("", ""), ("x:", ""), ("x, ", ",y"), ("", "z"), ("x:", " ,z")] {
+            let s = format!("{before}{list}{after}");
+            let (start, len) = (before.len() as u64, list.len() as u64);
+            for stance in 0..3 {
+                let policy = [&[0; 4][..], &[stance, start, len].repeat(7)].concat();
+                for from in (0..s.len() as u64 + 3).chain([1 << 32, u64::MAX]) {
+                    for domain in [0, 3, 6] {
+                        court.hear(Case::new(Call::Token, &[&[domain, from], &policy[..]].concat(), &[s.as_bytes()]));
+                    }
+                }
+                court.hear(Case::new(Call::Write, &[&[400], &policy[..]].concat(), &[s.as_bytes()]));
+            }
+        }
+    }
 }
 
 /// Table 7 around its limit.

@@ -1,5 +1,6 @@
 //! Offsets, counts, lines and rows above what one byte or two count; full tables in which no two rows are alike; long sections of few
 //! entries.
+use super::asked::rows_of;
 use super::contrasts::{numbers, Tables};
 use super::lengths::LENGTHS;
 use super::modules::{hear, plain, FULL, HEADER, ROOMY};
@@ -16,6 +17,7 @@ pub fn fixed(court: &mut Court) {
     full_tables(court);
     bad_rows(court);
     builds(court);
+    ranked(court);
     requirements(court);
     tokens(court);
     worlds(court);
@@ -121,11 +123,11 @@ fn faults() -> [Vec<u8>; 7] {
 fn handed(court: &mut Court, before: usize) {
     let at = before as u64;
     let file = [&vec![b'.'; before][..], b"bawasi:io"].concat();
-    let imports = [at, 1, at + 1, 1, 0, at + 1, 1, at, 1, 0, at + 2, 7, 0, 0, 0];
+    let imports = rows_of(&[at, 1, at + 1, 1, 0, at + 1, 1, at, 1, 0, at + 2, 7, 0, 0, 0]);
     say(court, Call::Namespaces, &[&[4, 3], &imports[..]].concat(), &[&file]);
     say(court, Call::Requirements, &[&[4, 4, 3], &imports[..]].concat(), &[&file]);
     let exports = [at, 1, 0, 0, at + 1, 2, 3, 0];
-    let tables = [&[3, 2, 0, 0, 15, 8, 0], &imports[..], &exports].concat();
+    let tables = [&[3, 2, 0, 0, imports.len() as u64, 8, 0], &imports[..], &exports].concat();
     say(court, Call::Differences, &[&[8, 12, 300], &tables[..]].concat(), &[&file, b""]);
     let references = [0, 0, at, 1, 1, at + 1, 1, 0, 0, at + 2, 7, 0, 0, 0, 0, 1, at + 1, 1, 0, 0, 0];
     let tables = [&[1, 3, 2, at, 1], &references[..]].concat();
@@ -184,7 +186,7 @@ fn full_tables(court: &mut Court) {
         let exports = [plain(n), (0..n).flat_map(|i| [name(i), vec![(i % 4) as u8], plain(i * 97)].concat()).collect()].concat();
         let file = [HEADER, &section(2, &imports), &section(7, &exports)].concat();
         hear(court, &file, FULL);
-        for room in [99, 100_000] {
+        for room in [99, 200_000] {
             say(court, Call::CModule, &[room], &[&file]);
         }
     }
@@ -204,14 +206,14 @@ fn full_tables(court: &mut Court) {
 fn bad_rows(court: &mut Court) {
     for n in MANY.into_iter().chain([1023]) {
         let count = n as u64 + 1;
-        let imports = [[0, 0, 0, 0, 0].repeat(n), vec![0, 1, 0, 0, 256]].concat();
+        let imports = rows_of(&[[0, 0, 0, 0, 0].repeat(n), vec![0, 1, 0, 0, 256]].concat());
         for call in [Call::Functions, Call::Memories] {
             say(court, call, &[&[count], &imports[..]].concat(), &[]);
         }
         say(court, Call::Namespaces, &[&[1024, count], &imports[..]].concat(), &[b""]);
         say(court, Call::Requirements, &[&[1024, 1024, count], &imports[..]].concat(), &[b""]);
         let exports = [[0, 0, 0, 0].repeat(n), vec![0, 1, 0, 0]].concat();
-        for tables in [Tables::of(imports, vec![]), Tables::of(vec![], exports)] {
+        for tables in [Tables::whole(imports, vec![]), Tables::of(vec![], exports)] {
             say(court, Call::Differences, &numbers(&[16, 24, 300], &tables, &Tables::default()), &[b"", b""]);
             say(court, Call::Differences, &numbers(&[16, 24, 300], &Tables::default(), &tables), &[b"", b""]);
         }
@@ -231,6 +233,40 @@ fn build(rows: &[usize], longest: usize) -> Vec<u8> {
     let imports: Vec<u8> = rows.iter().flat_map(|i| [name(*i), counted(b"f"), vec![0, 0]].concat()).collect();
     let exports: Vec<u8> = rows.iter().flat_map(|i| [name(*i), vec![(*i % 4) as u8, 0]].concat()).collect();
     [HEADER, &section(2, &[&count[..], &imports].concat()), &section(7, &[&count[..], &exports].concat())].concat()
+}
+
+/// A build whose names of the rows all have one print, the length and eight bytes at each end: every fifth import is a memory. Then
+/// fields of one source, of different domains, and an export of each of these kinds.
+fn alike(imports: &[usize], exports: &[usize], fields: &[&str], kinds: &[u8]) -> Vec<u8> {
+    let name = |i: usize| counted(format!("01234567{i:04}89abcdef").as_bytes());
+    let import = |i: usize| [name(i), counted(b"f"), if i % 5 == 4 { vec![2, 0, 1] } else { vec![0, 0] }].concat();
+    let field = |f: &str| [counted(b"wasi_snapshot_preview1"), counted(f.as_bytes()), vec![0, 0]].concat();
+    let mut two = plain(imports.len() + fields.len());
+    two.extend(imports.iter().flat_map(|i| import(*i)).chain(fields.iter().flat_map(|f| field(f))));
+    let mut seven = plain(exports.len() + kinds.len());
+    seven.extend(exports.iter().flat_map(|i| [name(*i), vec![(i % 4) as u8, 0]].concat()));
+    seven.extend(kinds.iter().flat_map(|k| [counted(b"same"), vec![*k, 0]].concat()));
+    [HEADER, &section(2, &two), &section(7, &seven)].concat()
+}
+
+/// Builds that use up the comparison's budget, so that ranks decide: of both lists, of one, and of none of them.
+fn ranked(court: &mut Court) {
+    let mut hear = |one: Vec<u8>, other: Vec<u8>| {
+        say(court, Call::Compare, &[4096, 6144, 1 << 20], &[&one, &other]);
+        say(court, Call::CCompare, &[1 << 20], &[&other, &one]);
+    };
+    let (early, late) = (["clock_time_get", "random_get", "fd_write"], ["random_get", "sock_recv"]);
+    for n in [1, 2, 12, 32, 33, 40, 300] {
+        let rows: Vec<usize> = (0..2 * n).collect();
+        let turned: Vec<usize> = rows[..n].iter().rev().copied().collect();
+        let twice: Vec<usize> = rows[..n].iter().map(|i| i / 2).collect();
+        let sides: [&[usize]; 5] = [&turned, &rows[n..], &rows[n / 2..n / 2 + n], &twice, &rows[..n - 1]];
+        for other in sides {
+            hear(alike(&rows[..n], &rows[..n], &early, &[0, 1]), alike(other, other, &late, &[1, 2]));
+            hear(alike(&[], &rows[..n], &early, &[]), alike(&[], other, &late, &[3]));
+            hear(alike(&rows[..n], &[], &[], &[0, 0]), alike(other, &[], &early, &[0]));
+        }
+    }
 }
 
 /// Two builds of so many rows, no two alike: they share none, or all but the last.
@@ -264,12 +300,12 @@ fn requirements(court: &mut Court) {
             let entry = [counted(b"wasi_snapshot_preview1"), counted(field.as_bytes()), vec![0, 0]].concat();
             let file = [HEADER, &section(2, &[plain(n), entry.repeat(n)].concat())].concat();
             say(court, Call::Check, &[], &[&file, b"default deny"]);
-            let cells = [0, 22, 22, field.len() as u64, 0].repeat(n);
+            let cells = rows_of(&[0, 22, 22, field.len() as u64, 0].repeat(n));
             let names = format!("wasi_snapshot_preview1{field}");
             say(court, Call::Requirements, &[&[1024, 1024, n as u64], &cells[..]].concat(), &[names.as_bytes()]);
         }
         for kind in [0, 2] {
-            let cells = [0, 0, 0, 0, kind].repeat(n);
+            let cells = rows_of(&[0, 0, 0, 0, kind].repeat(n));
             for call in [Call::Functions, Call::Memories] {
                 say(court, call, &[&[n as u64], &cells[..]].concat(), &[]);
             }
@@ -313,7 +349,7 @@ fn worlds(court: &mut Court) {
             say(court, call, &[&[1024], &tables[..]].concat(), &[&names]);
         }
         say(court, Call::Needs, &[&[1024, 1024], &tables[..]].concat(), &[&names]);
-        let imports: Vec<u64> = (0..n as u64).flat_map(|i| [4 * i, 4, 0, 2, 0]).collect();
+        let imports = rows_of(&(0..n as u64).flat_map(|i| [4 * i, 4, 0, 2, 0]).collect::<Vec<_>>());
         say(court, Call::Namespaces, &[&[1024, n as u64], &imports[..]].concat(), &[&names]);
     }
 }

@@ -1,6 +1,7 @@
 //! Strict reading: modules that break each rule in each of its places, that nearly do, and that break several at once.
 use super::damaged;
 use super::modules::{hear, plain, small, FULL, HEADER, ROOMY};
+use crate::asked::WIDTH;
 use crate::random::Random;
 use crate::strict;
 use crate::Court;
@@ -69,7 +70,7 @@ fn worked(court: &mut Court) {
 fn every_room(court: &mut Court, file: &[u8]) {
     let Ok(m) = crate::says::parse(file) else { return hear(court, file, ROOMY) };
     let rows = [m.sections.len(), m.imports.len(), m.exports.len(), m.function_names.len()].map(|n| n as u64);
-    let widths = [5, 5, 4, 3];
+    let widths = [5, WIDTH as u64, 4, 3];
     let exact: [u64; 4] = std::array::from_fn(|t| rows[t] * widths[t]);
     hear(court, file, exact);
     for t in 0..4 {
@@ -201,7 +202,7 @@ fn widths(court: &mut Court) {
 }
 
 /// Rows for `whole`.
-const ROOMY_ENOUGH: [u64; 4] = [5 * 16, 5 * 8, 4 * 4, 3 * 8];
+const ROOMY_ENOUGH: [u64; 4] = [5 * 16, WIDTH as u64 * 8, 4 * 4, 3 * 8];
 
 // ---- rules 3 and 4
 

@@ -1,11 +1,12 @@
 //! wasm.rs: what import rows answer that are handed in.
+use super::asked::{descriptor, rows_of};
 use crate::case::{Call, Case};
 use crate::random::Random;
 use crate::Court;
 
 pub fn fixed(court: &mut Court) {
     for rows in [1023usize, 1024, 1025] {
-        let cells: Vec<u64> = (0..rows as u64).flat_map(|i| [0, i % 2, 0, 0, i % 3]).collect();
+        let cells = rows_of(&(0..rows as u64).flat_map(|i| [0, i % 2, 0, 0, i % 3]).collect::<Vec<_>>());
         for n in [0, 1023, 1024, 1025, rows as u64] {
             for call in [Call::Functions, Call::Memories] {
                 court.hear(Case::new(call, &[&[n], &cells[..]].concat(), &[]));
@@ -16,7 +17,7 @@ pub fn fixed(court: &mut Court) {
     }
     // as many names as table 15 takes, with room for one less, all, and more
     let file: Vec<u8> = (0..1024u32).flat_map(|i| [(i >> 8) as u8, i as u8]).collect();
-    let cells: Vec<u64> = (0..1024).rev().flat_map(|i| [2 * i, 2, 0, 0, 0]).collect();
+    let cells = rows_of(&(0..1024).rev().flat_map(|i| [2 * i, 2, 0, 0, 0]).collect::<Vec<_>>());
     for room in [1023, 1024, 1025, 2000] {
         court.hear(Case::new(Call::Namespaces, &[&[room, 1024], &cells[..]].concat(), &[&file]));
     }
@@ -40,9 +41,11 @@ pub fn seeded(court: &mut Court, r: &mut Random) {
             };
             cells.extend(range(r));
             cells.extend(range(r));
-            cells.push(if r.one_in(40) { 255 + r.below(3) as u64 } else { r.below(5) as u64 });
+            let kind = if r.one_in(40) { 255 + r.below(3) as u64 } else { r.below(5) as u64 };
+            cells.push(kind);
+            cells.extend(descriptor(kind, r));
         }
-        cells.extend((0..if r.one_in(4) { r.below(5) } else { 0 }).map(|_| 0));
+        cells.extend((0..if r.one_in(4) { r.below(14) } else { 0 }).map(|_| 0));
         let n = if r.one_in(8) { r.below(9) } else { rows } as u64;
         court.hear(Case::new(Call::Functions, &[&[n], &cells[..]].concat(), &[]));
         court.hear(Case::new(Call::Memories, &[&[n], &cells[..]].concat(), &[]));

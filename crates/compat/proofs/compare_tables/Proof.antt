@@ -6,7 +6,7 @@ use borrow.Author.Needs.{needs}
 use lib.ListN.{length, take}
 use lib.Seq.{length-take-le}
 use Rattle.differences.proofs.Tests.{exports-good, imports-good}
-use Rattle.compat.proofs.Filling.{zeros-length}
+use Rattle.keyed.proofs.Filling.{zeros-length}
 use Rattle.compat.proofs.Listed.{rows-fit, compares-full8, compares-full9, compares-lists}
 use Rattle.compat.proofs.compare_tables.Statement.{statement}
 use Rattle.compat.proofs.compare_tables.Tie as tie

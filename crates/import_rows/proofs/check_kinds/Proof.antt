@@ -1,12 +1,11 @@
 -- `import_rows::check_kinds` meets its contract: a walk over rows. Assumes nothing.
 use Prim.Native.Nat.{_-_}
-use mathlib.Core.Path.{refl}
 use borrow.Author.Needs.{needs}
+use borrow.Author.Tests.{not-true, not-false}
 use lib.ListN.{length}
 use Rattle.table.specs.Shape.{capacityIn}
 use Rattle.table.proofs.Testing.{Walked, walk-over, walk-starts, walk-stops, walk-goes, walk-ends}
 use Rattle.import_rows.specs.Queries.{kindFits, kindsTested}
-use Rattle.import_rows.proofs.Asking.{kind-out, kind-in}
 use Rattle.import_rows.proofs.check_kinds.Statement.{statement}
 use Rattle.import_rows.proofs.check_kinds.Tie as tie
 
@@ -28,13 +27,13 @@ unfolding kindsTested
 returns-2 c =
     let k = c .before in
     let t = k .before in
-    walk-stops (t .before .loop .inv) (t .loop-test .taken) (kind-out _ _ (k .cell .ensures) (c .if2 .taken)) refl
+    walk-stops (t .before .loop .inv) (t .loop-test .taken) (k .kind-fits .ensures) (not-true _ (c .if2 .taken))
 
 loop-again : tie.Need-loop-again Inv-loop μ-loop
 loop-again c =
     let k = c .before in
     let t = k .before in
-    walk-goes (t .before .loop .inv) (t .loop-test .taken) (kind-in _ _ (k .cell .ensures) (c .if2 .left)) refl
+    walk-goes (t .before .loop .inv) (t .loop-test .taken) (k .kind-fits .ensures) (not-false _ (c .if2 .left))
 
 returns-3 : tie.Need-returns-3 Inv-loop μ-loop
 unfolding kindsTested

@@ -29,7 +29,7 @@ returns-3 c =
     let f = e .before in
     let a = f .before in
     both-in _ _ _ (a .before .cell .ensures) (a .cell2 .ensures) (f .fits2 .ensures) (not-false _ (e .if1 .left))
-    (d .before .cell3 .ensures) (d .cell4 .ensures) (g .fits3 .ensures) (not-false _ (c .before .if2 .left)) (c .cell5 .ensures)
+    (d .before .cell3 .ensures) (d .cell4 .ensures) (g .fits3 .ensures) (not-false _ (c .before .if2 .left)) (c .kind-fits .ensures)
 
 pub import-fits-spec : {M : Type 1} → statement M
 import-fits-spec =

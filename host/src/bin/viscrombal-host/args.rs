@@ -12,6 +12,7 @@ pub enum Command {
     Compare { baseline: PathBuf, candidate: PathBuf, options: Options },
     Chain { builds: Vec<PathBuf>, policy: PathBuf, options: Options },
     Order { policy: PathBuf, stricter: PathBuf, options: Options },
+    Imports { modules: Vec<PathBuf>, options: Options },
     Locate { module: PathBuf, offset: usize, options: Options },
 }
 
@@ -69,7 +70,10 @@ pub fn parse(words: impl Iterator<Item = OsString>) -> Result<Command, &'static 
         };
     }
     match (verb.to_str(), policy) {
-        (Some("compare" | "chain" | "locate"), _) if options.recursive => Err("--recursive is for check"),
+        (Some("compare" | "chain" | "locate"), _) if options.recursive => Err("--recursive is for check and imports"),
+        (Some("imports"), Some(_)) => Err("imports takes no policy"),
+        (Some("imports"), None) if files.is_empty() => Err("imports needs a module"),
+        (Some("imports"), None) => Ok(Command::Imports { modules: files, options }),
         (Some("locate"), Some(_)) => Err("locate takes no policy"),
         (Some("locate"), None) => match <[PathBuf; 2]>::try_from(files) {
             Ok([module, offset]) => Ok(Command::Locate { module, offset: offset_of(&offset)?, options }),
@@ -150,6 +154,14 @@ mod tests {
     }
 
     #[test]
+    fn imports_of_modules() {
+        let options = Options { json: true, recursive: true, ..Options::default() };
+        let want = Ok(Command::Imports { modules: vec!["a".into(), "-".into()], options });
+        assert_eq!(parsed("imports a - --json --recursive"), want);
+        assert_eq!(parsed("--recursive --json imports a -"), want);
+    }
+
+    #[test]
     fn offsets_are_decimal_or_hex() {
         for (word, offset) in [("0", 0), ("15", 15), ("0xf", 15), ("0x0F", 15)] {
             let want = Command::Locate { module: "a".into(), offset, options: Options::default() };
@@ -184,6 +196,11 @@ mod tests {
             "compare a b --stricter q",
             "check a --polity p",
             "compare a b --recursive",
+            "imports",
+            "imports --json",
+            "imports a --policy p",
+            "imports a --stricter p",
+            "import a",
             "locate a",
             "locate a b",
             "locate a 0x",

@@ -1,4 +1,5 @@
-//! `viscrombal-host`: a module's file held against a policy, compared with another, or at the end of a chain of replacements.
+//! `viscrombal-host`: a module's file held against a policy, compared with another, or at the end of a chain of replacements; and what its
+//! imports ask for.
 
 #![forbid(unsafe_code)]
 
@@ -7,6 +8,7 @@ mod chain;
 mod check;
 mod compare;
 mod files;
+mod imports;
 mod json;
 mod locate;
 mod order;
@@ -30,16 +32,18 @@ usage: viscrombal-host [OPTIONS] check MODULE.. --policy FILE
        viscrombal-host [OPTIONS] compare BASELINE CANDIDATE
        viscrombal-host [OPTIONS] chain FIRST .. LAST --policy FILE
        viscrombal-host [--json] chain --policy FILE --stricter FILE
+       viscrombal-host [OPTIONS] imports MODULE..
        viscrombal-host [--json] locate MODULE OFFSET
 
   check        holds each module against the policy
   compare      whether the candidate can stand in for the baseline, and why not
   chain        whether each build can stand in for the one before it, by which steps the last came to differ from the first, and what
                the theorem then gives for the last; of two policies, whether whoever passes under the first passes under the second
+  imports      what each import of a module asks for, memories in pages and bytes; and in all, what a sandbox must hold for it
   locate       which section, entry and field of the file the byte at an offset belongs to (15, or 0xf as a hex viewer has it)
   --strict     a module that is not clean in what is read is refused, by the lowest of eight rules that it breaks, before anything else
                is said of it. It is no validation: sections that are not read may hold anything
-  --recursive  a folder among the modules of check stands for the files below it whose names end in .wasm
+  --recursive  a folder among the modules of check or imports stands for the files below it whose names end in .wasm
   --explain    under a refusal, which field of the file it points at, as locate says it
   --json       one object a line
   --version    the version, the interface, and the archive by the kit that proved it and by its sum
@@ -88,6 +92,7 @@ fn run(out: &mut dyn Write, command: &Command) -> io::Result<Status> {
         Command::Compare { baseline, candidate, options } => (compare::run(out, baseline, candidate, *options), options),
         Command::Chain { builds, policy, options } => (chain::run(out, builds, policy, *options), options),
         Command::Order { policy, stricter, options } => (order::run(out, policy, stricter, *options), options),
+        Command::Imports { modules, options } => (imports::run(out, modules, *options), options),
         Command::Locate { module, offset, options } => (locate::run(out, module, *offset, *options), options),
     };
     match ended {

@@ -59,6 +59,11 @@ pub fn name(name: &str) -> String {
 
 /// A number with its thousands apart.
 pub fn count(number: usize) -> String {
+    sum(number as u128)
+}
+
+/// The same of a sum.
+pub fn sum(number: u128) -> String {
     let digits = number.to_string();
     let mut out = String::new();
     for (i, digit) in digits.chars().enumerate() {
@@ -129,6 +134,7 @@ mod tests {
     #[test]
     fn numbers() {
         assert_eq!([0, 999, 1000, 16_777_216].map(count), ["0", "999", "1,000", "16,777,216"]);
+        assert_eq!(sum(1 << 64), "18,446,744,073,709,551,616");
     }
 
     #[test]

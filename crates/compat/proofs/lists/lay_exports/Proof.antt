@@ -9,7 +9,7 @@ use Rattle.table.specs.Table.{laid, cells, rowsOf}
 use Rattle.table.specs.Shape.{width}
 use Rattle.compat.specs.declared.lists.Place.{Place}
 use Rattle.compat.specs.Listing.{placeCells}
-use Rattle.compat.proofs.Filling.{no-rows, one-row, filled-all}
+use Rattle.keyed.proofs.Filling.{no-rows, one-row, filled-all}
 use Rattle.compat.proofs.lists.lay_exports.Statement.{statement}
 use Rattle.compat.proofs.lists.lay_exports.Tie as tie
 

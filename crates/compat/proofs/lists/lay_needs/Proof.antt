@@ -9,7 +9,7 @@ use Rattle.table.specs.Table.{laid, cells, rowsOf}
 use Rattle.table.specs.Shape.{width}
 use Rattle.compat.specs.declared.keys.Key.{Key}
 use Rattle.compat.specs.Listing.{needCellsAt}
-use Rattle.compat.proofs.Filling.{no-rows, one-row, filled-all}
+use Rattle.keyed.proofs.Filling.{no-rows, one-row, filled-all}
 use Rattle.compat.proofs.Laying.{need-cells}
 use Rattle.compat.proofs.Instances.{need-major}
 use Rattle.compat.proofs.lists.lay_needs.Statement.{statement}

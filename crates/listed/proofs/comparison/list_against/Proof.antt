@@ -10,21 +10,20 @@ use Rattle.listed.proofs.comparison.list_against.Tie as tie
 returns : tie.Need-returns
 returns c =
     let w = c .before .before in
-    let q = w .before .before .before .before .before .before in
-    delivers-none comparisonBytes comparisonTold (candidate-stops _ _ (module-refused _ _ (q .read-module .ensures) (w .why .given .1)))
+    let q = w .before .before .before .before in
+    delivers-none comparisonBytes comparisonTold (candidate-stops _ _ (module-refused _ _ (q .read-rows .ensures .2) (w .why .given .1)))
     (c .no-comparison .ensures)
 
 returns-2 : tie.Need-returns-2
 returns-2 c =
     let k = c .before .before in
     let w = k .before .before .before .before .before in
-    let q = w .before .before .before .before .before .before in
-    candidate-read _ (module-found _ _ (q .read-module .ensures) (w .m .given .1)) (k .list-differences .ensures)
+    let q = w .before .before .before .before in
+    candidate-read _ (module-found _ _ (q .read-rows .ensures .2) (w .m .given .1)) (k .list-differences .ensures)
 
 pub list-against-spec : {M : Type 1} → statement M
 list-against-spec =
     tie.close
     (tie.spec
-    (λ c. search needs) (λ c. search needs) (λ c. search needs) (λ c. search needs) (λ c κs. search needs) (λ c. search needs)
-    (λ c κs. search needs) (λ c. search needs) (λ c. search needs) (λ c. search needs) (λ c κs. search needs) returns
-    (λ c. search needs) returns-2)
+    (λ c. search needs) (λ c. search needs) (λ c κs. search needs) (λ c. search needs) (λ c κs. search needs) (λ c. search needs)
+    (λ c. search needs) (λ c. search needs) (λ c κs. search needs) returns (λ c. search needs) returns-2)

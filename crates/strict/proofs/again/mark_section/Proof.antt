@@ -28,7 +28,7 @@ second : (c : tie.After-known-told2)
     → countedAt (now (c .before .before .before .before .before .before .before .before .before .args .file))
     (c .before .before .before .before .before .one .given .0 .1 .0 .at)
     ≡ accepted (got (c .before .two .given .0 .0) (c .before .two .given .0 .1 .0 .at))
-second c = hear saidPart _ _ (c .before .before .before .read-part .ensures) (c .before .two .given .1)
+second c = hear saidPart _ _ (c .before .before .before .read-frame .ensures) (c .before .two .given .1)
 
 cutting : (c : tie.After-known-told2)
     → let p = c .before .two .given .0 .0 in
@@ -49,7 +49,7 @@ unfolding sectionMarks framedMarks Passed
 returns-2 c =
     let e = c .before .enum-told2 .given .1 in (
       tt,
-      goes _ (first (c .before .before .before .before)) (stops _ (hear saidPart _ _ (c .before .before .before .read-part .ensures) e)
+      goes _ (first (c .before .before .before .before)) (stops _ (hear saidPart _ _ (c .before .before .before .read-frame .ensures) e)
           (c .why2 .ensures ∙ ap whyPart e)),
     )
 

@@ -1,0 +1,3 @@
+-- What an import asks for is not looked at: the statements.
+pub mod Claims
+pub mod Example

@@ -1,0 +1,3 @@
+-- Two lists of keys, and what each lacks of the other.
+pub mod Keying
+pub mod Quick

@@ -1,0 +1,2 @@
+-- What is claimed of a report's length.
+pub mod Claims
