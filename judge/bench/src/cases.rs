@@ -17,7 +17,7 @@ pub struct Case {
 }
 
 /// Name, rounds for a count of instructions (0: too long to be counted), and how it is made.
-pub const CASES: [(&str, u32, fn() -> Case); 38] = [
+pub const CASES: [(&str, u32, fn() -> Case); 45] = [
     ("module: tiny, tables of its size", 1000, || module(inputs::tiny(), Tables::of([2, 1, 1, 0]))),
     ("module: tiny, tables at the limits", 100, || module(inputs::tiny(), Tables::at_limits())),
     ("module: tiny, viscrombal_module", 1000, || listed(inputs::tiny())),
