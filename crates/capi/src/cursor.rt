@@ -9,7 +9,7 @@ use leb::{Cursor, I64Read, U64Read};
 use told::cursor::{Range, Unsigned, narrow_of, range_of};
 
 #[repr(C)]
-#[derive(Drop)]
+#[derive(Clone, Copy)]
 pub struct Signed {
     pub number: u32,
     pub place: usize,

@@ -13,7 +13,7 @@ use told::policies::{
 
 // stance: 0 none, 1 allow, 2 deny; then the range of the tokens.
 #[repr(C)]
-#[derive(Drop)]
+#[derive(Clone, Copy)]
 pub struct RuleTold {
     pub stance: usize,
     pub from: usize,
@@ -22,7 +22,7 @@ pub struct RuleTold {
 
 // `named` false: the name is `default-deny`. The rules are in domain order.
 #[repr(C)]
-#[derive(Drop)]
+#[derive(Clone, Copy)]
 pub struct PolicyTold {
     pub number: u32,
     pub place: usize,

@@ -1,4 +1,6 @@
 // The whole check in one call: a module's file held against a policy's text.
+#![tactic(auto)]
+
 ghost use Rattle.std.specs.Prelude.{◌≤◌, length};
 ghost use Rattle.table.specs.Shape.{full_cells};
 ghost use Rattle.wasm.specs.Module.{sizes};

@@ -20,7 +20,7 @@ pub(crate) const FEW_KEYS: usize = 64;
 
 pub(crate) const FEW_CELLS: usize = FEW_KEYS * KEY_WIDTH;
 
-#[derive(Drop)]
+#[derive(Clone, Copy)]
 pub(crate) struct Key {
     // 0 for a row of the baseline, 1 for one of the candidate; and a range of its file
     pub(crate) file: usize,

@@ -1,4 +1,6 @@
 // compat.rs: the comparison of two builds.
+#![tactic(auto)]
+
 mod keys;
 mod lists;
 
@@ -15,7 +17,7 @@ use refusal::{Answer, Refusal};
 use table::shape::{EXPORT_DIFF_WIDTH, MAX_EXPORT_DIFFS, MAX_NEED_DIFFS, NEED_DIFF_WIDTH};
 
 // How long the two lists are, and whether no export was removed and no capability added.
-#[derive(Drop)]
+#[derive(Clone, Copy)]
 pub enum Compared {
     Lists {
         exports: usize,

@@ -164,7 +164,7 @@ pub(crate) fn list_needs<'a, 'b, 'c, 'd>(
 }
 
 // Where a number points: 0 and a row of the baseline, or 1 and a row of the candidate.
-#[derive(Drop)]
+#[derive(Clone, Copy)]
 struct Place {
     side: usize,
     row: usize,

@@ -1,4 +1,6 @@
 // compat.rs: what changed from a baseline to a candidate, what both hand in, and the name of a difference (parts).
+#![tactic(auto)]
+
 pub mod parts;
 
 ghost use Rattle.std.specs.Prelude.{◌≡◌};
@@ -11,7 +13,7 @@ use import_rows::check_imports;
 use refusal::{Answer, MAX_FILE, Refusal, Slug, slug_of};
 use table::shape::{EXPORT_WIDTH, MAX_EXPORTS};
 
-#[derive(Drop)]
+#[derive(Clone, Copy)]
 pub enum Change {
     // in the baseline, and not in the candidate
     Removed,

@@ -8,7 +8,7 @@ use text::find::find;
 use text::order::{equal, starts};
 
 // How a name is held against a word: it begins with the word, or it is the word.
-#[derive(Drop)]
+#[derive(Clone, Copy)]
 enum Fit {
     Front,
     Exact,

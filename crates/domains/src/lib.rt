@@ -1,4 +1,6 @@
 // The capability domains, and the words for them: of the original's policy.rs.
+#![tactic(auto)]
+
 pub mod classify;
 
 ghost use Rattle.std.specs.Prelude.{◌≡◌};
@@ -8,7 +10,7 @@ ghost use Rattle.domains.specs.Domain.{domain_number, found, numbered, slug, dom
 use refusal::Slug;
 use text::order::equal;
 
-#[derive(Drop)]
+#[derive(Clone, Copy)]
 pub enum Domain {
     Filesystem,
     Environment,
@@ -19,7 +21,7 @@ pub enum Domain {
     Unknown,
 }
 
-#[derive(Drop)]
+#[derive(Clone, Copy)]
 pub enum DomainFound {
     Domain(Domain),
     Nothing,

@@ -1,4 +1,6 @@
 // wasm.rs: what the rows of table 2 answer: how many functions and memories are imported, and from which namespaces.
+#![tactic(auto)]
+
 ghost use Rattle.std.specs.Prelude.{◌≡◌, length, ◌≤◌, ◌<◌};
 ghost use Rattle.refusal.specs.Said.{said_answer, said_count};
 ghost use Rattle.table.specs.Testing.{count_from};

@@ -13,7 +13,7 @@ use differences::Change;
 use told::policies::{WrittenTold, written_of};
 
 #[repr(C)]
-#[derive(Drop)]
+#[derive(Clone, Copy)]
 pub struct CompareTold {
     pub number: u32,
     pub place: usize,
@@ -24,7 +24,7 @@ pub struct CompareTold {
 
 // How long a name is, and one of its bytes.
 #[repr(C)]
-#[derive(Drop)]
+#[derive(Clone, Copy)]
 pub struct NameTold {
     pub len: usize,
     pub byte: u8,

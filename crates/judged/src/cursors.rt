@@ -9,7 +9,7 @@ use leb::{ByteRead, Cursor, Skipped};
 use told::cursor::{Range, Unsigned, narrow_of, range_of};
 
 #[repr(C)]
-#[derive(Drop)]
+#[derive(Clone, Copy)]
 pub struct SkipTold {
     pub number: u32,
     pub place: usize,
@@ -18,7 +18,7 @@ pub struct SkipTold {
 
 // Where the cursor stands, how many bytes are left, and whether none is.
 #[repr(C)]
-#[derive(Drop)]
+#[derive(Clone, Copy)]
 pub struct LeftTold {
     pub at: usize,
     pub left: usize,

@@ -1,5 +1,7 @@
 // What the comparison with the original and the records drive besides the C interface: calls that take tables of any size and policies of
 // any ranges.
+#![tactic(auto)]
+
 pub mod compares;
 pub mod cursors;
 pub mod manifests;

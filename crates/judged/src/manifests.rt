@@ -11,7 +11,7 @@ use crate::rows::{CountTold, count_of};
 use wit::ManifestRead;
 
 #[repr(C)]
-#[derive(Drop)]
+#[derive(Clone, Copy)]
 pub struct ManifestTold {
     pub number: u32,
     pub place: usize,

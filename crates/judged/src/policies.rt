@@ -17,7 +17,7 @@ use verdicts::Rule;
 use verdicts::records::Requirement;
 
 #[repr(C)]
-#[derive(Drop)]
+#[derive(Clone, Copy)]
 pub struct EffectiveTold {
     pub allow: bool,
     pub from: usize,

@@ -11,7 +11,7 @@ use refusal::Count;
 use wasm::ModuleRead;
 
 #[repr(C)]
-#[derive(Drop)]
+#[derive(Clone, Copy)]
 pub struct ModuleTold {
     pub number: u32,
     pub place: usize,
@@ -28,7 +28,7 @@ pub struct ModuleTold {
 }
 
 #[repr(C)]
-#[derive(Drop)]
+#[derive(Clone, Copy)]
 pub struct CountTold {
     pub number: u32,
     pub place: usize,

@@ -1,4 +1,6 @@
 // Two lists of keys in one table, and the rows of each whose key the other lacks. No file is asked for: a key is bytes and two numbers.
+#![tactic(auto)]
+
 mod marks;
 mod quick;
 mod ranks;

@@ -4,7 +4,7 @@ ghost use Rattle.table.specs.Table.{laid, cells, rows_of};
 ghost use Rattle.keyed.specs.Keying.{single, others_of, lonely};
 
 // A run of rows, from one to before another.
-#[derive(Drop)]
+#[derive(Clone, Copy)]
 pub(crate) struct Span {
     pub(crate) from: usize,
     pub(crate) to: usize,

@@ -140,7 +140,7 @@ fn meets<'a, 'b>(first: &'a [u8], second: &'a [u8], keys: &'b [usize], i: usize,
 }
 
 // 0 where no row has the key, 1 where one has it, 2 where the budget did not last; and what is left of it.
-#[derive(Drop)]
+#[derive(Clone, Copy)]
 pub(crate) struct Sought {
     state: usize,
     left: usize,

@@ -1,11 +1,13 @@
 // wasm.rs: kinds of imports and exports, and the names of sections.
+#![tactic(auto)]
+
 ghost use Rattle.std.specs.Prelude.{◌≡◌, ◌<◌};
 ghost use Rattle.refusal.specs.Slug.{slug_of};
 ghost use Rattle.kinds.specs.Kinds.{kind_of, kind_byte, kind_word, hex_of, section_word};
 
 use refusal::{Slug, slug_of};
 
-#[derive(Drop)]
+#[derive(Clone, Copy)]
 pub enum ExternalKind {
     Func,
     Table,

@@ -1,4 +1,6 @@
 // leb.rs: a cursor over a byte slice, and the numbers and names of the WebAssembly binary format.
+#![tactic(auto)]
+
 ghost use Rattle.std.specs.Prelude.{◌≡◌, ◌-◌, ◌<◌, leb, length};
 ghost use Rattle.leb.specs.Reads.{byte_at, fixed_at, taken_at, skip_at, uleb_at, u32_at, sleb_at, counted_at, name_at};
 ghost use Rattle.leb.specs.Answers.{cursor_at, answer_from, said_byte, said_part, said_skip, said_u32, said_u64, said_i64};
@@ -7,43 +9,43 @@ ghost use Rattle.leb.specs.Answers.{why_byte, why_part, why_u32, why_u64};
 use refusal::{Part, Refusal};
 
 // A position in a slice.
-#[derive(Drop)]
+#[derive(Clone, Copy)]
 pub struct Cursor {
     pub at: usize,
 }
 
 // What a read answers: the value and the cursor after it, or a refusal and the cursor as it came in.
-#[derive(Drop)]
+#[derive(Clone, Copy)]
 pub enum ByteRead {
     Read(u8, Cursor),
     Refused(Refusal, Cursor),
 }
 
-#[derive(Drop)]
+#[derive(Clone, Copy)]
 pub enum U32Read {
     Read(u32, Cursor),
     Refused(Refusal, Cursor),
 }
 
-#[derive(Drop)]
+#[derive(Clone, Copy)]
 pub enum U64Read {
     Read(u64, Cursor),
     Refused(Refusal, Cursor),
 }
 
-#[derive(Drop)]
+#[derive(Clone, Copy)]
 pub enum I64Read {
     Read(i64, Cursor),
     Refused(Refusal, Cursor),
 }
 
-#[derive(Drop)]
+#[derive(Clone, Copy)]
 pub enum PartRead {
     Read(Part, Cursor),
     Refused(Refusal, Cursor),
 }
 
-#[derive(Drop)]
+#[derive(Clone, Copy)]
 pub enum Skipped {
     To(Cursor),
     Refused(Refusal, Cursor),

@@ -22,7 +22,7 @@ use wasm::ModuleRead;
 // The offset beside 5, how long the lists of differences are, whether nothing is broken, how many bytes the reasons are, and how many were
 // written in all.
 #[repr(C)]
-#[derive(Drop)]
+#[derive(Clone, Copy)]
 pub struct ComparisonTold {
     pub number: u32,
     pub place: usize,

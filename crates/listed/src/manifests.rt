@@ -14,7 +14,7 @@ use wit::{Manifest, ManifestRead};
 
 // The package, how many rows the tables have, how long the lists of imported and exported paths are, and how many bytes these are.
 #[repr(C)]
-#[derive(Drop)]
+#[derive(Clone, Copy)]
 pub struct ManifestTold {
     pub number: u32,
     pub place: usize,

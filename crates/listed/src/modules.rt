@@ -25,7 +25,7 @@ const LEAST_EXPORTS: usize = 4 * EXPORT_WIDTH;
 
 // The offset beside 5, version, file length, the module's name, how many rows the tables have, and how many bytes these are.
 #[repr(C)]
-#[derive(Drop)]
+#[derive(Clone, Copy)]
 pub struct ModuleTold {
     pub number: u32,
     pub place: usize,

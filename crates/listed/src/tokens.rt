@@ -19,7 +19,7 @@ use verdicts::effective;
 
 // How many tokens there are, and how many bytes their ranges are: sixteen each.
 #[repr(C)]
-#[derive(Drop)]
+#[derive(Clone, Copy)]
 pub struct TokensTold {
     pub number: u32,
     pub place: usize,

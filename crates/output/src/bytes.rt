@@ -8,7 +8,7 @@ use domains::{DomainFound, domain_of, domain_slug};
 
 // Copies all of `src` into `dst` from index `at` on.
 fn copy_in(src: &[u8], dst: &mut [u8], at: usize) -> usize
-    requires* { do ⌜ at + (← ⟦src.len()⟧) ≤ (← ⟦dst.len()⟧) ⌝ }
+    requires { at + length src.now ≤ length dst.old }
     ensures value { result ≡ at + length src.now }
     ensures dst_after { dst.new ≡ paste dst.old at src.now (length src.now) }
 {

@@ -1,4 +1,6 @@
 // Policies and their reader: of the original's policy.rs.
+#![tactic(auto)]
+
 pub mod ranges;
 mod reader;
 
@@ -11,7 +13,7 @@ ghost use Rattle.policy.specs.Heard.{obeyed, Small};
 use crate::reader::Heard;
 use refusal::{Answer, Refusal};
 
-#[derive(Drop)]
+#[derive(Clone, Copy)]
 pub enum Stance {
     None,
     Allow,
@@ -19,7 +21,7 @@ pub enum Stance {
 }
 
 // A domain's rule, and the range of its token list: from after the `:` to the end of the line; 0, 0 without one.
-#[derive(Drop)]
+#[derive(Clone, Copy)]
 pub struct Slot {
     pub stance: Stance,
     pub from: usize,
@@ -28,7 +30,7 @@ pub struct Slot {
 
 // A policy as ranges of its text: the name, and a rule for each domain in domain order.
 // The name of one that is not `named` is `default-deny`, which is no range of any text.
-#[derive(Drop)]
+#[derive(Clone, Copy)]
 pub struct Policy {
     pub named: bool,
     pub start: usize,
@@ -37,7 +39,7 @@ pub struct Policy {
     pub rules: [Slot; 7],
 }
 
-#[derive(Drop)]
+#[derive(Clone, Copy)]
 pub struct PolicyRead {
     pub answer: Answer,
     pub policy: Policy,

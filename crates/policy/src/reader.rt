@@ -11,7 +11,7 @@ use text::pieces::{shorn_of, trimmed_at};
 
 // Nothing; a fault, by its number; the range of a name; whether the default is to allow; a rule, whether it allows, its domain's
 // number, and the range of its list.
-#[derive(Drop)]
+#[derive(Clone, Copy)]
 pub(crate) enum Heard {
     Blank,
     Wrong(usize),

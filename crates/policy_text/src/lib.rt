@@ -1,4 +1,6 @@
 // A policy as text: its tokens, and the whole of it written again.
+#![tactic(auto)]
+
 pub mod token;
 
 ghost use Rattle.std.specs.Prelude.{◌≡◌, ◌+◌, ◌≤◌, length};

@@ -15,7 +15,7 @@ use text::white::trim;
 use verdicts::effective;
 
 // A token's range, and the offset from which the next one is looked for.
-#[derive(Drop)]
+#[derive(Clone, Copy)]
 pub enum Token {
     At(Part, usize),
     Done,

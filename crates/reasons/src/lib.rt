@@ -1,4 +1,6 @@
 // compat.rs: why a candidate cannot stand in for a baseline, in words.
+#![tactic(auto)]
+
 ghost use Rattle.std.specs.Prelude.{◌≡◌, ◌++◌, ◌≤◌, eqb, length};
 ghost use Rattle.refusal.specs.Pick.{pick};
 ghost use Rattle.refusal.specs.Sizes.{file_limit};

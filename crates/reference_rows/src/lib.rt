@@ -1,4 +1,6 @@
 // wit.rs: what the rows of tables 5 and 6 answer: which paths a manifest imports and exports.
+#![tactic(auto)]
+
 ghost use Rattle.std.specs.Prelude.{◌≡◌, true, false, length};
 ghost use Rattle.refusal.specs.Said.{said_answer, said_count};
 ghost use Rattle.table.specs.Listing.{ListsRows};

@@ -1,4 +1,6 @@
 // The numbered answers of docs/RULES.md, and the small values that every crate hands around.
+#![tactic(auto)]
+
 ghost use Rattle.std.specs.Prelude.{◌≡◌};
 ghost use Rattle.refusal.specs.Said.{number_of, place_of, beside_of, further, moved_on};
 ghost use Rattle.refusal.specs.Slug.{slug_of};
@@ -11,7 +13,7 @@ pub const MAX_TEXT: usize = 65536;
 
 // Why a call gave no answer, and where: a case for each number, 1 to 20 in this order. 3 is no refusal's number. 5 has the kind byte and,
 // beside it, the offset of that byte.
-#[derive(Drop)]
+#[derive(Clone, Copy)]
 pub enum Refusal {
     UnexpectedEof(usize),
     BadMagic(usize),
@@ -35,33 +37,33 @@ pub enum Refusal {
 }
 
 // What a call answers that gives nothing but its verdict; how many rows; how many bytes.
-#[derive(Drop)]
+#[derive(Clone, Copy)]
 pub enum Answer {
     Accepted,
     Refused(Refusal),
 }
 
-#[derive(Drop)]
+#[derive(Clone, Copy)]
 pub enum Count {
     Rows(usize),
     Refused(Refusal),
 }
 
-#[derive(Drop)]
+#[derive(Clone, Copy)]
 pub enum Written {
     Bytes(usize),
     Refused(Refusal),
 }
 
 // A range of bytes.
-#[derive(Drop)]
+#[derive(Clone, Copy)]
 pub struct Part {
     pub from: usize,
     pub len: usize,
 }
 
 // A short word by value: its bytes, then zeros.
-#[derive(Drop)]
+#[derive(Clone, Copy)]
 pub struct Slug {
     pub bytes: [u8; 10],
     pub len: usize,

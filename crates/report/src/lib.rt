@@ -1,4 +1,6 @@
 // A number, and the line of a refusal, as short texts by value.
+#![tactic(auto)]
+
 pub mod line;
 
 ghost use Rattle.std.specs.Prelude.{◌≡◌};

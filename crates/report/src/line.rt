@@ -4,7 +4,7 @@ ghost use Rattle.report.specs.Line.{empty, add_byte, added};
 ghost use Rattle.report.specs.Decimal.{decimal_of};
 
 // Its bytes, then zeros.
-#[derive(Drop)]
+#[derive(Clone, Copy)]
 pub struct Line {
     pub bytes: [u8; 128],
     pub len: usize,

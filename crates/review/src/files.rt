@@ -1,7 +1,7 @@
 // The files that the arguments name.
 ghost use Rattle.std.specs.Prelude.{◌≤◌, length};
 
-#[derive(Drop)]
+#[derive(Clone, Copy)]
 pub(crate) struct Input {
     pub failed: bool,
     pub len: usize,

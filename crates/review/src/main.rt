@@ -1,4 +1,6 @@
 // Holds builds of a module against a policy and against the approved build, and tells a person: POLICY BASELINE CANDIDATE..
+#![tactic(auto)]
+
 mod files;
 
 ghost use Rattle.std.specs.Prelude.{◌≡◌};

@@ -1,4 +1,6 @@
 // The report of a review, as bytes in a lent buffer: a candidate held against a policy, and compared with the approved build.
+#![tactic(auto)]
+
 mod escape;
 mod lines;
 mod rows;

@@ -1,4 +1,6 @@
 // Reads a policy from standard input and prints its text in the one form that the writer gives it, or `refused N at P`.
+#![tactic(auto)]
+
 ghost use Rattle.std.specs.Prelude.{◌≡◌, ◌≤◌, length};
 ghost use Rattle.rewritten.specs.Printed.{printed_of};
 
@@ -22,7 +24,7 @@ fn main() {
     rewrite(&text[..n]);
 }
 
-#[derive(Drop)]
+#[derive(Clone, Copy)]
 struct Input {
     failed: bool,
     len: usize,

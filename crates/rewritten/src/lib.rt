@@ -1,4 +1,6 @@
 // What the program `rewrite` prints.
+#![tactic(auto)]
+
 ghost use Rattle.std.specs.Prelude.{◌≤◌, length};
 ghost use Rattle.refusal.specs.Said.{number_of, place_of};
 ghost use Rattle.policy_text.specs.Writer.{written};

@@ -1,4 +1,6 @@
 // An index table: the numbers of a table's rows, in the order of what the rows hold. docs/RULES.md, "Tables".
+#![tactic(auto)]
+
 ghost use Rattle.std.specs.Prelude.{◌≡◌, ℕ, ◌≤◌, ◌<◌, List, length, take};
 ghost use Rattle.text.specs.Order.{cmp_nat};
 ghost use Rattle.table.specs.Table.{cell_of};
@@ -10,7 +12,7 @@ use text::order::Order;
 
 // Which rows are sorted, and by which of their cells. A cell that a row does not have is zero, so a column from `width` on leaves the
 // matter out.
-#[derive(Drop)]
+#[derive(Clone, Copy)]
 pub struct Keys {
     pub width: usize,
     // the rows whose cell `mark` is `value`
@@ -29,14 +31,14 @@ pub struct Keys {
 }
 
 // How many rows the list has; or that the table lent for it has no room for them all.
-#[derive(Drop)]
+#[derive(Clone, Copy)]
 pub enum Sorted {
     Rows(usize),
     Full,
 }
 
 // Where a row goes in an ordered list: in before a place, or over the row at a place.
-#[derive(Drop)]
+#[derive(Clone, Copy)]
 enum Place {
     Before(usize),
     Over(usize),

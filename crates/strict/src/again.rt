@@ -38,14 +38,14 @@ const HEADER: usize = 8;
 
 // What holds so far: every number takes at most five bytes (rule 2), every import and export section is used to its last byte (5),
 // every limits flag and mutability is 0 or 1 (8).
-#[derive(Drop)]
+#[derive(Clone, Copy)]
 pub(crate) struct Marks {
     pub short: bool,
     pub used: bool,
     pub plain: bool,
 }
 
-#[derive(Drop)]
+#[derive(Clone, Copy)]
 pub(crate) enum Marked {
     Read(Marks, Cursor),
     Refused(Refusal),

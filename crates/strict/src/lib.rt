@@ -1,4 +1,6 @@
 // The plain reader, and then the eight rules of strict reading.
+#![tactic(auto)]
+
 mod again;
 mod quick;
 mod rules;

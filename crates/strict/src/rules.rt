@@ -44,7 +44,7 @@ fn at_most(table: &[usize], wide: usize, column: usize, n: usize, last: usize) -
 }
 
 // How far the sections stand in order, and the place of the last one with an id of its own.
-#[derive(Drop)]
+#[derive(Clone, Copy)]
 struct Rank {
     good: bool,
     last: usize,

@@ -5,7 +5,7 @@ ghost use Rattle.text.specs.Lines.{line_len, line_step};
 use crate::find::find;
 
 // Of the line that begins at a place: where it ends, and where the next begins.
-#[derive(Drop)]
+#[derive(Clone, Copy)]
 pub struct Line {
     pub end: usize,
     pub next: usize,

@@ -4,7 +4,7 @@ ghost use Rattle.text.specs.Agree.{Agree};
 ghost use Rattle.text.specs.Order.{cmp_bytes};
 ghost use Rattle.text.specs.Find.{begins, same};
 
-#[derive(Drop)]
+#[derive(Clone, Copy)]
 pub enum Order {
     Less,
     Equal,

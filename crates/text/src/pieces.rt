@@ -7,7 +7,7 @@ ghost use Rattle.text.specs.Piece.{shorn, trimmed_at};
 use refusal::{Answer, MAX_TEXT, Refusal};
 
 // A part of a text by its ends.
-#[derive(Drop)]
+#[derive(Clone, Copy)]
 pub struct Span {
     pub from: usize,
     pub past: usize,

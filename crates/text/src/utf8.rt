@@ -6,7 +6,7 @@ ghost use Rattle.text.specs.Utf8.{tail, seq_len, up_to};
 ghost use Rattle.text.specs.Steps.{step_at, Ran, Jumped};
 
 // Past a well-formed sequence, or none stands there.
-#[derive(Drop)]
+#[derive(Clone, Copy)]
 pub(crate) enum Seq {
     Next(usize),
     Bad,

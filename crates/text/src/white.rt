@@ -66,7 +66,7 @@ fn low(s: &[u8], i: usize, m: u8) -> u32
 }
 
 // A code point, and how many bytes its sequence has after the first.
-#[derive(Drop)]
+#[derive(Clone, Copy)]
 pub(crate) struct Glyph {
     code: u32,
     more: usize,

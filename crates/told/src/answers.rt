@@ -8,7 +8,7 @@ use refusal::Answer;
 
 // `offset`, here and in every struct that answers for a module, is the offset beside 5; 0 for any other.
 #[repr(C)]
-#[derive(Drop)]
+#[derive(Clone, Copy)]
 pub struct AnswerTold {
     pub number: u32,
     pub place: usize,

@@ -9,7 +9,7 @@ use crate::policies::{beside_of, number_of, place_of};
 use verdicts::{Evaluation, Verdict};
 
 #[repr(C)]
-#[derive(Drop)]
+#[derive(Clone, Copy)]
 pub struct VerdictTold {
     pub required: bool,
     pub allowed: bool,
@@ -18,7 +18,7 @@ pub struct VerdictTold {
 
 // The verdicts in domain order; bit d of `set`: domain d violates; `count` is how many do.
 #[repr(C)]
-#[derive(Drop)]
+#[derive(Clone, Copy)]
 pub struct EvaluationTold {
     pub number: u32,
     pub place: usize,

@@ -7,7 +7,7 @@ use leb::{PartRead, U32Read};
 
 // What a read answers: number and place, then the value and the offset after it, all zero on a refusal.
 #[repr(C)]
-#[derive(Drop)]
+#[derive(Clone, Copy)]
 pub struct Unsigned {
     pub number: u32,
     pub place: usize,
@@ -16,7 +16,7 @@ pub struct Unsigned {
 }
 
 #[repr(C)]
-#[derive(Drop)]
+#[derive(Clone, Copy)]
 pub struct Range {
     pub number: u32,
     pub place: usize,

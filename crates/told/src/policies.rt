@@ -11,7 +11,7 @@ use refusal::{Answer, Written};
 
 // Where a token was found: its range, and the offset from which the next is looked for.
 #[repr(C)]
-#[derive(Drop)]
+#[derive(Clone, Copy)]
 pub struct TokenTold {
     pub number: u32,
     pub place: usize,
@@ -22,7 +22,7 @@ pub struct TokenTold {
 }
 
 #[repr(C)]
-#[derive(Drop)]
+#[derive(Clone, Copy)]
 pub struct WrittenTold {
     pub number: u32,
     pub place: usize,

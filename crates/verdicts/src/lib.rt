@@ -1,4 +1,6 @@
 // Required domains held against a policy: of the original's policy.rs.
+#![tactic(auto)]
+
 pub mod records;
 
 ghost use Rattle.std.specs.Prelude.{◌≡◌, map, ℕ, ◌+◌, ◌*◌, ◌^◌, ◌<◌, ◌≤◌, length, take, get_or};
@@ -15,7 +17,7 @@ use refusal::{Answer, Refusal};
 use table::shape::{MAX_REQUIREMENTS, REQUIREMENT_WIDTH};
 
 // The rule that holds for a domain: whether it is allowed, and the range of its tokens.
-#[derive(Drop)]
+#[derive(Clone, Copy)]
 pub struct Rule {
     pub allow: bool,
     pub from: usize,
@@ -23,7 +25,7 @@ pub struct Rule {
 }
 
 // Of a domain: whether it is required, whether the policy allows it, and how many requirements there are.
-#[derive(Drop)]
+#[derive(Clone, Copy)]
 pub struct Verdict {
     pub required: bool,
     pub allowed: bool,
@@ -31,7 +33,7 @@ pub struct Verdict {
 }
 
 // Bit d of `set`: domain d violates. `count` is how many do. All zero where the answer is a refusal.
-#[derive(Drop)]
+#[derive(Clone, Copy)]
 pub struct Evaluation {
     pub answer: Answer,
     pub verdicts: [Verdict; 7],

@@ -11,14 +11,14 @@ use table::shape::{MAX_REQUIREMENTS, REQUIREMENT_WIDTH};
 
 // A domain that is required, and the row that asks for it.
 #[repr(C)]
-#[derive(Drop)]
+#[derive(Clone, Copy)]
 pub struct Requirement {
     pub domain: usize,
     pub row: usize,
 }
 
 // What the records so far come to: `good` of them name a domain before one that names none, `many` by domain.
-#[derive(Drop)]
+#[derive(Clone, Copy)]
 pub struct Tally {
     pub room: usize,
     pub stated: usize,

@@ -12,7 +12,7 @@ use leb::{ByteRead, Cursor, PartRead};
 use refusal::{Part, Refusal};
 
 // A module's name, as a range of the file; zeros where `named` is false.
-#[derive(Drop)]
+#[derive(Clone, Copy)]
 pub(crate) struct Label {
     pub named: bool,
     pub start: usize,
@@ -20,13 +20,13 @@ pub(crate) struct Label {
 }
 
 // What name sections have told: the module's name, and how many function names.
-#[derive(Drop)]
+#[derive(Clone, Copy)]
 pub(crate) struct Named {
     pub label: Label,
     pub count: usize,
 }
 
-#[derive(Drop)]
+#[derive(Clone, Copy)]
 pub(crate) enum NamedRead {
     Read(Named, Cursor),
     Refused(Refusal),
@@ -127,13 +127,13 @@ fn read_subsections(
 }
 
 // A custom section's own name, and what name sections have told after it.
-#[derive(Drop)]
+#[derive(Clone, Copy)]
 pub(crate) struct Custom {
     pub name: Part,
     pub inner: Named,
 }
 
-#[derive(Drop)]
+#[derive(Clone, Copy)]
 pub(crate) enum CustomRead {
     Read(Custom, Cursor),
     Refused(Refusal),

@@ -9,7 +9,7 @@ use leb::{ByteRead, Cursor, PartRead, U32Read};
 use refusal::{Part, Refusal};
 
 // `most` is zero where `bounded` is false.
-#[derive(Drop)]
+#[derive(Clone, Copy)]
 pub(crate) struct Limits {
     pub flag: u8,
     pub least: u32,
@@ -17,14 +17,14 @@ pub(crate) struct Limits {
     pub most: u32,
 }
 
-#[derive(Drop)]
+#[derive(Clone, Copy)]
 pub(crate) enum LimitsRead {
     Read(Limits, Cursor),
     Refused(Refusal),
 }
 
 // What an import asks for: a type index; an element type and limits; limits; a value type and mutability.
-#[derive(Drop)]
+#[derive(Clone, Copy)]
 pub(crate) enum Desc {
     Func(u32),
     Table(u8, Limits),
@@ -32,13 +32,13 @@ pub(crate) enum Desc {
     Global(u8, u8),
 }
 
-#[derive(Drop)]
+#[derive(Clone, Copy)]
 pub(crate) enum DescRead {
     Read(Desc, Cursor),
     Refused(Refusal),
 }
 
-#[derive(Drop)]
+#[derive(Clone, Copy)]
 pub(crate) struct Import {
     pub module: Part,
     pub field: Part,
@@ -46,33 +46,33 @@ pub(crate) struct Import {
     pub desc: Desc,
 }
 
-#[derive(Drop)]
+#[derive(Clone, Copy)]
 pub(crate) enum ImportRead {
     Read(Import, Cursor),
     Refused(Refusal),
 }
 
-#[derive(Drop)]
+#[derive(Clone, Copy)]
 pub(crate) struct Export {
     pub name: Part,
     pub kind: u8,
     pub index: u32,
 }
 
-#[derive(Drop)]
+#[derive(Clone, Copy)]
 pub(crate) enum ExportRead {
     Read(Export, Cursor),
     Refused(Refusal),
 }
 
 // A function's name.
-#[derive(Drop)]
+#[derive(Clone, Copy)]
 pub(crate) struct Symbol {
     pub index: u32,
     pub name: Part,
 }
 
-#[derive(Drop)]
+#[derive(Clone, Copy)]
 pub(crate) enum SymbolRead {
     Read(Symbol, Cursor),
     Refused(Refusal),

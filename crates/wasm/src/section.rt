@@ -15,7 +15,7 @@ use refusal::{Part, Refusal};
 use table::shape::{MAX_SECTIONS, SECTION_WIDTH};
 
 // A section's row: id, the payload's offset and size, a custom section's own name.
-#[derive(Drop)]
+#[derive(Clone, Copy)]
 pub(crate) struct Section {
     pub id: u8,
     pub from: usize,
@@ -24,7 +24,7 @@ pub(crate) struct Section {
 }
 
 // How many rows the tables have, and the module's name.
-#[derive(Drop)]
+#[derive(Clone, Copy)]
 pub(crate) struct Counts {
     pub sections: usize,
     pub imports: usize,
@@ -32,19 +32,19 @@ pub(crate) struct Counts {
     pub named: Named,
 }
 
-#[derive(Drop)]
+#[derive(Clone, Copy)]
 pub(crate) enum CountsRead {
     Read(Counts, Cursor),
     Refused(Refusal),
 }
 
-#[derive(Drop)]
+#[derive(Clone, Copy)]
 pub(crate) struct Contents {
     pub name: Part,
     pub counts: Counts,
 }
 
-#[derive(Drop)]
+#[derive(Clone, Copy)]
 pub(crate) enum ContentsRead {
     Read(Contents, Cursor),
     Refused(Refusal),

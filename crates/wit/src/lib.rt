@@ -1,4 +1,6 @@
 // wit.rs: the manifest reader over lent tables.
+#![tactic(auto)]
+
 mod line;
 mod rows;
 
@@ -12,7 +14,7 @@ use crate::rows::{Known, KnownRead, close_world, first_known, obey};
 use refusal::{Answer, Refusal};
 
 // A manifest that was read: the package as a range of the text, and how many rows tables 5 and 6 have.
-#[derive(Drop)]
+#[derive(Clone, Copy)]
 pub struct Manifest {
     pub packaged: bool,
     pub start: usize,
@@ -21,7 +23,7 @@ pub struct Manifest {
     pub references: usize,
 }
 
-#[derive(Drop)]
+#[derive(Clone, Copy)]
 pub enum ManifestRead {
     Manifest(Manifest),
     Refused(Refusal),

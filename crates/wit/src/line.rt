@@ -8,7 +8,7 @@ use refusal::Part;
 use text::pieces::trimmed_at;
 
 // A range of the text; zeros where `given` is false.
-#[derive(Drop)]
+#[derive(Clone, Copy)]
 pub(crate) struct Mark {
     pub given: bool,
     pub from: usize,
@@ -17,7 +17,7 @@ pub(crate) struct Mark {
 
 // Nothing; a package; a world and its name; the end of a world; a reference, whether it is an export, its path and its signature;
 // a lone `{`; anything else.
-#[derive(Drop)]
+#[derive(Clone, Copy)]
 pub(crate) enum Directive {
     Blank,
     Package(Part),

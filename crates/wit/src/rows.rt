@@ -11,7 +11,7 @@ use refusal::{Part, Refusal};
 use table::shape::{MAX_REFERENCES, MAX_WORLDS, REFERENCE_WIDTH, WORLD_WIDTH};
 
 // A row of table 6: the world by its row of table 5, whether it is an export, its path and its signature.
-#[derive(Drop)]
+#[derive(Clone, Copy)]
 pub(crate) struct Reference {
     pub world: usize,
     pub export: bool,
@@ -20,7 +20,7 @@ pub(crate) struct Reference {
 }
 
 // What is known after some lines: the number of the last, the package, the open world's name, how many rows tables 5 and 6 have.
-#[derive(Drop)]
+#[derive(Clone, Copy)]
 pub(crate) struct Known {
     pub line: usize,
     pub pack: Mark,
@@ -30,7 +30,7 @@ pub(crate) struct Known {
 }
 
 // With the place where the next line begins.
-#[derive(Drop)]
+#[derive(Clone, Copy)]
 pub(crate) enum KnownRead {
     Read(Known, usize),
     Refused(Refusal),

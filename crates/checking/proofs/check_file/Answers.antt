@@ -1,0 +1,13 @@
+-- `checking::check_file` meets its contract. Assumes nothing.
+use borrow.Author.Rules.{rules}
+use Rattle.checking.proofs.Checking.{settled-refused, settled-accepted}
+use Rattle.checking.proofs.check_file.Goals as goal
+
+pub returns-then-number-eq13 : goal.returns-then-number-eq13
+returns-then-number-eq13 c = c.check_all.ensures
+
+pub returns-else-number-eq13 : goal.returns-else-number-eq13
+returns-else-number-eq13 c = settled-refused _ _ c.check_few-first.ensures c.in-Refused.is c.number.ensures c.if-number-eq13.false
+
+pub returns-in_default : goal.returns-in_default
+returns-in_default c = settled-accepted _ _ c.check_few-first.ensures c.in_default.is

@@ -1,0 +1,73 @@
+-- `compat::compare_tables` meets its contract. Assumes nothing.
+use mathlib.Core.Path.{◌≡◌, sym, ◌∙◌}
+use Prim.Native.Nat.{◌*◌, ◌≤◌}
+use native.Mathlib.Omega.{arith}
+use borrow.Author.Rules.{rules}
+use lib.ListN.{length, take}
+use lib.Seq.{length-take-le}
+use Rattle.differences.proofs.Tests.{exports-good, imports-good}
+use Rattle.keyed.proofs.Filling.{zeros-length}
+use Rattle.compat.proofs.Listed.{rows_fit, compares-full8, compares-full9, compares-lists}
+use Rattle.table.specs.Shape.{width, limit}
+use Rattle.compat.specs.Keying.{key_limit}
+use Rattle.compat.proofs.compare_tables.Goals as goal
+
+pub list_exports-m-requires : goal.list_exports-m-requires
+list_exports-m-requires c =
+    let g = c.requires.0 in
+    let p = (exports-good _ _ _ g.0.exports-good).0 in
+    let q = (exports-good _ _ _ g.1.exports-good).0 in
+    ((p, q, omega (arith, zeros-length key_limit)), (g.0.exports-good, g.1.exports-good))
+
+pub returns-then-capacity-m : goal.returns-then-capacity-m
+returns-then-capacity-m c =
+    let a = c.args in
+    compares-full8 a.baseline.now a.bi.now a.be.now a.candidate.now a.ci.now a.ce.now a.nbi a.nbe a.nci
+    a.nce _ _ c.list_exports-m.ensures (omega (arith, c.capacity.ensures, c.if-capacity-m.true)) c.requires.xd_value.0 c.requires.xd_value.1
+
+pub list_needs-n-requires : goal.list_needs-n-requires
+list_needs-n-requires c =
+    let g = c.requires.0 in
+    let p = imports-good _ _ _ g.0.imports-good in
+    let q = imports-good _ _ _ g.1.imports-good in
+    (p, q, omega (arith, zeros-length key_limit))
+
+pub returns-then-capacity-n : goal.returns-then-capacity-n
+returns-then-capacity-n c =
+    compares-full9 _ _ _ _ _ _ _ _ _ _ _ _ c.list_exports-m.ensures
+    (omega (arith, c.capacity.ensures, c.if-capacity-m.left)) c.list_needs-n.ensures
+    (omega (arith, c.capacity-2.ensures, c.if-capacity-n.true)) c.requires.xd_value.0 c.requires.xd_value.1
+
+-- the parts that are lent have as many cells as the lists have numbers
+pub slice_bounds-lay_exports-end : goal.slice_bounds-lay_exports-end
+slice_bounds-lay_exports-end c = sym (length-take-le _ _ c.list_exports-m.ensures.within)
+
+pub lay_exports-requires : goal.lay_exports-requires
+lay_exports-requires c = (
+  c.requires.1.0,
+  rw (length-take-le _ _ c.list_exports-m.ensures.within)
+      (rows_fit _ (width 8) (limit 8) _ (omega (arith, c.capacity.ensures, c.if-capacity-m.left))),
+)
+
+pub slice_bounds-lay_needs-end : goal.slice_bounds-lay_needs-end
+slice_bounds-lay_needs-end c = sym (length-take-le _ _ c.list_needs-n.ensures.within)
+
+pub lay_needs-requires : goal.lay_needs-requires
+lay_needs-requires c = (
+  c.requires.1.1,
+  rw (length-take-le _ _ c.list_needs-n.ensures.within)
+      (rows_fit _ (width 9) (limit 9) _ (omega (arith, c.capacity-2.ensures, c.if-capacity-n.left))),
+)
+
+pub slice_bounds-breaks_nothing-end : goal.slice_bounds-breaks_nothing-end
+slice_bounds-breaks_nothing-end c = sym (length-take-le _ _ c.list_exports-m.ensures.within)
+
+pub slice_bounds-breaks_nothing-end-2 : goal.slice_bounds-breaks_nothing-end-2
+slice_bounds-breaks_nothing-end-2 c = sym (length-take-le _ _ c.list_needs-n.ensures.within)
+
+pub returns : goal.returns
+returns c =
+    compares-lists _ _ _ _ _ _ _ _ _ _ _ _ c.list_exports-m.ensures
+    (omega (arith, c.capacity.ensures, c.if-capacity-m.left)) c.list_needs-n.ensures
+    (omega (arith, c.capacity-2.ensures, c.if-capacity-n.left)) c.breaks_nothing-compatible.ensures
+    c.lay_exports.ensures c.lay_needs.ensures

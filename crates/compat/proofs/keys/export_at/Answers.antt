@@ -1,0 +1,11 @@
+-- `compat::keys::export_at` meets its contract. Assumes nothing.
+use mathlib.Core.Path.{sym, ◌∙◌}
+use borrow.Author.Rules.{rules}
+use Rattle.differences.proofs.Numbered.{sided-first, sided-second}
+use Rattle.compat.proofs.keys.export_at.Goals as goal
+
+pub returns-then-i-nb : goal.returns-then-i-nb
+returns-then-i-nb c = c.export_key.ensures ∙ sym (sided-first _ _ _ _ c.if-i-nb.true)
+
+pub returns : goal.returns
+returns c = c.export_key-2.ensures ∙ sym (sided-second _ _ _ _ c.if-i-nb.false)

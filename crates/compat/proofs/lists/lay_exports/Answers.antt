@@ -1,0 +1,27 @@
+-- `compat::lists::lay_exports` meets its contract: the rows below j are there. Assumes nothing.
+use mathlib.Core.Path.{◌≡◌, refl, sym, ◌∙◌, ap}
+use mathlib.Core.List.{List, [], ◌∷◌}
+use Prim.Native.Nat.{ℕ, ◌-◌, ◌≤◌}
+use native.Mathlib.Omega.{arith}
+use borrow.Author.Rules.{rules}
+use lib.ListN.{length, get_or}
+use Rattle.table.specs.Table.{laid, cells, rows_of}
+use Rattle.table.specs.Shape.{width}
+use Rattle.compat.specs.declared.lists.Place.{Place}
+use Rattle.compat.specs.Listing.{place_cells}
+use Rattle.keyed.proofs.Filling.{no_rows, one-row, filled-all}
+use Rattle.compat.proofs.lists.lay_exports.Goals as goal
+
+pub loop-j-init : goal.loop-j-init
+loop-j-init c = (omega arith, refl, no_rows (place_cells c.args.nb) _ _ c.requires.0)
+
+pub loop-j-preserved : goal.loop-j-preserved
+loop-j-preserved c = (
+  omega arith,
+  search rules,
+  one-row (place_cells c.args.nb) _ _ (width 8) (λ i. refl) _ _ c.loop-j-test.true c.requires.1 c.loop-j.invariant.2
+      (ap (λ (q : Place). q.side ∷ q.row ∷ []) c.place_of-place.ensures) c.put_row.ensures,
+)
+
+pub returns : goal.returns
+returns c = filled-all _ _ _ _ c.loop-j.invariant.0 c.loop-j-test.false c.loop-j.invariant.2

@@ -1,0 +1,13 @@
+-- `differences::export_fits` meets its contract. Assumes nothing.
+use borrow.Author.Rules.{rules}
+use borrow.Author.Tests.{not-true, not-false}
+use Rattle.differences.proofs.Tests.{name_out, name_in}
+use Rattle.differences.proofs.export_fits.Goals as goal
+
+pub returns-then-not-fits : goal.returns-then-not-fits
+returns-then-not-fits c = name_out _ _ _ c.cell.ensures c.cell-2.ensures c.fits.ensures (not-true _ c.if-not-fits.true-raw)
+
+pub returns : goal.returns
+returns c =
+    name_in _ _ _ c.cell.ensures c.cell-2.ensures c.fits.ensures (not-false _ c.if-not-fits.false-raw)
+    c.cell-3.ensures

@@ -1,0 +1,69 @@
+-- `parts::part_of` meets its contract: a row that is not there gives the empty part at the baseline's start. Assumes nothing.
+use mathlib.Core.Path.{◌≡◌}
+use mathlib.Core.Bool.{false}
+use Prim.Native.Nat.{◌+◌, ◌≤◌}
+use native.Mathlib.Omega.{arith}
+use borrow.Author.Rules.{rules}
+use borrow.Author.Tests.{not-true, not-false}
+use lib.ListN.{length}
+use Rattle.refusal.proofs.Ranges.{said_in, said-out}
+use Rattle.differences.specs.Part.{there}
+use Rattle.differences.proofs.Places.{past-count, past_room, outside, part_bytes, part-block, part-offset}
+use Rattle.differences.proofs.Places.{gone-bytes, gone-block, gone-offset}
+use Rattle.differences.proofs.parts.part_of.Goals as goal
+
+pub returns-then-n-row : goal.returns-then-n-row
+returns-then-n-row c =
+    let absent : Type 0 = let a = c.args in there a.file.now a.width a.most a.rows.now a.n a.row ≡ false in
+    let a = c.args in
+    let e : absent = past-count _ _ _ _ _ _ c.if-n-row.true in (
+      gone-bytes _ _ _ _ _ _ e,
+      gone-block _ _ _ _ _ _ e _ _,
+      omega (arith, gone-offset _ _ _ _ _ _ e a.file.ptr.1 a.baseline.ptr.1),
+    )
+
+pub returns-then-capacity-row : goal.returns-then-capacity-row
+returns-then-capacity-row c =
+    let absent : Type 0 = let a = c.args in there a.file.now a.width a.most a.rows.now a.n a.row ≡ false in
+    let a = c.args in
+    let e : absent = past_room _ _ _ _ _ _ c.if-n-row.false c.capacity.ensures c.if-capacity-row.true in (
+      gone-bytes _ _ _ _ _ _ e,
+      gone-block _ _ _ _ _ _ e _ _,
+      omega (arith, gone-offset _ _ _ _ _ _ e a.file.ptr.1 a.baseline.ptr.1),
+    )
+
+pub returns-then-not-fits : goal.returns-then-not-fits
+returns-then-not-fits c =
+    let absent : Type 0 = let a = c.args in there a.file.now a.width a.most a.rows.now a.n a.row ≡ false in
+    let a = c.args in
+    let e : absent =
+    outside _ _ _ _ _ _ c.if-n-row.false c.capacity.ensures c.if-capacity-row.false c.cell-from.ensures c.cell-len.ensures
+    (said-out _ _ _ c.fits.ensures (not-true _ c.if-not-fits.true-raw)) in (
+      gone-bytes _ _ _ _ _ _ e,
+      gone-block _ _ _ _ _ _ e _ _,
+      omega (arith, gone-offset _ _ _ _ _ _ e a.file.ptr.1 a.baseline.ptr.1),
+    )
+
+pub overflow_add-result : goal.overflow_add-result
+overflow_add-result c =
+    let within : c.cell-from.result + c.cell-len.result ≤ length c.args.file.now = said_in _ _ _ c.fits.ensures (not-false _ c.if-not-fits.false-raw) in
+    omega (arith, within)
+
+pub slice_bounds-result-end-2 : goal.slice_bounds-result-end-2
+slice_bounds-result-end-2 c =
+    let within : c.cell-from.result + c.cell-len.result ≤ length c.args.file.now = said_in _ _ _ c.fits.ensures (not-false _ c.if-not-fits.false-raw) in
+    omega (arith, within)
+
+pub returns : goal.returns
+returns c =
+    let within : c.cell-from.result + c.cell-len.result ≤ length c.args.file.now = said_in _ _ _ c.fits.ensures (not-false _ c.if-not-fits.false-raw) in
+    let a = c.args in (
+      part_bytes _ _ _ _ _ _ c.if-n-row.false c.capacity.ensures c.if-capacity-row.false c.cell-from.ensures c.cell-len.ensures (within),
+      part-block _ _ _ _ _ _ c.if-n-row.false c.capacity.ensures c.if-capacity-row.false c.cell-from.ensures c.cell-len.ensures (within)
+          _ _,
+      omega (
+        arith,
+        part-offset a.file.now a.width a.most a.rows.now a.n a.row c.if-n-row.false c.capacity.ensures
+            c.if-capacity-row.false c.cell-from.ensures c.cell-len.ensures (within) a.file.ptr.1 a.baseline.ptr.1,
+      ),
+    )

@@ -1,0 +1,30 @@
+-- `import_rows::desc_fits` meets its contract: a walk over columns. Assumes nothing.
+use Prim.Native.Nat.{◌-◌, ◌≤◌}
+use native.Mathlib.Omega.{arith}
+use borrow.Author.Rules.{rules}
+use borrow.Author.Tests.{not-true, not-false}
+use Rattle.import_rows.proofs.Asking.{Numbered, mark-out, mark-in, number-out, number_in, numbers-in}
+use Rattle.import_rows.proofs.desc_fits.Goals as goal
+
+pub returns-then-cell-given : goal.returns-then-cell-given
+returns-then-cell-given c = mark-out _ _ c.cell.ensures c.cell-2.ensures c.given_of-given.ensures c.cell-3.ensures c.if-cell-given.true
+
+pub loop-column-init : goal.loop-column-init
+loop-column-init c = (
+  omega arith,
+  omega arith,
+  mark-in _ _ c.cell.ensures c.cell-2.ensures c.given_of-given.ensures c.cell-3.ensures c.if-cell-given.false,
+)
+
+pub returns-then-not-number_fits : goal.returns-then-not-number_fits
+returns-then-not-number_fits c = number-out c.loop-column.invariant.2 c.loop-column-test.true c.number_fits.ensures (not-true _ c.if-not-number_fits.true-raw)
+
+pub loop-column-preserved : goal.loop-column-preserved
+loop-column-preserved c = (
+  omega arith,
+  omega arith,
+  number_in c.loop-column.invariant.2 c.loop-column-test.true c.number_fits.ensures (not-false _ c.if-not-number_fits.false-raw),
+)
+
+pub returns : goal.returns
+returns c = numbers-in c.loop-column.invariant.2 c.loop-column-test.false

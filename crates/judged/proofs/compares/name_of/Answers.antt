@@ -1,0 +1,13 @@
+-- `name_of` meets its contract. Assumes nothing.
+use borrow.Author.Rules.{rules}
+use borrow.Author.Tests.{lt-ltb, le-ltb}
+use Rattle.judged.specs.Compares.{name_told}
+use Rattle.judged.proofs.compares.name_of.Goals as goal
+
+pub returns-then-k-name : goal.returns-then-k-name
+unfolding name_told
+returns-then-k-name c = simp (lt-ltb _ _ c.if-k-name.true)
+
+pub returns : goal.returns
+unfolding name_told
+returns c = simp (le-ltb _ _ c.if-k-name.false)

@@ -1,0 +1,10 @@
+-- `judged_u8` meets its contract. Assumes nothing.
+use mathlib.Core.Path.{◌∙◌, ap}
+use borrow.Author.Rules.{rules}
+use Rattle.leb.specs.Answers.{finding_of}
+use Rattle.leb.proofs.Answering.{heard-from}
+use Rattle.told.specs.Reading.{unsigned_told}
+use Rattle.judged.proofs.cursors.judged_u8.Goals as goal
+
+pub returns : goal.returns
+returns c = c.byte_of.ensures ∙ ap unsigned_told (ap finding_of c.u8.ensures ∙ heard-from _ _)

@@ -1,0 +1,20 @@
+-- `judged_effective` meets its contract. Assumes nothing.
+use Prim.Native.Nat.{ℕ}
+use mathlib.Core.Path.{sym, ◌∙◌, ap}
+use Rattle.domains.specs.Domain.{found}
+use Rattle.verdicts.specs.Evaluate.{effective_of}
+use Rattle.policy_text.proofs.Asking.{no-domain, a-domain}
+use Rattle.judged.specs.Policies.{policy_in, effective_told}
+use borrow.Author.Rules.{rules}
+use Rattle.judged.proofs.policies.judged_effective.Goals as goal
+
+pub returns-in_default : goal.returns-in_default
+returns-in_default c = no-domain _ _ _ (sym (ap found c.in_default.is) ∙ c.domain_of-found.ensures)
+
+pub returns : goal.returns
+returns c =
+    let d = sym (ap found c.in-Domain.is) ∙ c.domain_of-found.ensures in
+    let q = c.policy_of-p.ensures in
+    let g = c.args in
+    c.rule_of.ensures ∙ ap effective_told (rw q at c.effective.ensures)
+    ∙ a-domain _ _ (λ (n : ℕ). effective_told (effective_of (policy_in g.cells.now) n)) d

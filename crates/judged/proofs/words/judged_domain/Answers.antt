@@ -1,0 +1,19 @@
+-- `judged_domain` meets its contract. Assumes nothing.
+use Prim.Native.Nat.{ℕ}
+use mathlib.Core.Path.{sym, ◌∙◌, ap}
+use Rattle.refusal.specs.Slug.{slug_of}
+use Rattle.domains.specs.Domain.{found, slug}
+use Rattle.policy_text.proofs.Asking.{no-domain, a-domain}
+use Rattle.judged.specs.Compares.{word_told}
+use borrow.Author.Rules.{rules}
+use Rattle.judged.proofs.words.judged_domain.Goals as goal
+
+pub returns-in_default : goal.returns-in_default
+returns-in_default c = no-domain _ _ _ (sym (ap found c.in_default.is) ∙ c.domain_of-found.ensures)
+
+pub returns : goal.returns
+returns c =
+    let d = sym (ap found c.in-Domain.is) ∙ c.domain_of-found.ensures in
+    let g = c.args in
+    c.word_of.ensures ∙ ap (λ w. word_told w g.k) c.domain_slug.ensures
+    ∙ a-domain _ _ (λ (n : ℕ). word_told (slug_of (slug n)) g.k) d

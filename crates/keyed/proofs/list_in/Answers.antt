@@ -1,0 +1,37 @@
+-- `keyed::list_in` meets its contract. Assumes nothing.
+use mathlib.Core.Path.{◌≡◌, refl, sym, ◌∙◌}
+use Prim.Native.Nat.{◌+◌, ◌<◌}
+use native.Mathlib.Omega.{arith}
+use borrow.Author.Rules.{rules}
+use borrow.Author.Tests.{not-true, not-false}
+use lib.ListN.{length}
+use Rattle.keyed.proofs.Listing.{room_as, room-ranks, room-lost, room-list, lists-none}
+use Rattle.keyed.proofs.Answering.{whole-quick, whole-slow}
+use Rattle.keyed.proofs.list_in.Goals as goal
+
+pub returns-then-not-has_room : goal.returns-then-not-has_room
+returns-then-not-has_room c = lists-none (sym c.has_room.ensures ∙ not-true _ c.if-not-has_room.true-raw) c.clear.ensures
+
+pub overflow_add-n : goal.overflow_add-n
+overflow_add-n c =
+    let short : length c.args.ranks.now < 18446744073709551616 = omega arith in
+    omega (arith, short, room-ranks _ _ _ _ c.has_room.ensures (not-false _ c.if-not-has_room.false-raw))
+
+pub try_quick-requires : goal.try_quick-requires
+try_quick-requires c =
+    let y = not-false _ c.if-not-has_room.false-raw in
+    (omega arith, room-ranks _ _ _ _ c.has_room.ensures y, room-lost _ _ _ _ c.has_room.ensures y)
+
+pub returns-then-try_quick : goal.returns-then-try_quick
+returns-then-try_quick c =
+    let a = c.args in
+    let y = not-false _ c.if-not-has_room.left in
+    whole-quick a.first.now a.second.now a.keys.now _ a.nb (a.nb + a.nc) a.every
+    (c.try_quick.ensures.done c.if-try_quick.true) (omega arith) c.columns.ensures c.sort.ensures
+    (room-list _ _ _ _ c.has_room.ensures y) (sym c.has_room.ensures ∙ y)
+
+pub returns : goal.returns
+returns c =
+    let a = c.args in
+    whole-slow a.first.now a.second.now a.nb (a.nb + a.nc) a.every (c.try_quick.ensures.kept c.if-try_quick.false)
+    (room_as _ refl c.try_quick.kept.1.1.1.1.1.0 c.try_quick.kept.1.1.1.1.1.1.0 refl) c.list_by_rank.ensures

@@ -1,0 +1,52 @@
+-- `keyed::marks::mark_missing` meets its contract: the rows below i are there, and what is left of the search answers for all of it.
+-- Assumes nothing.
+use mathlib.Core.Path.{◌≡◌, refl, sym, ◌∙◌, ap}
+use mathlib.Core.Logic.{⊎_elim}
+use mathlib.Core.List.{List}
+use Prim.Native.Nat.{ℕ, ◌-◌, ◌≤◌}
+use native.Mathlib.Omega.{arith}
+use borrow.Author.Rules.{rules}
+use lib.ListN.{length, get_or}
+use Rattle.table.specs.Table.{laid, cells, rows_of}
+use Rattle.differences.specs.Numbers.{some_from}
+use Rattle.keyed.specs.Keying.{single, some_other, lonely}
+use Rattle.keyed.proofs.Filling.{no_rows, one-row}
+use Rattle.keyed.proofs.Searching.{some-hit, some-miss, some_end, others-end, like, sought-is, found-one, passed-one}
+use Rattle.keyed.proofs.Searching.{lonely-met, lonely-kept}
+use Rattle.keyed.proofs.marks.mark_missing.Goals as goal
+
+pub rows-init : goal.rows-init
+rows-init c = (omega arith, refl, no_rows single _ _ c.requires.0)
+
+pub search-init : goal.search-init
+search-init c =
+    (
+  refl,
+  refl,
+  others-end _ _ _ c.others-span.ensures c.requires.1,
+  sought-is _ _ _ _ c.others-span.ensures,
+
+pub search-preserved : goal.search-preserved
+search-preserved c =
+    let i = c.search.invariant in (
+      i.0,
+      i.1,
+      i.2,
+      sym (some-miss _ _ _ c.search-test.true (passed-one _ _ _ _ i.1 _ c.if-ranks-j.false)) ∙ i.3,
+    )
+
+pub rows-preserved : goal.rows-preserved
+rows-preserved c =
+    let met : let a = c.args in c.search-test.auto ≡ lonely a.ranks.now a.nb a.n c.rows.i = let i = c.search.invariant in ⊎_elim (λ w. w.1 ∙ i.0 ∙ i.1 ∙ lonely-kept _ _ _ _ (sym i.3 ∙ some_end _ _ _ w.0.left)) (λ w. w.3 ∙ lonely-met _ _ _ _ (sym i.3 ∙ some-hit _ _ _ w.0.taken (found-one _ _ _ _ i.1 _ w.2.taken))) c.search-test.branch in
+    (
+      omega arith,
+      search rules,
+      one-row single _ _ 1 (λ x. refl) _ _ c.rows-test.taken (omega (arith, c.requires.3)) c.rows.inv.2
+          (ap single (met)) c.put_row.ensures,
+    )
+
+pub returns : goal.returns
+returns c =
+    let a = c.args in
+    let e : c.rows.i ≡ a.n = omega arith in
+    c.rows.invariant.2 ∙ ap (λ (m : ℕ). laid (length a.lost.now) (cells single (rows_of (lonely a.ranks.now a.nb a.n) m))) e

@@ -1,0 +1,27 @@
+use mathlib.Core.Path.{◌≡◌, refl, sym, ◌∙◌, ap}
+use mathlib.Core.Logic.{⊎_elim}
+use mathlib.Core.List.{List}
+use Prim.Native.Nat.{ℕ, ◌-◌, ◌≤◌}
+use native.Mathlib.Omega.{arith}
+use borrow.Author.Rules.{rules}
+use lib.ListN.{length, get_or}
+use Rattle.table.specs.Table.{laid, cells, rows_of}
+use Rattle.differences.specs.Numbers.{some_from}
+use Rattle.keyed.specs.Keying.{single, some_other, lonely}
+use Rattle.keyed.proofs.Filling.{no_rows, one-row}
+use Rattle.keyed.proofs.Searching.{some-hit, some-miss, some_end, others-end, like, sought-is, found-one, passed-one}
+use Rattle.keyed.proofs.Searching.{lonely-met, lonely-kept}
+use Rattle.keyed.proofs.marks.mark_missing.Given as goal
+
+abbrev pub invariant-search : goal.invariant-search
+invariant-search l = (l.kept ≡ l.rank) × (l.rank ≡ get_or l.ranks l.i 0) × (l.end ≤ l.n)
+    × (some_from (like l.ranks l.nb l.n l.i) l.j (l.end - l.j) ≡ some_other (like l.ranks l.nb l.n l.i) l.nb l.n l.i)
+
+abbrev pub decreases-search : goal.decreases-search
+decreases-search l = l.end - l.j
+
+abbrev pub invariant-rows : goal.invariant-rows
+invariant-rows l = (l.i ≤ l.n) × (length l.lost ≡ length l.initial.lost) × (l.lost ≡ laid (length l.initial.lost) (cells single (rows_of (lonely l.ranks l.nb l.n) l.i)))
+
+abbrev pub decreases-rows : goal.decreases-rows
+decreases-rows l = l.n - l.i

@@ -1,0 +1,16 @@
+use mathlib.Core.Path.{◌≡◌, refl, sym, ◌∙◌, ap}
+use Prim.Native.Nat.{ℕ, ◌-◌, ◌≤◌}
+use native.Mathlib.Omega.{arith}
+use borrow.Author.Rules.{rules}
+use lib.ListN.{length}
+use Rattle.table.specs.Table.{laid, cells, rows_of}
+use Rattle.keyed.specs.Keying.{single}
+use Rattle.keyed.proofs.Filling.{no_rows, one-row}
+use Rattle.keyed.specs.Quick.{print_at}
+use Rattle.keyed.proofs.quick.fill_prints.Given as goal
+
+abbrev pub invariant-loop-i : goal.invariant-loop-i
+invariant-loop-i l = (l.i ≤ l.n) × (length l.prints ≡ length l.initial.prints) × (l.prints ≡ laid (length l.initial.prints) (cells single (rows_of (print_at l.first l.second l.keys) l.i)))
+
+abbrev pub decreases-loop-i : goal.decreases-loop-i
+decreases-loop-i l = l.n - l.i

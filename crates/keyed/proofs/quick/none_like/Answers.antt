@@ -1,0 +1,43 @@
+-- `keyed::quick::none_like` meets its contract: no print passed is the one, unless it was told. Assumes nothing.
+use mathlib.Core.Path.{◌≡◌, sym, ◌∙◌}
+use mathlib.Core.Bool.{false, false≢true}
+use mathlib.Core.Logic.{⊎_elim}
+use Prim.Native.Nat.{◌+◌, ◌-◌, ◌≤◌}
+use native.Mathlib.Omega.{arith}
+use borrow.Author.Tests.{not-true}
+use Rattle.keyed.specs.Quick.{Unlike}
+use Rattle.keyed.proofs.Seeking.{unlike-one}
+use Rattle.keyed.proofs.quick.none_like.Goals as goal
+
+pub loop-i-init : goal.loop-i-init
+loop-i-init c = (omega arith, λ e j h k. absurd (omega arith))
+
+pub overflow_add-at : goal.overflow_add-at
+overflow_add-at c = omega arith
+
+pub offset_bounds-prints-at : goal.offset_bounds-prints-at
+offset_bounds-prints-at c = omega arith
+
+pub bounds-prints-at : goal.bounds-prints-at
+bounds-prints-at c = omega arith
+
+pub overflow_add-i : goal.overflow_add-i
+overflow_add-i c = omega arith
+
+pub loop-i-smaller : goal.loop-i-smaller
+loop-i-smaller c = omega arith
+
+pub loop-i-preserved : goal.loop-i-preserved
+loop-i-preserved c =
+    let x = c.args in
+    let i = c.loop-i.i in (
+      omega arith,
+      λ e. ⊎_elim
+          (λ w. absurd (false≢true (sym e ∙ w.1)))
+          (λ w. unlike-one x.prints.now x.print x.at (x.at + i) (x.at + (i + 1)) (omega arith) (c.loop-i.invariant.1 (sym w.1 ∙ e))
+          w.0.left)
+          c.if-prints-at.branch,
+    )
+
+pub returns : goal.returns
+returns c = c.loop-i.invariant.1 (not-true _ e) j h (omega arith)

@@ -1,0 +1,13 @@
+use Prim.Native.Nat.{◌+◌, ◌-◌, ◌≤◌}
+use native.Mathlib.Omega.{arith}
+use borrow.Author.Tests.{not-false}
+use lib.ListN.{length}
+use Rattle.keyed.specs.Quick.{Unlike}
+use Rattle.keyed.proofs.Seeking.{unlike-join}
+use Rattle.keyed.proofs.quick.pass_blocks.Given as goal
+
+abbrev pub invariant-loop-j : goal.invariant-loop-j
+invariant-loop-j l = (l.from ≤ l.j) × (l.j ≤ l.to) × Unlike l.prints l.print l.from l.j
+
+abbrev pub decreases-loop-j : goal.decreases-loop-j
+decreases-loop-j l = l.to - l.j

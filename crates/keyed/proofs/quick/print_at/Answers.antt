@@ -1,0 +1,15 @@
+-- `keyed::quick::print_at` meets its contract. Assumes nothing.
+use borrow.Author.Rules.{rules}
+use Rattle.keyed.proofs.Printing.{print-at-is}
+use Rattle.keyed.proofs.quick.print_at.Goals as goal
+
+pub stir-major-requires : goal.stir-major-requires
+stir-major-requires c = c.name_print-name.ensures.1
+
+pub stir-requires : goal.stir-requires
+stir-requires c = c.stir-major.ensures.1
+
+pub returns : goal.returns
+returns c =
+    print-at-is _ _ _ _ c.name_at.ensures c.name_print-name.ensures.0 c.cell.ensures c.stir-major.ensures.0 c.cell-2.ensures
+    c.stir.ensures.0

@@ -1,0 +1,16 @@
+use mathlib.Core.Path.{◌≡◌, refl, sym, ◌∙◌, ap}
+use Prim.Native.Nat.{ℕ, ◌+◌, ◌-◌, ◌≤◌, ◌<◌}
+use native.Mathlib.Omega.{arith}
+use borrow.Author.Rules.{rules}
+use lib.ListN.{length, get_or, drop, length-set}
+use Rattle.sorting.proofs.Sorts.{get_d-mem}
+use Rattle.keyed.specs.Keying.{same_key, ranked_from, ranked}
+use Rattle.keyed.proofs.Ranking.{ranked-none, ranked-start, ranked-step, ranked-end, rank_most}
+use Rattle.keyed.proofs.ranks.number_rows.Given as goal
+
+abbrev pub invariant-loop-k : goal.invariant-loop-k
+invariant-loop-k l = (l.k ≤ length l.list) × (l.rank ≤ l.k + 1) × (length l.ranks ≡ length l.initial.ranks)
+    × (ranked_from (same_key l.first l.second l.keys) l.last l.rank (drop l.k l.list) l.ranks ≡ ranked (same_key l.first l.second l.keys) l.list l.initial.ranks)
+
+abbrev pub decreases-loop-k : goal.decreases-loop-k
+decreases-loop-k l = length l.list - l.k

@@ -1,0 +1,9 @@
+-- `module_of` meets its contract. Assumes nothing.
+use borrow.Author.Rules.{rules}
+use Rattle.listed.proofs.modules.module_of.Goals as goal
+
+pub returns-in-Bytes : goal.returns-in-Bytes
+returns-in-Bytes c = rw c.in-Bytes.is
+
+pub returns-in-Refused : goal.returns-in-Refused
+returns-in-Refused c = rw c.in-Refused.is c.no_module.ensures

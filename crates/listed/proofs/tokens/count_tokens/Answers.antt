@@ -1,0 +1,34 @@
+-- `count_tokens` meets its contract: those that are counted and those that are left make the whole. Assumes nothing.
+use Prim.Native.Nat.{◌+◌, ◌-◌, ◌≤◌}
+use native.Mathlib.Omega.{arith}
+use mathlib.Core.Path.{◌≡◌, ap}
+use lib.ListN.{length}
+use borrow.Author.Rules.{rules}
+use Rattle.policy_text.specs.Token.{tokens_in}
+use Rattle.policy_text.proofs.TokenLists.{More}
+use Rattle.listed.proofs.Listing.{found-more, found_none}
+use Rattle.listed.proofs.tokens.count_tokens.Goals as goal
+
+pub loop-next-init : goal.loop-next-init
+loop-next-init c = (omega arith, omega arith, omega arith)
+
+pub enum_known-next : goal.enum_known-next
+enum_known-next c = c.in-At.in-At-own.keys1
+
+pub returns-in_default : goal.returns-in_default
+returns-in_default c = (omega (arith, ap length (found_none _ _ _ c.first_token.result c.first_token.ensures c.in_default.in_default-own.keys2)), omega arith)
+
+pub overflow_add-n : goal.overflow_add-n
+overflow_add-n c =
+    let more : (let a = c.args in More a.s.now c.loop-next.i a.end c.in-At.field-0.from c.in-At.field-0.len c.in-At.next) = found-more _ _ _ c.first_token.ensures c.in-At.is in
+    omega (arith, (more).on)
+
+pub loop-next-smaller : goal.loop-next-smaller
+loop-next-smaller c =
+    let more : (let a = c.args in More a.s.now c.loop-next.i a.end c.in-At.field-0.from c.in-At.field-0.len c.in-At.next) = found-more _ _ _ c.first_token.ensures c.in-At.is in
+    omega (arith, (more).on, (more).near)
+
+pub loop-next-preserved : goal.loop-next-preserved
+loop-next-preserved c =
+    let more : (let a = c.args in More a.s.now c.loop-next.i a.end c.in-At.field-0.from c.in-At.field-0.len c.in-At.next) = found-more _ _ _ c.first_token.ensures c.in-At.is in
+    let m = more in (omega (arith, m.on), omega (arith, m.on, m.near), omega (arith, ap length m.list))

@@ -1,0 +1,26 @@
+-- `list_rule` meets its contract. Assumes nothing.
+use native.Mathlib.Omega.{arith}
+use borrow.Author.Rules.{rules}
+use Rattle.listed.specs.Tokens.{tokens_bytes, tokens_told}
+use Rattle.listed.proofs.Laying.{delivers-none}
+use Rattle.listed.proofs.Listing.{rule-refused, rule-short, rule-listed, tokens-delivered}
+use Rattle.listed.proofs.tokens.list_rule.Goals as goal
+
+pub overflow_add-end : goal.overflow_add-end
+overflow_add-end c =
+    let d = c.args.d in
+    omega (arith, rule-short _ _ d c.test_policy.ensures c.in-Accepted.is c.effective-rule.ensures)
+
+pub lay_tokens-requires : goal.lay_tokens-requires
+lay_tokens-requires c = rule-short _ _ c.args.d c.test_policy.ensures c.in-Accepted.is c.effective-rule.ensures
+
+pub returns-in-Refused : goal.returns-in-Refused
+returns-in-Refused c =
+    let d = c.args.d in
+    delivers-none tokens_bytes tokens_told (rule-refused _ _ d c.test_policy.ensures c.in-Refused.is) c.no_tokens.ensures
+
+pub returns-in-Accepted : goal.returns-in-Accepted
+returns-in-Accepted c =
+    let d = c.args.d in
+    tokens-delivered _ (rule-listed _ _ d c.test_policy.ensures c.in-Accepted.is c.effective-rule.ensures)
+    c.lay_tokens.ensures

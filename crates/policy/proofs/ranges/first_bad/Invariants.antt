@@ -1,0 +1,15 @@
+use mathlib.Core.Path.{◌≡◌, sym, ◌∙◌}
+use Prim.Native.Nat.{◌+◌, ◌-◌, ◌≤◌}
+use native.Mathlib.Omega.{arith}
+use lib.ListN.{drop}
+use borrow.Author.Tests.{not-true, not-false}
+use borrow.Author.Rules.{rules}
+use Rattle.policy.specs.Eight.{eight, first_bad, slot_of}
+use Rattle.policy.proofs.EightLaws.{bad-on, bad-here, bad-seven, bad-eight, eight-next}
+use Rattle.policy.proofs.ranges.first_bad.Given as goal
+
+abbrev pub invariant-loop-i : goal.invariant-loop-i
+invariant-loop-i l = (l.i ≤ 7) × (first_bad l.n (eight l.p) ≡ l.i + first_bad l.n (drop l.i (eight l.p)))
+
+abbrev pub decreases-loop-i : goal.decreases-loop-i
+decreases-loop-i l = 7 - l.i

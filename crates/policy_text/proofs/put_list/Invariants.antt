@@ -1,0 +1,12 @@
+use Prim.Native.Nat.{◌+◌, ◌-◌, ◌≤◌}
+use native.Mathlib.Omega.{arith}
+use lib.ListN.{length}
+use borrow.Author.Rules.{rules}
+use Rattle.policy_text.proofs.WriteLaws.{Going, going-first, going_next, going-last, comma-near, TokenAt, token-at, whole-list}
+use Rattle.policy_text.proofs.put_list.Given as goal
+
+abbrev pub invariant-loop-i : goal.invariant-loop-i
+invariant-loop-i l = (l.i ≤ length l.list + 1) × Going l.list 0 (length l.list) l.initial.out l.at l.go l.out l.i l.n l.some
+
+abbrev pub decreases-loop-i : goal.decreases-loop-i
+decreases-loop-i l = length l.list + 1 - l.i

@@ -1,0 +1,13 @@
+use Prim.Native.Nat.{◌-◌, ◌≤◌}
+use native.Mathlib.Omega.{arith}
+use lib.ListN.{get_or}
+use Rattle.policy.specs.View.{seven}
+use Rattle.policy.specs.Eight.{no_slot}
+use Rattle.policy_text.proofs.WriteLaws.{Turning, turning-first, turning-next, turning-last, seven-next, seven-end}
+use Rattle.policy_text.proofs.put_rules.Given as goal
+
+abbrev pub invariant-loop-d : goal.invariant-loop-d
+invariant-loop-d l = (l.d ≤ 7) × Turning l.s (seven l.p) l.initial.out l.at l.go l.out l.d l.n
+
+abbrev pub decreases-loop-d : goal.decreases-loop-d
+decreases-loop-d l = 7 - l.d

@@ -1,0 +1,13 @@
+-- `put_stance` meets its contract. Assumes nothing.
+use borrow.Author.Rules.{rules}
+use Rattle.output.proofs.ByteLaws.{wrote-put}
+use Rattle.policy_text.specs.Writer.{stance_word}
+use Rattle.policy_text.proofs.put_stance.Goals as goal
+
+pub returns-then-allow : goal.returns-then-allow
+unfolding stance_word
+returns-then-allow c = rw c.if-allow.true (wrote-put _ _ _ _ c.put.ensures)
+
+pub returns : goal.returns
+unfolding stance_word
+returns c = rw c.if-allow.false (wrote-put _ _ _ _ c.put-2.ensures)

@@ -1,0 +1,96 @@
+-- `token_at` meets its contract. Assumes nothing.
+use mathlib.Core.Path.{◌≡◌, refl, sym, ap, ◌∙◌}
+use Prim.Native.Nat.{◌+◌, ◌-◌}
+use native.Mathlib.Omega.{arith}
+use borrow.Author.Rules.{rules}
+use Rattle.refusal.specs.Said.{accepted}
+use Rattle.text.specs.Piece.{bytes_between}
+use Rattle.policy_text.specs.Token.{token_from}
+use Rattle.policy_text.proofs.TokenLaws.{comma-near, token-near, token-next, token-found, token-none}
+use Rattle.policy_text.proofs.token.token_at.Goals as goal
+
+pub loop-i-init : goal.loop-i-init
+loop-i-init c = refl
+
+pub slice_bounds-find-count : goal.slice_bounds-find-count
+slice_bounds-find-count c = omega arith
+
+pub slice_bounds-find-start : goal.slice_bounds-find-start
+slice_bounds-find-start c = omega arith
+
+pub slice_bounds-find-end : goal.slice_bounds-find-end
+slice_bounds-find-end c = omega arith
+
+pub overflow_add-comma : goal.overflow_add-comma
+overflow_add-comma c =
+    let a = c.args in
+    omega (arith, comma-near a.s.now c.loop-i.i a.end (omega arith) (omega arith) c.find.result c.find.ensures)
+
+pub slice_bounds-trim-count : goal.slice_bounds-trim-count
+slice_bounds-trim-count c =
+    let a = c.args in
+    omega (arith, comma-near a.s.now c.loop-i.i a.end (omega arith) (omega arith) c.find.result c.find.ensures)
+
+pub slice_bounds-trim-start : goal.slice_bounds-trim-start
+slice_bounds-trim-start c =
+    let a = c.args in
+    omega (arith, comma-near a.s.now c.loop-i.i a.end (omega arith) (omega arith) c.find.result c.find.ensures)
+
+pub slice_bounds-trim-end : goal.slice_bounds-trim-end
+slice_bounds-trim-end c =
+    let a = c.args in
+    omega (arith, comma-near a.s.now c.loop-i.i a.end (omega arith) (omega arith) c.find.result c.find.ensures)
+
+pub overflow_add-at : goal.overflow_add-at
+overflow_add-at c =
+    let a = c.args in
+    let s = a.s.now in
+    let i = c.loop-i.i in
+    let k = c.find.result in
+    omega (
+      arith,
+      token-near s i a.end (omega arith) (omega arith) k c.find.ensures c.trim-t.result c.trim-t.ensures,
+      comma-near s i a.end (omega arith) (omega arith) k c.find.ensures,
+    )
+
+pub returns-then-len-ne0 : goal.returns-then-len-ne0
+returns-then-len-ne0 c =
+    let a = c.args in
+    let s = a.s.now in
+    let i = c.loop-i.i in
+    let k = c.find.result in
+    ap accepted
+    (sym
+    (c.loop-i.invariant
+    ∙ token-found s i a.end (omega arith) (omega arith) k c.find.ensures c.trim-t.result c.trim-t.ensures
+    c.if-len-ne0.true c.past-next.ensures))
+
+pub overflow_add-i : goal.overflow_add-i
+overflow_add-i c =
+    let a = c.args in
+    let s = a.s.now in
+    let i = c.loop-i.i in
+    let k = c.find.result in
+    omega (arith, comma-near s i a.end (omega arith) (omega arith) k c.find.ensures)
+
+pub loop-i-smaller : goal.loop-i-smaller
+loop-i-smaller c =
+    let a = c.args in
+    let s = a.s.now in
+    let i = c.loop-i.i in
+    let k = c.find.result in
+    omega (arith, comma-near s i a.end (omega arith) (omega arith) k c.find.ensures)
+
+pub loop-i-preserved : goal.loop-i-preserved
+loop-i-preserved c =
+    let a = c.args in
+    let s = a.s.now in
+    let i = c.loop-i.i in
+    let k = c.find.result in
+    c.loop-i.invariant ∙ token-next s i a.end (omega arith) (omega arith) k c.find.ensures c.trim-t.result c.trim-t.ensures
+    c.if-len-ne0.false
+
+pub returns : goal.returns
+returns c =
+    let a = c.args in
+    ap accepted (sym (c.loop-i.invariant ∙ token-none a.s.now c.loop-i.i a.end (omega arith)))

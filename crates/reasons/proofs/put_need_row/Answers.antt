@@ -1,0 +1,19 @@
+-- `reasons::put_need_row` meets its contract. Assumes nothing.
+use native.Mathlib.Omega.{arith}
+use borrow.Author.Rules.{rules}
+use Rattle.output.proofs.ByteLaws.{wrote_none}
+use Rattle.reasons.proofs.Lines.{need-none, need-some}
+use Rattle.reasons.proofs.put_need_row.Goals as goal
+
+pub returns-then-cell-eq0 : goal.returns-then-cell-eq0
+returns-then-cell-eq0 c =
+    let a = c.args in
+    rw (need-none a.file.now a.imports.now a.cd.now a.i c.cell.ensures c.if-cell-eq0.true)
+    (wrote_none a.out.now a.at a.go (omega arith))
+
+pub returns : goal.returns
+returns c =
+    let a = c.args in
+    rw (need-some a.file.now a.imports.now a.cd.now a.i c.cell.ensures c.if-cell-eq0.false c.cell-domain.ensures
+    c.cell-2.ensures)
+    c.put_need.ensures

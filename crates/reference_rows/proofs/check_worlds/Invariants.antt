@@ -1,0 +1,14 @@
+use Prim.Native.Nat.{◌-◌}
+use borrow.Author.Rules.{rules}
+use borrow.Author.Tests.{not-true, not-false}
+use lib.ListN.{length}
+use Rattle.table.specs.Shape.{capacity_in}
+use Rattle.table.proofs.Testing.{Walked, walk-over, walk-starts, walk-stops, walk-goes, walk_ends}
+use Rattle.reference_rows.specs.Queries.{world_fits, worlds_tested}
+use Rattle.reference_rows.proofs.check_worlds.Given as goal
+
+abbrev pub invariant-loop-i : goal.invariant-loop-i
+invariant-loop-i l = Walked (capacity_in 5 (length l.worlds)) l.n (world_fits l.length l.worlds) l.i
+
+abbrev pub decreases-loop-i : goal.decreases-loop-i
+decreases-loop-i l = l.n - l.i

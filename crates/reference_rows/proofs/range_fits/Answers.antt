@@ -1,0 +1,8 @@
+-- `reference_rows::range_fits` meets its contract. Assumes nothing.
+use borrow.Author.Rules.{rules}
+use Rattle.reference_rows.specs.Queries.{range_fits}
+use Rattle.reference_rows.proofs.range_fits.Goals as goal
+
+pub returns : goal.returns
+unfolding range_fits
+returns c = rw (c.fits.ensures, c.cell-start.ensures, c.cell-size.ensures)

@@ -1,0 +1,16 @@
+-- `references::reference_fits` meets its contract. Assumes nothing.
+use borrow.Author.Rules.{rules}
+use borrow.Author.Tests.{not-true, not-false}
+use Rattle.reference_rows.proofs.Asking.{world-out, path-out, path-in}
+use Rattle.reference_rows.proofs.reference_fits.Goals as goal
+
+pub returns-then-worlds-cell : goal.returns-then-worlds-cell
+returns-then-worlds-cell c = world-out _ _ _ _ c.cell.ensures c.if-worlds-cell.true
+
+pub returns-then-not-range_fits : goal.returns-then-not-range_fits
+returns-then-not-range_fits c = path-out _ _ _ _ c.cell.ensures c.if-worlds-cell.false c.range_fits.ensures (not-true _ c.if-not-range_fits.true-raw)
+
+pub returns : goal.returns
+returns c =
+    path-in _ _ _ _ c.cell.ensures c.if-worlds-cell.false c.range_fits.ensures (not-false _ c.if-not-range_fits.false-raw)
+    c.range_fits-2.ensures

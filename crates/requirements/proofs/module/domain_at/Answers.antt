@@ -1,0 +1,11 @@
+-- `requirements::domain_at` meets its contract. Assumes nothing.
+use mathlib.Core.Path.{◌∙◌}
+use borrow.Author.Rules.{rules}
+use Rattle.requirements.proofs.Filling.{row-domain}
+use Rattle.requirements.proofs.module.domain_at.Goals as goal
+
+pub returns : goal.returns
+returns c =
+    c.domain_number.ensures ∙ c.classify_import.ensures
+    ∙ row-domain _ _ _ c.cell.ensures c.cell-2.ensures c.cell-3.ensures c.cell-4.ensures
+    c.range-source.ensures.0 c.range-field.ensures.0

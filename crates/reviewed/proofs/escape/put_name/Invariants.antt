@@ -1,0 +1,15 @@
+use mathlib.Core.Path.{◌≡◌, refl}
+use Prim.Native.Nat.{◌-◌}
+use native.Mathlib.Omega.{arith}
+use lib.ListN.{length, take}
+use borrow.Author.Rules.{rules}
+use Rattle.output.specs.Bytes.{Wrote}
+use Rattle.reviewed.specs.Escape.{escaped}
+use Rattle.reviewed.proofs.Escapes.{name-none, name-next, name-all}
+use Rattle.reviewed.proofs.escape.put_name.Given as goal
+
+abbrev pub invariant-loop-i : goal.invariant-loop-i
+invariant-loop-i l = (l.i-end ≡ length l.name) × Wrote l.initial.out l.at l.go (escaped (take l.i l.name)) l.n l.out
+
+abbrev pub decreases-loop-i : goal.decreases-loop-i
+decreases-loop-i l = l.i-end - l.i

@@ -1,0 +1,16 @@
+-- `put_compared` meets its contract. Assumes nothing.
+use mathlib.Core.Path.{refl}
+use borrow.Author.Rules.{rules}
+use Rattle.output.proofs.ByteLaws.{wrote_then}
+use Rattle.reviewed.proofs.Reading.{compared-stops, compared-goes}
+use Rattle.reviewed.proofs.Telling.{wrote-same}
+use Rattle.reviewed.proofs.put_compared.Goals as goal
+
+pub returns-in-Refused : goal.returns-in-Refused
+returns-in-Refused c = wrote-same (compared-stops _ _ _ _ refl refl c.compare_modules.ensures c.in-Refused.is) c.put_none.ensures
+
+pub returns-in-Lists : goal.returns-in-Lists
+returns-in-Lists c =
+    wrote-same (compared-goes _ _ _ _ refl refl c.compare_modules.ensures c.in-Lists.is)
+    (wrote_then c.put_stand-a.ensures
+    (wrote_then c.put_gone-b.ensures (wrote_then c.put_new-c.ensures c.put_verdict.ensures)))

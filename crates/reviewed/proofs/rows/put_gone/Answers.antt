@@ -1,0 +1,27 @@
+-- `rows::put_gone` meets its contract. Assumes nothing.
+use Prim.Native.Nat.{◌-◌, ◌≤◌}
+use native.Mathlib.Omega.{arith}
+use borrow.Author.Rules.{rules}
+use Rattle.output.specs.Bytes.{Wrote}
+use Rattle.reasons.proofs.Lines.{lines-first, lines_next, lines-all}
+use Rattle.reasons.specs.Reasons.{reason_lines}
+use Rattle.reviewed.specs.Review.{removed_row}
+use Rattle.reviewed.proofs.rows.put_gone.Goals as goal
+
+pub loop-i-init : goal.loop-i-init
+loop-i-init c = (omega arith, lines-first _ _ _ _ (omega arith))
+
+pub overflow_add-i : goal.overflow_add-i
+overflow_add-i c = omega arith
+
+pub loop-i-smaller : goal.loop-i-smaller
+loop-i-smaller c = omega arith
+
+pub loop-i-preserved : goal.loop-i-preserved
+loop-i-preserved c = (omega arith, lines_next _ _ c.loop-i.invariant.1 c.put_removed_row-m.ensures)
+
+pub shape_of-out : goal.shape_of-out
+shape_of-out c = c.loop-i.invariant.1.long
+
+pub returns : goal.returns
+returns c = lines-all _ c.loop-i.invariant.1 (omega arith)

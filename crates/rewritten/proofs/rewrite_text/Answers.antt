@@ -1,0 +1,24 @@
+-- `rewrite_text` meets its contract. Assumes nothing.
+use lib.ListN.{length}
+use Rattle.policy.specs.declared.Policy.{Policy}
+use Rattle.policy_text.specs.Writer.{written}
+use Rattle.policy_text.proofs.Asking.{read-stops, read_goes}
+use Rattle.rewritten.proofs.Enough.{promised, read_told}
+use borrow.Author.Rules.{rules}
+use Rattle.rewritten.proofs.rewrite_text.Goals as goal
+
+pub returns-in-Refused : goal.returns-in-Refused
+returns-in-Refused c =
+    let g = c.args in
+    promised g.text.now g.out.now
+    (read_told g.text.now g.out.now
+    (read-stops (λ (p : Policy). written g.text.now p (length g.out.now)) _ _ c.read_policy-read.ensures c.in-Refused.is)
+    c.put_refusal.ensures)
+
+pub returns-in-Accepted : goal.returns-in-Accepted
+returns-in-Accepted c =
+    let g = c.args in
+    promised g.text.now g.out.now
+    (read_told g.text.now g.out.now
+    (read_goes (λ (p : Policy). written g.text.now p (length g.out.now)) _ _ c.read_policy-read.ensures c.in-Accepted.is)
+    c.put_policy.ensures)

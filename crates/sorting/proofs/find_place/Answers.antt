@@ -1,0 +1,52 @@
+-- `sorting::find_place` meets its contract: x comes after each row below lo, and before the row at hi. Assumes nothing.
+use mathlib.Core.Path.{◌≡◌, sym, ◌∙◌}
+use Prim.Native.Nat.{ℕ, ◌+◌, ◌-◌, ◌/◌, ◌≤◌, ◌<◌}
+use native.Mathlib.Nat.{not-suc-le-zero}
+use native.Mathlib.Omega.{arith}
+use lib.ListN.{get_or}
+use Rattle.text.specs.declared.order.Order.{Order}
+use Rattle.text.specs.declared.order.Order.TheVariants.{Less, Greater}
+use Rattle.sorting.specs.Keys.{row_order}
+use Rattle.sorting.proofs.Rowing.{lawful-rows}
+use Rattle.sorting.proofs.Placing.{placed-before, placed-over, after-up-to, tied_below}
+use borrow.Author.Rules.{rules}
+use Rattle.sorting.proofs.find_place.Goals as goal
+
+pub loop-lo-init : goal.loop-lo-init
+loop-lo-init c = (omega arith, omega arith, (λ j l. absurd (not-suc-le-zero l)), λ l. absurd (omega arith))
+
+pub loop-lo-preserved-in-Less : goal.loop-lo-preserved-in-Less
+loop-lo-preserved-in-Less c =
+    let told : {o : Order} → c.compare_rows-o.result ≡ o → let a = c.args in row_order a.first.now a.second.now a.rows.now a.keys a.x (get_or a.sorted.now (c.loop-lo.lo + (c.loop-lo.hi - c.loop-lo.lo) / 2) 0) ≡ o = λ e. sym c.compare_rows-o.ensures ∙ e in
+    (
+  omega arith,
+  omega arith,
+  c.loop-lo.invariant.2,
+  λ l. told c.in-Less.is,
+
+pub returns-in-Equal : goal.returns-in-Equal
+returns-in-Equal c =
+    let told : {o : Order} → c.compare_rows-o.result ≡ o → let a = c.args in row_order a.first.now a.second.now a.rows.now a.keys a.x (get_or a.sorted.now (c.loop-lo.lo + (c.loop-lo.hi - c.loop-lo.lo) / 2) 0) ≡ o = λ e. sym c.compare_rows-o.ensures ∙ e in
+    let inside : c.loop-lo.lo + (c.loop-lo.hi - c.loop-lo.lo) / 2 < c.args.k = omega arith in
+    let same = told c.in-Equal.is in
+    let below = inside in
+    placed-over _ _ _ _ c.requires.room _
+    (tied_below _ (lawful-rows _ _ _ _) c.requires _ _ below same) below same
+
+pub loop-lo-preserved : goal.loop-lo-preserved
+loop-lo-preserved c =
+    let inside : c.loop-lo.lo + (c.loop-lo.hi - c.loop-lo.lo) / 2 < c.args.k = omega arith in
+    let told : {o : Order} → c.compare_rows-o.result ≡ o → let a = c.args in row_order a.first.now a.second.now a.rows.now a.keys a.x (get_or a.sorted.now (c.loop-lo.lo + (c.loop-lo.hi - c.loop-lo.lo) / 2) 0) ≡ o = λ e. sym c.compare_rows-o.ensures ∙ e in
+    (
+      omega arith,
+      omega arith,
+      after-up-to _ (lawful-rows _ _ _ _) c.requires _ _ (inside)
+          (told c.in-Greater.is),
+      c.loop-lo.invariant.3,
+    )
+
+pub returns : goal.returns
+returns c =
+    let ends : c.loop-lo.lo ≡ c.loop-lo.hi = omega arith in
+    placed-before _ _ _ _ c.requires.room c.loop-lo.lo c.loop-lo.invariant.2 (omega arith)
+    (rw (← ends) c c.loop-lo.invariant.3)

@@ -1,0 +1,16 @@
+use Prim.Native.Nat.{◌-◌}
+use mathlib.Core.Path.{◌≡◌, refl, sym, ◌∙◌, ap}
+use Rattle.strict.specs.Again.{said_marked, subsection_marks}
+use Rattle.table.proofs.Telling.{passed}
+use Rattle.table.proofs.Walking.{from_end, from-stop, from-go}
+use Rattle.table.specs.Walking.{walk_from}
+use borrow.Author.Rules.{rules}
+use lib.ListN.{length}
+use native.Mathlib.Omega.{arith}
+use Rattle.strict.proofs.again.mark_subsections.Given as goal
+
+abbrev pub invariant-loop-c : goal.invariant-loop-c
+invariant-loop-c l = walk_from (subsection_marks l.s) l.s l.c.at l.m ≡ walk_from (subsection_marks l.s) l.s l.initial.c.at l.initial.m
+
+abbrev pub decreases-loop-c : goal.decreases-loop-c
+decreases-loop-c l = length l.s - l.c.at

@@ -1,0 +1,14 @@
+use mathlib.Core.Bool.{false≢true}
+use mathlib.Core.Path.{◌≡◌, refl, ◌∙◌}
+use lib.ListN.{length}
+use borrow.Author.Tests.{not-false}
+use Rattle.strict.proofs.Newness.{Looked, row_named, look-start, look-on, look-end}
+use borrow.Author.Rules.{rules}
+use native.Mathlib.Omega.{arith}
+use Rattle.strict.proofs.quick.all_new.Given as goal
+
+abbrev pub invariant-loop-i : goal.invariant-loop-i
+invariant-loop-i l = Looked l.file l.exports l.n l.spot l.last l.i l.marks × (length l.marks ≡ length l.initial.marks)
+
+abbrev pub decreases-loop-i : goal.decreases-loop-i
+decreases-loop-i l = l.i

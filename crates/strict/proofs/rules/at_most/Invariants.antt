@@ -1,0 +1,15 @@
+use mathlib.Core.Logic.{⊎_elim}
+use mathlib.Core.Path.{◌≡◌, refl, ◌∙◌}
+use Prim.Native.Nat.{◌-◌, ◌≤◌}
+use Rattle.strict.proofs.Ruling.{none-next, none_over}
+use Rattle.strict.specs.Rules.{none_above, column_of}
+use Rattle.table.specs.Table.{rows_of}
+use borrow.Author.Rules.{rules}
+use native.Mathlib.Omega.{arith}
+use Rattle.strict.proofs.rules.at_most.Given as goal
+
+abbrev pub invariant-loop-i : goal.invariant-loop-i
+invariant-loop-i l = (l.i ≤ l.n) × (l.good ≡ none_above l.last (column_of l.table l.wide l.column l.i))
+
+abbrev pub decreases-loop-i : goal.decreases-loop-i
+decreases-loop-i l = l.n - l.i

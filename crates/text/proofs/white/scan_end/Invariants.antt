@@ -1,0 +1,16 @@
+use mathlib.Core.Path.{◌≡◌, sym, ◌∙◌}
+use Prim.Native.Nat.{◌+◌, ◌-◌, ◌≤◌}
+use native.Mathlib.Omega.{arith}
+use lib.ListN.{length, drop}
+use borrow.Author.Rules.{rules}
+use borrow.Author.Tests.{not-true, not-false}
+use Rattle.text.specs.Chars.{chars}
+use Rattle.text.specs.Trim.{end_len, trim_end}
+use Rattle.text.proofs.CharLaws.{Here, turned, more-long, ends, ends-start, end-white, end-other, end-end}
+use Rattle.text.proofs.white.scan_end.Given as goal
+
+abbrev pub invariant-loop-at : goal.invariant-loop-at
+invariant-loop-at l = (l.at ≤ length l.s) × (trim_end l.s ≡ ends l.last l.at (end_len (chars (drop l.at l.s))))
+
+abbrev pub decreases-loop-at : goal.decreases-loop-at
+decreases-loop-at l = length l.s - l.at

@@ -1,0 +1,6 @@
+-- `verdict_on` meets its contract. Assumes nothing.
+use borrow.Author.Rules.{rules}
+use Rattle.verdicts.proofs.verdict_on.Goals as goal
+
+pub returns : goal.returns
+returns c = rw c.rule_at-rule.ensures

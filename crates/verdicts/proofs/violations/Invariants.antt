@@ -1,0 +1,16 @@
+use mathlib.Core.Path.{◌≡◌, refl, ap, ◌∙◌}
+use mathlib.Core.List.{map}
+use Prim.Native.Nat.{◌+◌, ◌*◌, ◌-◌, ◌^◌, ◌≤◌}
+use native.Mathlib.Omega.{arith}
+use borrow.Author.Rules.{rules}
+use Rattle.refusal.specs.Pick.{one_if}
+use Rattle.verdicts.specs.Evaluate.{violates}
+use Rattle.verdicts.proofs.MemberLaws.{Set, set-none, set_next}
+use Rattle.verdicts.proofs.EvalLaws.{flag_at}
+use Rattle.verdicts.proofs.violations.Given as goal
+
+abbrev pub invariant-loop-i : goal.invariant-loop-i
+invariant-loop-i l = (l.i ≤ 7) × (l.d ≡ l.i) × Set (map violates l.verdicts) l.i l.set
+
+abbrev pub decreases-loop-i : goal.decreases-loop-i
+decreases-loop-i l = 7 - l.i

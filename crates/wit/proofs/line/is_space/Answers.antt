@@ -1,0 +1,36 @@
+-- `is_space` meets its contract. Assumes nothing.
+use borrow.Author.Tests.{eq-eqb, ne_eqb}
+use Rattle.wit.specs.Line.{is_space}
+use Rattle.wit.proofs.line.is_space.Goals as goal
+
+pub returns-then-b-eq9 : goal.returns-then-b-eq9
+unfolding is_space
+returns-then-b-eq9 c = rw (eq-eqb _ _ c.if-b-eq9.true)
+
+pub returns-then-b-eq10 : goal.returns-then-b-eq10
+unfolding is_space
+returns-then-b-eq10 c = rw (ne_eqb _ _ c.if-b-eq9.false, eq-eqb _ _ c.if-b-eq10.true)
+
+pub returns-then-b-eq12 : goal.returns-then-b-eq12
+unfolding is_space
+returns-then-b-eq12 c = rw (ne_eqb _ _ c.if-b-eq9.false, ne_eqb _ _ c.if-b-eq10.false, eq-eqb _ _ c.if-b-eq12.true)
+
+pub returns-then-b-eq13 : goal.returns-then-b-eq13
+unfolding is_space
+returns-then-b-eq13 c =
+    rw (
+      ne_eqb _ _ c.if-b-eq9.false,
+      ne_eqb _ _ c.if-b-eq10.false,
+      ne_eqb _ _ c.if-b-eq12.false,
+      eq-eqb _ _ c.if-b-eq13.true,
+    )
+
+pub returns : goal.returns
+unfolding is_space
+returns c =
+    rw (
+      ne_eqb _ _ c.if-b-eq9.false,
+      ne_eqb _ _ c.if-b-eq10.false,
+      ne_eqb _ _ c.if-b-eq12.false,
+      ne_eqb _ _ c.if-b-eq13.false,
+    )

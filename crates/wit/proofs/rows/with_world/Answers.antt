@@ -1,0 +1,6 @@
+-- `with_world` meets its contract. Assumes nothing.
+use borrow.Author.Rules.{rules}
+use Rattle.wit.proofs.rows.with_world.Goals as goal
+
+pub returns : goal.returns
+returns c = rw c.mark_of-world.ensures
