@@ -35,7 +35,7 @@ list_needs-n-requires c =
 pub returns-then-capacity-n : goal.returns-then-capacity-n
 returns-then-capacity-n c =
     compares-full9 _ _ _ _ _ _ _ _ _ _ _ _ c.list_exports-m.ensures
-    (omega (arith, c.capacity.ensures, c.if-capacity-m.left)) c.list_needs-n.ensures
+    (omega (arith, c.capacity.ensures, c.if-capacity-m.false)) c.list_needs-n.ensures
     (omega (arith, c.capacity-2.ensures, c.if-capacity-n.true)) c.requires.xd_value.0 c.requires.xd_value.1
 
 -- the parts that are lent have as many cells as the lists have numbers
@@ -46,7 +46,7 @@ pub lay_exports-requires : goal.lay_exports-requires
 lay_exports-requires c = (
   c.requires.1.0,
   rw (length-take-le _ _ c.list_exports-m.ensures.within)
-      (rows_fit _ (width 8) (limit 8) _ (omega (arith, c.capacity.ensures, c.if-capacity-m.left))),
+      (rows_fit _ (width 8) (limit 8) _ (omega (arith, c.capacity.ensures, c.if-capacity-m.false))),
 )
 
 pub slice_bounds-lay_needs-end : goal.slice_bounds-lay_needs-end
@@ -56,7 +56,7 @@ pub lay_needs-requires : goal.lay_needs-requires
 lay_needs-requires c = (
   c.requires.1.1,
   rw (length-take-le _ _ c.list_needs-n.ensures.within)
-      (rows_fit _ (width 9) (limit 9) _ (omega (arith, c.capacity-2.ensures, c.if-capacity-n.left))),
+      (rows_fit _ (width 9) (limit 9) _ (omega (arith, c.capacity-2.ensures, c.if-capacity-n.false))),
 )
 
 pub slice_bounds-breaks_nothing-end : goal.slice_bounds-breaks_nothing-end
@@ -68,6 +68,6 @@ slice_bounds-breaks_nothing-end-2 c = sym (length-take-le _ _ c.list_needs-n.ens
 pub returns : goal.returns
 returns c =
     compares-lists _ _ _ _ _ _ _ _ _ _ _ _ c.list_exports-m.ensures
-    (omega (arith, c.capacity.ensures, c.if-capacity-m.left)) c.list_needs-n.ensures
-    (omega (arith, c.capacity-2.ensures, c.if-capacity-n.left)) c.breaks_nothing-compatible.ensures
+    (omega (arith, c.capacity.ensures, c.if-capacity-m.false)) c.list_needs-n.ensures
+    (omega (arith, c.capacity-2.ensures, c.if-capacity-n.false)) c.breaks_nothing-compatible.ensures
     c.lay_exports.ensures c.lay_needs.ensures

@@ -37,4 +37,4 @@ pub shape_of-out : goal.shape_of-out
 shape_of-out c = c.loop-d.invariant.1.wrote.long
 
 pub returns : goal.returns
-returns c = turning-last c.loop-d.invariant.1 (seven-end c.args.t2 c.loop-d.d (omega arith))
+returns c = turning-last c.loop-d.invariant.1 (seven-end c.args.p c.loop-d.d (omega arith))

@@ -17,12 +17,12 @@ loop-lo-init c = (omega arith, omega arith, (λ j l. absurd (not-suc-le-zero l))
 
 pub loop-lo-preserved-in-Less : goal.loop-lo-preserved-in-Less
 loop-lo-preserved-in-Less c =
-    let told : {o : Order} → c.compare_rows-o.result ≡ o → let a = c.args in row_order a.first.now a.second.now a.rows.now a.keys a.x (get_or a.sorted.now (c.loop-lo.lo + (c.loop-lo.hi - c.loop-lo.lo) / 2) 0) ≡ o = λ e. sym c.compare_rows-o.ensures ∙ e in
-    (
-  omega arith,
-  omega arith,
-  c.loop-lo.invariant.2,
-  λ l. told c.in-Less.is,
+    let told : {o : Order} → c.compare_rows-o.result ≡ o → let a = c.args in row_order a.first.now a.second.now a.rows.now a.keys a.x (get_or a.sorted.now (c.loop-lo.lo + (c.loop-lo.hi - c.loop-lo.lo) / 2) 0) ≡ o = λ e. sym c.compare_rows-o.ensures ∙ e in (
+      omega arith,
+      omega arith,
+      c.loop-lo.invariant.2,
+      λ l. told c.in-Less.is,
+    )
 
 pub returns-in-Equal : goal.returns-in-Equal
 returns-in-Equal c =
@@ -36,8 +36,7 @@ returns-in-Equal c =
 pub loop-lo-preserved : goal.loop-lo-preserved
 loop-lo-preserved c =
     let inside : c.loop-lo.lo + (c.loop-lo.hi - c.loop-lo.lo) / 2 < c.args.k = omega arith in
-    let told : {o : Order} → c.compare_rows-o.result ≡ o → let a = c.args in row_order a.first.now a.second.now a.rows.now a.keys a.x (get_or a.sorted.now (c.loop-lo.lo + (c.loop-lo.hi - c.loop-lo.lo) / 2) 0) ≡ o = λ e. sym c.compare_rows-o.ensures ∙ e in
-    (
+    let told : {o : Order} → c.compare_rows-o.result ≡ o → let a = c.args in row_order a.first.now a.second.now a.rows.now a.keys a.x (get_or a.sorted.now (c.loop-lo.lo + (c.loop-lo.hi - c.loop-lo.lo) / 2) 0) ≡ o = λ e. sym c.compare_rows-o.ensures ∙ e in (
       omega arith,
       omega arith,
       after-up-to _ (lawful-rows _ _ _ _) c.requires _ _ (inside)

@@ -4,7 +4,7 @@ use Rattle.sorting.proofs.Rowing.{wanted-yes, wanted-no}
 use Rattle.sorting.proofs.is_wanted.Goals as goal
 
 pub returns-then-cell-keys : goal.returns-then-cell-keys
-returns-then-cell-keys c = wanted-yes first second _ _ _ _ c.cell.ensures c.if-cell-keys.true
+returns-then-cell-keys c first second = wanted-yes first second _ _ _ _ c.cell.ensures c.if-cell-keys.true
 
 pub returns : goal.returns
-returns c = wanted-no first second _ _ _ _ c.cell.ensures c.if-cell-keys.false
+returns c first second = wanted-no first second _ _ _ _ c.cell.ensures c.if-cell-keys.false

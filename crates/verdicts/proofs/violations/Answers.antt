@@ -11,7 +11,7 @@ use Rattle.verdicts.proofs.EvalLaws.{flag_at}
 use Rattle.verdicts.proofs.violations.Goals as goal
 
 pub loop-i-init : goal.loop-i-init
-loop-i-init c = (omega arith, refl, set-none (map violates c.args.t1))
+loop-i-init c = (omega arith, refl, set-none (map violates c.args.verdicts))
 
 pub offset_bounds-verdicts-i : goal.offset_bounds-verdicts-i
 offset_bounds-verdicts-i c = omega arith
@@ -33,7 +33,7 @@ loop-i-smaller c = omega arith
 
 pub loop-i-preserved : goal.loop-i-preserved
 loop-i-preserved c =
-    let vs = c.args.t1 in
+    let vs = c.args.verdicts in
     let i = c.loop-i.i in
     let b = c.is_violation-bad.result in
     let q : c.with_bit-set.result ≡ c.loop-i.set + one_if b * 2 ^ i =

@@ -91,7 +91,7 @@ returns-in-Refused c =
     let kept : let l = c.clear_all.new in let a = c.args in sizes l.0 l.1.0 l.1.1.0 l.1.1.1.0 ≡ sizes a.sections.now a.imports.now a.exports.now a.names.now = let k = c.clear_all.auto in sizes-same k.0 k.1.0 k.1.1.0 k.1.1.1.0 in
     let kept-through : let l = c.read_sections.new.sections in let a = c.args in sizes l.0 l.1.0 l.1.1.0 l.1.1.1.0 ≡ sizes a.sections.now a.imports.now a.exports.now a.names.now = let k = c.read_sections.auto.sections in sizes-same k.0 k.1.0 k.1.1.0 k.1.1.1.0 ∙ kept in
     let l = c.clear_all-in-Refused.new in
-    module-stop _ _ c.if-length-gt-MAX_FILE.left _ _
+    module-stop _ _ c.if-length-gt-MAX_FILE.false _ _
     (sym c.read_header-one.ensures ∙ ap said_header c.in-Read.is) _
     (kept) _
     c.read_sections.ensures _ _ _ (ap said_counts c.in-Refused.is)

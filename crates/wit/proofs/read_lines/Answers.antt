@@ -15,11 +15,11 @@ use Rattle.wit.proofs.read_lines.Goals as goal
 
 pub loop-at-init : goal.loop-at-init
 unfolding known_of start
-loop-at-init c =
-    (
+loop-at-init c = (
   record { state = start; value = c.first_known-k.ensures; held = c.requires; goes_on = refl },
   refl,
   omega (arith, ap (λ (x : Known). x.line) c.first_known-k.ensures),
+)
 
 pub read_line-requires : goal.read_line-requires
 read_line-requires c = (c.loop-at-test.true, c.loop-at.invariant.2)

@@ -19,12 +19,12 @@ pub rows-init : goal.rows-init
 rows-init c = (omega arith, refl, no_rows single _ _ c.requires.0)
 
 pub search-init : goal.search-init
-search-init c =
-    (
+search-init c = (
   refl,
   refl,
   others-end _ _ _ c.others-span.ensures c.requires.1,
   sought-is _ _ _ _ c.others-span.ensures,
+)
 
 pub search-preserved : goal.search-preserved
 search-preserved c =
@@ -37,11 +37,10 @@ search-preserved c =
 
 pub rows-preserved : goal.rows-preserved
 rows-preserved c =
-    let met : let a = c.args in c.search-test.auto ≡ lonely a.ranks.now a.nb a.n c.rows.i = let i = c.search.invariant in ⊎_elim (λ w. w.1 ∙ i.0 ∙ i.1 ∙ lonely-kept _ _ _ _ (sym i.3 ∙ some_end _ _ _ w.0.left)) (λ w. w.3 ∙ lonely-met _ _ _ _ (sym i.3 ∙ some-hit _ _ _ w.0.taken (found-one _ _ _ _ i.1 _ w.2.taken))) c.search-test.branch in
-    (
+    let met : let a = c.args in c.search-test.auto ≡ lonely a.ranks.now a.nb a.n c.rows.i = let i = c.search.invariant in ⊎_elim (λ w. w.1 ∙ i.0 ∙ i.1 ∙ lonely-kept _ _ _ _ (sym i.3 ∙ some_end _ _ _ w.0.left)) (λ w. w.3 ∙ lonely-met _ _ _ _ (sym i.3 ∙ some-hit _ _ _ w.0.taken (found-one _ _ _ _ i.1 _ w.2.taken))) c.search-test.branch in (
       omega arith,
       search rules,
-      one-row single _ _ 1 (λ x. refl) _ _ c.rows-test.taken (omega (arith, c.requires.3)) c.rows.inv.2
+      one-row single _ _ 1 (λ x. refl) _ _ c.rows-test.true (omega (arith, c.requires.3)) c.rows.inv.2
           (ap single (met)) c.put_row.ensures,
     )
 

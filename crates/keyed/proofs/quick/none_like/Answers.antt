@@ -40,4 +40,4 @@ loop-i-preserved c =
     )
 
 pub returns : goal.returns
-returns c = c.loop-i.invariant.1 (not-true _ e) j h (omega arith)
+returns c e j h k = c.loop-i.invariant.1 (not-true _ e) j h (omega arith)

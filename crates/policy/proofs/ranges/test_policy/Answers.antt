@@ -7,7 +7,7 @@ pub returns-then-row-lt8 : goal.returns-then-row-lt8
 returns-then-row-lt8 c =
     let a = c.args in
     test-range a.s.now a.p c.test_text.ensures c.in-Accepted.is c.first_bad-row.result
-    c.first_bad-row.ensures c.if-row-lt8.taken
+    c.first_bad-row.ensures c.if-row-lt8.true
 
 pub returns-in-Refused : goal.returns-in-Refused
 returns-in-Refused c =
@@ -18,4 +18,4 @@ pub returns-else-row-lt8 : goal.returns-else-row-lt8
 returns-else-row-lt8 c =
     let a = c.args in
     test_good a.s.now a.p c.test_text.ensures c.in-Accepted.is c.first_bad-row.result
-    c.first_bad-row.ensures c.if-row-lt8.left
+    c.first_bad-row.ensures c.if-row-lt8.false

@@ -13,6 +13,10 @@ use Rattle.text.proofs.FindLaws.{index-le}
 use Rattle.text.proofs.LineLaws.{len-past, len-none, len-empty, len-cr, len-lf}
 use Rattle.text.proofs.lines.line_at.Goals as goal
 
+record Found (s : List ℕ) (at lf : ℕ) : Type 0 where
+  place : lf ≡ index_of 10 (drop at s)
+  long : length (drop at s) ≡ length s - at
+
 pub returns-then-s-at : goal.returns-then-s-at
 returns-then-s-at c = let a = c.args in omega (arith, len-past a.s.now a.at (omega arith))
 

@@ -10,7 +10,7 @@ use Rattle.text.proofs.Utf8Laws.{four_is}
 use Rattle.text.proofs.utf8.four.Goals as goal
 
 pub returns : goal.returns
-returns c =
+returns c s =
     let lo-is : c.if-a-eq240.lo ≡ pick (eqb c.args.a 0xF0) 0x90 0x80 = ⊎_elim (λ w. rw (w.1, eq-eqb _ _ w.0.taken)) (λ w. rw (w.1, ne_eqb _ _ w.0.left)) c.if-a-eq240.branch in
     let hi-is : c.if-a-eq244.hi ≡ pick (eqb c.args.a 0xF4) 0x8F 0xBF = ⊎_elim (λ w. rw (w.1, eq-eqb _ _ w.0.taken)) (λ w. rw (w.1, ne_eqb _ _ w.0.left)) c.if-a-eq244.branch in
     let x = c.args in

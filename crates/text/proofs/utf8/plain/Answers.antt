@@ -29,6 +29,6 @@ loop-i-preserved c =
     (omega arith, ran-next x.s.now x.at c.loop-i.i c.loop-i.all (omega arith) c.loop-i.invariant.1)
 
 pub returns : goal.returns
-returns c =
+returns c e =
     let p : c.loop-i.i ≡ 32 = omega arith in
     rw p at (c.loop-i.invariant.1 (ltb-true _ _ e))

@@ -10,7 +10,7 @@ use Rattle.text.proofs.Utf8Laws.{three-is}
 use Rattle.text.proofs.utf8.three.Goals as goal
 
 pub returns : goal.returns
-returns c =
+returns c s =
     let lo-is : c.if-a-eq224.lo ≡ pick (eqb c.args.a 0xE0) 0xA0 0x80 = ⊎_elim (λ w. rw (w.1, eq-eqb _ _ w.0.taken)) (λ w. rw (w.1, ne_eqb _ _ w.0.left)) c.if-a-eq224.branch in
     let hi-is : c.if-a-eq237.hi ≡ pick (eqb c.args.a 0xED) 0x9F 0xBF = ⊎_elim (λ w. rw (w.1, eq-eqb _ _ w.0.taken)) (λ w. rw (w.1, ne_eqb _ _ w.0.left)) c.if-a-eq237.branch in
     let x = c.args in

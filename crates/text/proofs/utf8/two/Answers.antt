@@ -5,6 +5,6 @@ use Rattle.text.proofs.Utf8Laws.{two_is}
 use Rattle.text.proofs.utf8.two.Goals as goal
 
 pub returns : goal.returns
-returns c =
+returns c s =
     let x = c.args in
     rw c.follows.ensures (two_is x.a x.b s (omega arith) (omega arith))

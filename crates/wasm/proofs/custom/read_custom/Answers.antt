@@ -18,7 +18,7 @@ use Rattle.wasm.proofs.custom.read_custom.Goals as goal
 
 pub returns-in_default : goal.returns-in_default
 unfolding custom_at
-returns-in_default c =
+returns-in_default c t n h =
     let e = c.in_default.is in
     tell-first _ (hear said_part _ _ c.name-one.ensures (e)) (c.why.ensures ∙ ap why_part e)
 
@@ -41,7 +41,7 @@ UNKNOWN c =
 
 pub returns-then-not-equal : goal.returns-then-not-equal
 unfolding name_word
-returns-then-not-equal c =
+returns-then-not-equal c t n h =
     let named : name_at c.args.s.now 0 ≡ accepted (got c.in-Read.p c.in-Read.c.at) = hear said_part _ _ c.name-one.ensures c.in-Read.is in
     let cutting : let p = c.in-Read.p in let s = c.args.s.now in take (p.from + p.len - p.from) (drop p.from s) ≡ part_bytes s p = let p = c.in-Read.p in cut p.from p.len c.args.s.now in
     custom-plain _ _ _ t _ _ (named) _
@@ -50,7 +50,7 @@ returns-then-not-equal c =
 
 pub returns-in-Refused : goal.returns-in-Refused
 unfolding name_word
-returns-in-Refused c =
+returns-in-Refused c t n h =
     let named : name_at c.args.s.now 0 ≡ accepted (got c.in-Read.p c.in-Read.c.at) = hear said_part _ _ c.name-one.ensures c.in-Read.is in
     let cutting : let p = c.in-Read.p in let s = c.args.s.now in take (p.from + p.len - p.from) (drop p.from s) ≡ part_bytes s p = let p = c.in-Read.p in cut p.from p.len c.args.s.now in
     custom-stop _ _ _ t _ _ (named) _ (cutting) _
@@ -60,7 +60,7 @@ returns-in-Refused c =
 
 pub returns-in-Read-read_subsections : goal.returns-in-Read-read_subsections
 unfolding name_word
-returns-in-Read-read_subsections c =
+returns-in-Read-read_subsections c t n h =
     let named : name_at c.args.s.now 0 ≡ accepted (got c.in-Read.p c.in-Read.c.at) = hear said_part _ _ c.name-one.ensures c.in-Read.is in
     let cutting : let p = c.in-Read.p in let s = c.args.s.now in take (p.from + p.len - p.from) (drop p.from s) ≡ part_bytes s p = let p = c.in-Read.p in cut p.from p.len c.args.s.now in
     custom-names _ _ _ t _ _ (named) _

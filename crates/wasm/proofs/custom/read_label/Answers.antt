@@ -13,7 +13,7 @@ use Rattle.wasm.proofs.custom.read_label.Goals as goal
 
 pub returns-in_default : goal.returns-in_default
 unfolding label_at
-returns-in_default c =
+returns-in_default c t n =
     let e = c.in_default.is in
     map_first _ _ (hear said_part _ _ c.name-one.ensures (e)) (c.why.ensures ∙ ap why_part e)
 
@@ -24,6 +24,6 @@ overflow_add-result c =
 
 pub returns : goal.returns
 unfolding label_at mapped named_of
-returns c =
+returns c t n =
     map_next _ _ (hear said_part _ _ c.name-one.ensures c.in-Read.is)
     (rw (ap (λ (x : Named). x.count) n))

@@ -14,7 +14,7 @@ pub loop-c-init : goal.loop-c-init
 loop-c-init c = (λ t e h. record { state = t; value = e; held = h; goes_on = refl }, refl)
 
 pub returns-in-Refused : goal.returns-in-Refused
-returns-in-Refused c =
+returns-in-Refused c t e h =
     going-off (subsection_at _ _) (NamesHeld _) (NamesHeld _) (c.loop-c.invariant.0 t e h) c.loop-c.invariant.1
     c.read_subsection.ensures.1 c.loop-c-test.true (ap said_named c.in-Refused.is)
 
@@ -31,4 +31,4 @@ loop-c-preserved c =
     )
 
 pub returns : goal.returns
-returns c = going_end (c.loop-c.invariant.0 t e h) c.loop-c-test.false
+returns c t e h = going_end (c.loop-c.invariant.0 t e h) c.loop-c-test.false

@@ -11,23 +11,23 @@ use Rattle.wasm.proofs.custom.read_told.Goals as goal
 
 pub returns-in-0 : goal.returns-in-0
 unfolding told_by
-returns-in-0 c = simp c.in-0.is (told-label _ _ t _ _ _ (c.read_label.ensures t n) h)
+returns-in-0 c t n h = simp c.in-0.is (told-label _ _ t _ _ _ (c.read_label.ensures t n) h)
 
 pub returns-in-Refused : goal.returns-in-Refused
 unfolding told_by NamesHeld
-returns-in-Refused c =
+returns-in-Refused c t n h =
     simp c.in-1.is
     (tell-after-stop _ (c.read_symbols.ensures t.symbols h (named_count _ t n)) (ap said_counted c.in-Refused.is))
 
 pub returns-in-Rows : goal.returns-in-Rows
 unfolding told_by NamesHeld Lies
-returns-in-Rows c =
+returns-in-Rows c t n h =
     simp c.in-1.is
     (tell-after _ (c.read_symbols.ensures t.symbols h (named_count _ t n)) (ap said_counted c.in-Rows.is)
     (λ rows q v w. tell-got _ _ refl (named-is _ t _ rows n v) w))
 
 pub returns-in_default : goal.returns-in_default
 unfolding told_by
-returns-in_default c =
+returns-in_default c t n h =
     let q = c.in_default.in_default-own.rest in
     simp (ne_eqb _ _ q.0.1, ne_eqb _ _ q.1) (tell-got t 0 refl n h)

@@ -27,12 +27,12 @@ unfolding cells
 loop-left-init c = (λ rows e h. record { rows = rows; table_is = e; count-is = h; goes_on = rw c.capacity-room.ensures }, refl)
 
 pub returns-in-Refused : goal.returns-in-Refused
-returns-in-Refused c =
+returns-in-Refused c rows q h =
     held-bad symbol_cells (width 4) wide _ _ _ (c.loop-left.invariant.0 rows q h) c.loop-left-test.true
     (sym c.read_symbol.ensures ∙ ap said_symbol c.in-Refused.is)
 
 pub returns-then-k-room : goal.returns-then-k-room
-returns-then-k-room c =
+returns-then-k-room c rows q h =
     let entry : let a = c.args in symbol_at a.payload.now a.base c.loop-left.c.at ≡ accepted (got c.in-Read.row c.in-Read.next.at) = sym c.read_symbol.ensures ∙ ap said_symbol c.in-Read.is in
     held-full symbol_cells (width 4) wide _ _ _ (c.loop-left.invariant.0 rows q h) c.loop-left-test.true (entry) c.if-k-room.true
 
@@ -56,4 +56,4 @@ loop-left-preserved c =
     )
 
 pub returns : goal.returns
-returns c = held_whole symbol_cells (width 4) wide _ _ _ (c.loop-left.invariant.0 rows q h) c.loop-left-test.false
+returns c rows q h = held_whole symbol_cells (width 4) wide _ _ _ (c.loop-left.invariant.0 rows q h) c.loop-left-test.false
