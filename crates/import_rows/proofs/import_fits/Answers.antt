@@ -9,10 +9,10 @@ returns-then-not-fits c = first_out _ _ _ c.cell.ensures c.cell-2.ensures c.fits
 
 pub returns-then-not-fits-2 : goal.returns-then-not-fits-2
 returns-then-not-fits-2 c =
-    second-out _ _ _ c.cell.ensures c.cell-2.ensures c.fits-2.ensures (not-false _ c.if-not-fits.false-raw)
+    second-out _ _ _ c.cell.ensures c.cell-2.ensures c.fits.ensures (not-false _ c.if-not-fits.false-raw)
     c.cell-3.ensures c.cell-4.ensures c.fits-2.ensures (not-true _ c.if-not-fits-2.true-raw)
 
 pub returns : goal.returns
 returns c =
-    both-in _ _ _ c.cell.ensures c.cell-2.ensures c.fits-2.ensures (not-false _ c.if-not-fits.false-raw)
+    both-in _ _ _ c.cell.ensures c.cell-2.ensures c.fits.ensures (not-false _ c.if-not-fits.false-raw)
     c.cell-3.ensures c.cell-4.ensures c.fits-2.ensures (not-false _ c.if-not-fits-2.false-raw) c.kind_fits.ensures
