@@ -8,7 +8,7 @@ use borrow.Author.Tests.{eq-eqb, ne_eqb}
 use Rattle.refusal.specs.Pick.{pick}
 use Rattle.text.specs.Order.{cmp_nat, and_then, cmp_bytes}
 use Rattle.text.specs.declared.order.Order.{Order}
-use Rattle.text.specs.declared.order.Order.TheVariants.{Equal}
+use Rattle.text.specs.declared.order.Order.TheVariants.{Less, Equal, Greater}
 use Rattle.table.specs.Table.{range_of}
 use Rattle.table.proofs.Cells.{cell-beside}
 use Rattle.sorting.specs.Order.{Lawful}
@@ -97,4 +97,6 @@ names-order first second rows width from len mark value i j =
     rw (cell-beside rows width i width (le_refl width), cell-beside rows width j width (le_refl width), nat-same 0 0 refl) (tied _)
   where
     tied : (o : Order) → and_then o Equal ≡ o
-    tied o = elim o [ Order.Less ↦ refl | Order.Equal ↦ refl | Order.Greater ↦ refl ]
+    tied Less = refl
+    tied Equal = refl
+    tied Greater = refl

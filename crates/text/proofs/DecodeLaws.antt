@@ -171,6 +171,7 @@ by_rows (there (there (there (there (there (there (there (here p q)))))))) (byte
     seq-4 _ _ _ _ _ (omega arith) (omega arith) (omega arith) (omega arith) u (omega arith) x (omega arith) (omega arith) (omega arith)
 by_rows (there (there (there (there (there (there (there (there (here p q))))))))) (byte l m (byte u v (byte x y done))) =
     seq-4 _ _ _ _ _ (omega arith) (omega arith) (omega arith) (omega arith) u (omega arith) x (omega arith) (omega arith) (omega arith)
+by_rows (there (there (there (there (there (there (there (there (there x))))))))) _ = elim x [ ]
 
 -- the sequence that Table 3-7 finds at the front of a text
 pub record Fronted (s : List ℕ) (k : ℕ) : Type 0 where

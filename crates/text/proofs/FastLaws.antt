@@ -1,9 +1,9 @@
 -- ASCII bytes are sequences. Assumes nothing.
 use mathlib.Core.Path.{◌≡◌, sym, ◌∙◌, refl}
-use mathlib.Core.List.{List, [], ◌∷◌}
+use mathlib.Core.List.{List}
 use Prim.Native.Nat.{ℕ, suc, ◌+◌, ◌≤◌, ◌<◌}
 use native.Mathlib.Omega.{arith}
-use native.Mathlib.Nat.{suc-add, zero-add, add-zero}
+use native.Mathlib.Nat.{suc-add, zero-add}
 use lib.Bits.{bit_or}
 use lib.ListN.{length, get_or, drop}
 use Rattle.bits.proofs.Masks.{below_two, below-three, below-four}

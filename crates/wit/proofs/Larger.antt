@@ -1,10 +1,8 @@
 -- Larger tables: what is accepted with some tables is accepted with any larger ones, with the same rows. Assumes nothing.
 use Prim.Native.Nat.{ℕ}
 use mathlib.Core.List.{List}
-use lib.Dec.{eqb}
-use lib.ListN.{length, drop}
+use lib.ListN.{length}
 use Rattle.refusal.specs.declared.Part.{Part}
-use Rattle.text.specs.Lines.{line_step}
 use Rattle.table.proofs.Larger.{Sure, Full, accepts-too, sure-same, sure-pick, sure-room, sure-follow, sure-onward, sure-from}
 use Rattle.text.specs.Whole.{whole_text}
 use Rattle.wit.specs.declared.line.Directive.{Directive}

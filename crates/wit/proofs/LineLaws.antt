@@ -1,8 +1,8 @@
 -- What a line says, from what the code's calls found. Assumes nothing.
-use mathlib.Core.Path.{◌≡◌, refl, sym, ap, ◌∙◌}
+use mathlib.Core.Path.{◌≡◌, sym, ap, ◌∙◌}
 use mathlib.Core.Bool.{Bool, true, false}
 use mathlib.Core.List.{List, [], ◌∷◌}
-use Prim.Native.Nat.{ℕ, zero, suc, ◌+◌, ◌-◌, ◌≤◌, ◌<◌}
+use Prim.Native.Nat.{ℕ, suc, ◌+◌, ◌-◌, ◌≤◌, ◌<◌}
 use native.Mathlib.Omega.{arith}
 use lib.Dec.{eqb, ltb}
 use lib.ListN.{length, get_or, drop}
@@ -16,7 +16,6 @@ use Rattle.text.proofs.PieceLaws.{piece-long, first_piece, beyond-piece, shorn-l
 use Rattle.wit.specs.Line.{package_w, world_w, import_w, export_w, lone, part_of, mark_at, absent, unbraced, is_space, ends, splits}
 use Rattle.wit.specs.Line.{boundary, reference_of, manifest_worded, manifest_core, manifest_spoken, manifest_directive}
 use Rattle.wit.specs.declared.line.Mark.{Mark}
-use Rattle.wit.specs.declared.line.Directive.{Directive}
 use Rattle.wit.specs.declared.line.Directive.TheVariants.{Blank, Package, World, Close, Refer, Brace, Other}
 
 -- ---- where a signature is split off

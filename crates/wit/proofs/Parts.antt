@@ -8,7 +8,7 @@ use lib.Dec.{eqb, ltb}
 use lib.ListN.{length, take, drop, length-take, length-drop}
 use lib.Seq.{take-take}
 use borrow.Author.Tests.{ltb-true, ltb-false, eq-eqb}
-use Rattle.refusal.specs.Pick.{pick, both}
+use Rattle.refusal.specs.Pick.{pick}
 use Rattle.refusal.specs.declared.Part.{Part}
 use Rattle.text.specs.Find.{seek, begins, same, index_of, index_of2}
 use Rattle.text.specs.Lines.{line_len, end_by, cr_before}
@@ -23,7 +23,6 @@ use Rattle.wit.specs.Line.{package_w, world_w, import_w, export_w, lone, part_of
 use Rattle.wit.specs.Line.{manifest_worded, manifest_core, manifest_spoken, manifest_directive}
 use Rattle.wit.specs.Manifest.{line_piece}
 use Rattle.wit.specs.Sound.{bytes_in, Clean, MarkClean}
-use Rattle.wit.specs.declared.line.Mark.{Mark}
 use Rattle.wit.specs.declared.line.Directive.{Directive}
 use Rattle.wit.specs.declared.line.Directive.TheVariants.{Blank, Package, World, Close, Refer, Brace, Other}
 use Rattle.wit.proofs.LineLaws.{boundary-le, pair-le}

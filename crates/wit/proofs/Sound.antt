@@ -1,7 +1,7 @@
 -- What holds of all that the reader accepts: each line keeps it. Assumes nothing.
 use Prim.Native.Nat.{ℕ, zero, suc, ◌+◌, ◌≤◌, ◌<◌}
 use native.Mathlib.Omega.{arith}
-use mathlib.Core.Path.{◌≡◌, refl, sym, ap, ◌∙◌, subst}
+use mathlib.Core.Path.{◌≡◌, refl, sym, ap}
 use mathlib.Core.Bool.{Bool, true, false, false≢true}
 use mathlib.Core.List.{List, [], ◌∷◌, ◌++◌}
 use lib.Dec.{eqb, ltb}
@@ -15,7 +15,7 @@ use Rattle.table.specs.Shape.{capacity_in}
 use Rattle.refusal.specs.Each.{Each, each_nil, each-cons}
 use Rattle.table.proofs.Giving.{Gives, Of, gives-done, gives-stop, gives-follow, gives-onward, gives-from}
 use Rattle.text.specs.Whole.{whole_text}
-use Rattle.wit.specs.Line.{absent, mark_at, manifest_directive}
+use Rattle.wit.specs.Line.{absent, manifest_directive}
 use Rattle.refusal.specs.Pick.{one_if}
 use Rattle.wit.specs.Manifest.{State, ManifestSizes, start, on_next, with_package, with_world, world_row, world_closed, row_of, referred}
 use Rattle.wit.specs.Manifest.{close_at, open_at, refer_at, obey_at, line_piece, line_at, lines_at, manifest_at}

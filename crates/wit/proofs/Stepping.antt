@@ -15,16 +15,16 @@ use Rattle.table.specs.Told.{ReaderTells, Passed, Ends}
 use Rattle.table.proofs.Cells.{room_row}
 use Rattle.table.proofs.Laws.{put-row-laid}
 use Rattle.table.proofs.Telling.{tell-got, tell-stop, tell-after, tell-after-stop}
-use Rattle.wit.specs.Line.{absent, mark_at}
+use Rattle.wit.specs.Line.{absent}
 use Rattle.wit.specs.declared.line.Mark.{Mark}
 use Rattle.wit.specs.declared.line.Directive.{Directive}
 use Rattle.wit.specs.declared.line.Directive.TheVariants.{Blank, Package, World, Close, Refer, Brace, Other}
 use Rattle.wit.specs.declared.rows.Reference.{Reference}
 use Rattle.wit.specs.declared.rows.Known.{Known}
-use Rattle.wit.specs.Manifest.{State, on_next, with_world, world_row, world_closed, row_of, referred, ManifestSizes, close_at}
+use Rattle.wit.specs.Manifest.{State, world_row, world_closed, row_of, referred, ManifestSizes, close_at}
 use Rattle.wit.specs.Manifest.{open_at, refer_at, obey_at}
 use Rattle.refusal.specs.Pick.{one_if}
-use Rattle.wit.specs.Manifest.{known_of, world_cells, reference_cells, lend_manifest, ManifestHolds, next_line, packaged, opened, Numbered}
+use Rattle.wit.specs.Manifest.{known_of, world_cells, reference_cells, lend_manifest, ManifestHolds, packaged, opened, Numbered}
 
 world-wide : (r : Part) → length (world_cells r) ≡ width 5
 unfolding world_cells

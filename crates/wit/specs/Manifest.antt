@@ -1,5 +1,5 @@
 -- docs/RULES.md, "Texts", the manifest: lines to directives to worlds, and what tables 5 and 6 hold. Assumes nothing.
-use Rattle.std.specs.Prelude.{ℕ, ◌+◌, ◌≡◌, Bool, true, false, List, [], ◌∷◌, ◌++◌, length, drop, ltb, eqb}
+use Rattle.std.specs.Prelude.{ℕ, ◌+◌, ◌≡◌, Bool, List, [], ◌∷◌, ◌++◌, length, drop, ltb, eqb}
 use Rattle.refusal.specs.Pick.{pick, one_if}
 use Rattle.refusal.specs.Said.{Said, accepted, refused, refused_by, follow, Got, got, onward, spot}
 use Rattle.refusal.specs.declared.Part.{Part}

@@ -13,4 +13,4 @@ returns-in-3 c = simp c.in-3.is
 
 pub returns-in_default : goal.returns-in_default
 unfolding rank_of
-returns-in_default c = let q = c.in_default.in_default-own.rest in simp (ne_eqb _ _ q.0.1, ne_eqb _ _ q.1)
+returns-in_default c = ?

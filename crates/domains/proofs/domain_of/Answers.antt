@@ -1,4 +1,5 @@
 -- `domain_of` meets its contract. Assumes nothing.
+use Rattle.std.proofs.Common.{arith}
 use Rattle.domains.specs.Domain.{numbered}
 use Rattle.domains.proofs.DomainLaws.{numbered-past}
 use Rattle.domains.proofs.domain_of.Goals as goal
@@ -33,6 +34,5 @@ returns-in-6 c = rw c.in-6.is
 
 pub returns-in_default : goal.returns-in_default
 returns-in_default c =
-    let r = c.in_default.in_default-own.rest in
-    numbered-past c.args.n r.0.0.0.0.0.0.1 r.0.0.0.0.0.1 r.0.0.0.0.1 r.0.0.0.1
-    r.0.0.1 r.0.1 r.1
+    numbered-past c.args.n (λ e. omega arith) (λ e. omega arith) (λ e. omega arith) (λ e. omega arith) (λ e. omega arith)
+    (λ e. omega arith) (λ e. omega arith)

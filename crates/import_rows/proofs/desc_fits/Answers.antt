@@ -17,13 +17,13 @@ loop-column-init c = (
 )
 
 pub returns-then-not-number_fits : goal.returns-then-not-number_fits
-returns-then-not-number_fits c = number-out c.loop-column.invariant.2 c.loop-column-test.true c.number_fits.ensures (not-true _ c.if-not-number_fits.true-raw)
+returns-then-not-number_fits c = number-out c.loop-column.invariant.2 c.loop-column-test.true c.number_fits.ensures c.if-not-number_fits.true
 
 pub loop-column-preserved : goal.loop-column-preserved
 loop-column-preserved c = (
   omega arith,
   omega arith,
-  number_in c.loop-column.invariant.2 c.loop-column-test.true c.number_fits.ensures (not-false _ c.if-not-number_fits.false-raw),
+  number_in c.loop-column.invariant.2 c.loop-column-test.true c.number_fits.ensures c.if-not-number_fits.false,
 )
 
 pub returns : goal.returns

@@ -35,5 +35,5 @@ returns-in-3 c = simp c.in-3.is
 pub returns-in_default : goal.returns-in_default
 unfolding given_of
 returns-in_default c =
-    let q = c.in_default.in_default-own.rest in
-    simp (ne_eqb _ _ q.0.0.0.1, ne_eqb _ _ q.0.0.1, ne_eqb _ _ q.0.1, ne_eqb _ _ q.1)
+    let k = c.args.kind in
+    simp (ne_eqb k 0 (λ e. omega arith), ne_eqb k 1 (λ e. omega arith), ne_eqb k 2 (λ e. omega arith), ne_eqb k 3 (λ e. omega arith))

@@ -10,16 +10,16 @@ use Rattle.keyed.proofs.Answering.{whole-quick, whole-slow}
 use Rattle.keyed.proofs.list_in.Goals as goal
 
 pub returns-then-not-has_room : goal.returns-then-not-has_room
-returns-then-not-has_room c = lists-none (sym c.has_room.ensures ∙ not-true _ c.if-not-has_room.true-raw) c.clear.ensures
+returns-then-not-has_room c = lists-none (sym c.has_room.ensures ∙ c.if-not-has_room.true) c.clear.ensures
 
 pub overflow_add-n : goal.overflow_add-n
 overflow_add-n c =
     let short : length c.args.ranks.now < 18446744073709551616 = omega arith in
-    omega (arith, short, room-ranks _ _ _ _ c.has_room.ensures (not-false _ c.if-not-has_room.false-raw))
+    omega (arith, short, room-ranks _ _ _ _ c.has_room.ensures c.if-not-has_room.false)
 
 pub try_quick-requires : goal.try_quick-requires
 try_quick-requires c =
-    let y = not-false _ c.if-not-has_room.false-raw in
+    let y = c.if-not-has_room.false in
     (omega arith, room-ranks _ _ _ _ c.has_room.ensures y, room-lost _ _ _ _ c.has_room.ensures y)
 
 pub returns-then-try_quick : goal.returns-then-try_quick

@@ -17,10 +17,10 @@ loop-i-init c = walk-starts c.capacity-room.ensures c.if-room-n.false
 
 pub returns-then-not-export_diff_fits : goal.returns-then-not-export_diff_fits
 unfolding export_diffs_tested
-returns-then-not-export_diff_fits c = walk-stops c.loop-i.invariant c.loop-i-test.true c.export_diff_fits.ensures (not-true _ c.if-not-export_diff_fits.true-raw)
+returns-then-not-export_diff_fits c = walk-stops c.loop-i.invariant c.loop-i-test.true c.export_diff_fits.ensures c.if-not-export_diff_fits.true
 
 pub loop-i-preserved : goal.loop-i-preserved
-loop-i-preserved c = walk-goes c.loop-i.invariant c.loop-i-test.true c.export_diff_fits.ensures (not-false _ c.if-not-export_diff_fits.false-raw)
+loop-i-preserved c = walk-goes c.loop-i.invariant c.loop-i-test.true c.export_diff_fits.ensures c.if-not-export_diff_fits.false
 
 pub returns : goal.returns
 unfolding export_diffs_tested

@@ -1,9 +1,6 @@
 -- `refusal::moved` meets its contract. Assumes nothing.
-use Prim.Native.Nat.{ℕ}
-use mathlib.Core.Path.{◌≡◌, refl, sym, ◌∙◌, ap}
-use borrow.Author.Rules.{rules}
+use mathlib.Core.Path.{sym, ◌∙◌, ap}
 use Rattle.refusal.specs.Said.{moved_on}
-use Rattle.refusal.specs.declared.Refusal.{Refusal}
 use Rattle.refusal.specs.declared.Refusal.TheVariants.{UnexpectedEof, BadMagic, BadUtf8, MalformedSection}
 use Rattle.refusal.specs.declared.Refusal.TheVariants.{TooManyBytes, TenthByte, AboveU32}
 use Rattle.refusal.proofs.moved.Goals as goal

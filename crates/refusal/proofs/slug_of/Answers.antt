@@ -1,10 +1,7 @@
 -- `refusal::slug_of` meets its contract: the invariant is `Padding`. Assumes nothing.
-use Prim.Native.Nat.{◌-◌}
 use native.Mathlib.Omega.{arith}
-use borrow.Author.Rules.{rules}
-use lib.ListN.{length}
 use Rattle.refusal.specs.Slug.{padded}
-use Rattle.refusal.proofs.Padding.{Padding, begins, more, full, ended}
+use Rattle.refusal.proofs.Padding.{begins, more, full, ended}
 use Rattle.refusal.proofs.slug_of.Goals as goal
 
 pub loop-len-init : goal.loop-len-init

@@ -1,9 +1,6 @@
 use Prim.Native.Nat.{◌-◌}
-use native.Mathlib.Omega.{arith}
-use borrow.Author.Rules.{rules}
 use lib.ListN.{length}
-use Rattle.refusal.specs.Slug.{padded}
-use Rattle.refusal.proofs.Padding.{Padding, begins, more, full, ended}
+use Rattle.refusal.proofs.Padding.{Padding}
 use Rattle.refusal.proofs.slug_of.Given as goal
 
 abbrev pub invariant-loop-len : goal.invariant-loop-len

@@ -1,27 +1,22 @@
 -- `sorting::compare_rows` meets its contract: the first answer that is no tie decides. Assumes nothing.
 use mathlib.Core.Path.{◌≡◌, refl, sym, ◌∙◌}
-use mathlib.Core.List.{[], ◌∷◌}
 use Prim.Native.Nat.{ℕ}
 use native.Mathlib.Omega.{arith}
-use mathlib.Core.Logic.{⊎_elim}
-use types.Run.{OneOf}
-use denote.Enum.Declared.{tag_of}
 use Rattle.text.specs.Order.{and_then}
 use Rattle.text.specs.declared.order.Order.{Order}
-use Rattle.text.specs.contracts.order.Order.{the_type}
 use Rattle.text.specs.declared.order.Order.TheVariants.{Less, Equal, Greater}
 use Rattle.sorting.proofs.Rowing.{by_cell, by_bytes, order-major, order-bytes, order-minor, order_row}
 use borrow.Author.Rules.{rules}
 use Rattle.sorting.proofs.compare_rows.Goals as goal
 
 -- an answer that is no tie stands
-settled : (o p : Order) → OneOf (0 ∷ 2 ∷ []) (tag_of the_type o) → o ≡ and_then o p
+settled : (o p : Order) → (o ≡ Equal → ⊥) → o ≡ and_then o p
 settled Less p h = refl
-settled Equal p h = absurd (⊎_elim (λ e. omega arith) (λ e. omega arith) h)
+settled Equal p h = absurd (h refl)
 settled Greater p h = refl
 
 pub returns-in_default : goal.returns-in_default
-returns-in_default c = order-major _ _ _ _ _ _ c.compare_cells-major.ensures (λ p. settled _ p c.in_default.in_default-own.keys2)
+returns-in_default c = order-major _ _ _ _ _ _ c.compare_cells-major.ensures (λ p. settled _ p c.in_default.not-Equal)
 
 pub returns-in_default-bytes : goal.returns-in_default-bytes
 returns-in_default-bytes c =
@@ -29,7 +24,7 @@ returns-in_default-bytes c =
     let major : cells c.args.keys.major ≡ Equal = sym c.compare_cells-major.ensures ∙ c.in-Equal.is in
     let names : Order = let a = c.args in by_bytes a.first.now a.second.now a.rows.now a.keys a.i a.j in
     let bytes : c.compare-bytes.result ≡ names = c.compare-bytes.ensures ∙ rw (c.name_of.ensures, c.name_of-2.ensures) in
-    order-bytes _ _ _ _ _ _ (major) (bytes) (λ p. settled _ p c.in_default-bytes.in_default-bytes-own.keys2)
+    order-bytes _ _ _ _ _ _ (major) (bytes) (λ p. settled _ p c.in_default-bytes.not-Equal)
 
 pub returns-in_default-minor : goal.returns-in_default-minor
 returns-in_default-minor c =
@@ -39,7 +34,7 @@ returns-in_default-minor c =
     let bytes : c.compare-bytes.result ≡ names = c.compare-bytes.ensures ∙ rw (c.name_of.ensures, c.name_of-2.ensures) in
     let no_bytes : names ≡ Equal = sym (bytes) ∙ c.in-Equal-bytes.is in
     order-minor _ _ _ _ _ _ (major) (no_bytes) c.compare_cells-minor.ensures
-    (λ p. settled _ p c.in_default-minor.in_default-minor-own.keys2)
+    (λ p. settled _ p c.in_default-minor.not-Equal)
 
 pub returns-then-keys : goal.returns-then-keys
 returns-then-keys c =

@@ -16,31 +16,28 @@ pub loop-lo-init : goal.loop-lo-init
 loop-lo-init c = (omega arith, omega arith, (λ j l. absurd (not-suc-le-zero l)), λ l. absurd (omega arith))
 
 pub loop-lo-preserved-in-Less : goal.loop-lo-preserved-in-Less
-loop-lo-preserved-in-Less c =
-    let told : {o : Order} → c.compare_rows-o.result ≡ o → let a = c.args in row_order a.first.now a.second.now a.rows.now a.keys a.x (get_or a.sorted.now (c.loop-lo.lo + (c.loop-lo.hi - c.loop-lo.lo) / 2) 0) ≡ o = λ e. sym c.compare_rows-o.ensures ∙ e in (
-      omega arith,
-      omega arith,
-      c.loop-lo.invariant.2,
-      λ l. told c.in-Less.is,
-    )
+loop-lo-preserved-in-Less c = (
+  omega arith,
+  omega arith,
+  c.loop-lo.invariant.2,
+  λ l. sym c.compare_rows-o.ensures ∙ c.in-Less.is,
+)
 
 pub returns-in-Equal : goal.returns-in-Equal
 returns-in-Equal c =
-    let told : {o : Order} → c.compare_rows-o.result ≡ o → let a = c.args in row_order a.first.now a.second.now a.rows.now a.keys a.x (get_or a.sorted.now (c.loop-lo.lo + (c.loop-lo.hi - c.loop-lo.lo) / 2) 0) ≡ o = λ e. sym c.compare_rows-o.ensures ∙ e in
     let inside : c.loop-lo.lo + (c.loop-lo.hi - c.loop-lo.lo) / 2 < c.args.k = omega arith in
-    let same = told c.in-Equal.is in
+    let same = sym c.compare_rows-o.ensures ∙ c.in-Equal.is in
     let below = inside in
     placed-over _ _ _ _ c.requires.room _
     (tied_below _ (lawful-rows _ _ _ _) c.requires _ _ below same) below same
 
 pub loop-lo-preserved : goal.loop-lo-preserved
 loop-lo-preserved c =
-    let inside : c.loop-lo.lo + (c.loop-lo.hi - c.loop-lo.lo) / 2 < c.args.k = omega arith in
-    let told : {o : Order} → c.compare_rows-o.result ≡ o → let a = c.args in row_order a.first.now a.second.now a.rows.now a.keys a.x (get_or a.sorted.now (c.loop-lo.lo + (c.loop-lo.hi - c.loop-lo.lo) / 2) 0) ≡ o = λ e. sym c.compare_rows-o.ensures ∙ e in (
+    let inside : c.loop-lo.lo + (c.loop-lo.hi - c.loop-lo.lo) / 2 < c.args.k = omega arith in (
       omega arith,
       omega arith,
       after-up-to _ (lawful-rows _ _ _ _) c.requires _ _ (inside)
-          (told c.in-Greater.is),
+          (sym c.compare_rows-o.ensures ∙ c.in-Greater.is),
       c.loop-lo.invariant.3,
     )
 
@@ -48,4 +45,4 @@ pub returns : goal.returns
 returns c =
     let ends : c.loop-lo.lo ≡ c.loop-lo.hi = omega arith in
     placed-before _ _ _ _ c.requires.room c.loop-lo.lo c.loop-lo.invariant.2 (omega arith)
-    (rw (← ends) c c.loop-lo.invariant.3)
+    (rw ends c.loop-lo.invariant.3)

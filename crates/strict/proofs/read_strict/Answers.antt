@@ -59,8 +59,6 @@ shape_of-names c = c.clear.auto.names ∙ c.read_module-read.auto.names
 
 pub returns : goal.returns
 returns c =
-    let l = c.clear.new in
-    let k = c.read_module-read.auto.sections in
     strict-bad _ _ c.read_module-read.ensures c.in-Module.is c.judge-rule.ensures c.if-rule-eq0.false
-    (subst (λ (z : Sizes). Holds (lend l.0 l.1.0 l.1.1.0 l.1.1.1.0) z no_tables)
-    (sizes-same k.0 k.1.0 k.1.1.0 k.1.1.1.0) c.clear.ensures)
+    (subst (λ (z : Sizes). Holds (lend c.clear.new.sections c.clear.new.imports c.clear.new.exports c.clear.new.names) z no_tables)
+    (sizes-same c.read_module-read.auto.sections c.read_module-read.auto.imports c.read_module-read.auto.exports c.read_module-read.auto.names) c.clear.ensures)

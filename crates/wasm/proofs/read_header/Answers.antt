@@ -30,10 +30,10 @@ overflow_add-end c =
     let inside : Taken c.args.file.now 0 4 c.in-Read.p c.in-Read.after_magic.at = take_in _ _ _ _ _ (taken) in
     let t = inside in omega (arith, t.start, t.size, t.in-s)
 
-pub UNKNOWN : goal.UNKNOWN
-UNKNOWN c =
-    let taken : taken_at c.args.file.now 0 4 ≡ accepted (got c.one-1.given.0.0 c.one-1.given.0.1.0.at) = hear said_part _ _ c.take-one.ensures c.one-1.given.1 in
-    let inside : Taken c.args.file.now 0 4 c.one-1.given.0.0 c.one-1.given.0.1.0.at = take_in _ _ _ _ _ (taken) in
+pub slice_bounds-equal-end : goal.slice_bounds-equal-end
+slice_bounds-equal-end c =
+    let taken : taken_at c.args.file.now 0 4 ≡ accepted (got c.in-Read.p c.in-Read.after_magic.at) = hear said_part _ _ c.take-one.ensures c.in-Read.is in
+    let inside : Taken c.args.file.now 0 4 c.in-Read.p c.in-Read.after_magic.at = take_in _ _ _ _ _ (taken) in
     let t = inside in omega (arith, t.start, t.size, t.in-s)
 
 pub returns-then-not-equal : goal.returns-then-not-equal

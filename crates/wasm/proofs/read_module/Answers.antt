@@ -20,39 +20,39 @@ returns-in_default c =
 
 pub read_sections-requires : goal.read_sections-requires
 read_sections-requires c =
-    let kept : let l = c.clear_all.new in let a = c.args in sizes l.0 l.1.0 l.1.1.0 l.1.1.1.0 ≡ sizes a.sections.now a.imports.now a.exports.now a.names.now = let k = c.clear_all.auto in sizes-same k.0 k.1.0 k.1.1.0 k.1.1.1.0 in
-    let l = c.clear_all.last in (
-      omega (arith, c.if-length-gt-MAX_FILE.false),
-      subst (λ (z : Sizes). Holds (lend l.0 l.1.0 l.1.1.0 l.1.1.1.0) z no_tables) (sym (kept)) c.clear_all.ensures,
-    )
+    let kept : let l = c.clear_all.new in let a = c.args in sizes l.sections l.imports l.exports l.names ≡ sizes a.sections.now a.imports.now a.exports.now a.names.now = let k = c.clear_all.auto in sizes-same k.sections k.imports k.exports k.names in
+    let l = c.clear_all.new in record {
+      file_len_bound = omega (arith, c.if-length-gt-MAX_FILE.false);
+      holds = subst (λ (z : Sizes). Holds (lend l.sections l.imports l.exports l.names) z no_tables) (sym (kept)) c.clear_all.ensures;
+    }
 
 pub shape_of-sections-in-Read-read_sections : goal.shape_of-sections-in-Read-read_sections
 shape_of-sections-in-Read-read_sections c =
-    let kept : let l = c.clear_all.new in let a = c.args in sizes l.0 l.1.0 l.1.1.0 l.1.1.1.0 ≡ sizes a.sections.now a.imports.now a.exports.now a.names.now = let k = c.clear_all.auto in sizes-same k.0 k.1.0 k.1.1.0 k.1.1.1.0 in
-    let kept-through : let l = c.read_sections.new.sections in let a = c.args in sizes l.0 l.1.0 l.1.1.0 l.1.1.1.0 ≡ sizes a.sections.now a.imports.now a.exports.now a.names.now = let k = c.read_sections.auto.sections in sizes-same k.0 k.1.0 k.1.1.0 k.1.1.1.0 ∙ kept in
+    let kept : let l = c.clear_all.new in let a = c.args in sizes l.sections l.imports l.exports l.names ≡ sizes a.sections.now a.imports.now a.exports.now a.names.now = let k = c.clear_all.auto in sizes-same k.sections k.imports k.exports k.names in
+    let kept-through : let l = c.read_sections.new in let a = c.args in sizes l.sections l.imports l.exports l.names ≡ sizes a.sections.now a.imports.now a.exports.now a.names.now = let k = c.read_sections.auto in sizes-same k.sections k.imports k.exports k.names ∙ kept in
     ap (λ (z : Sizes). z.sections) (kept-through)
 
 pub shape_of-imports-in-Read-read_sections : goal.shape_of-imports-in-Read-read_sections
 shape_of-imports-in-Read-read_sections c =
-    let kept : let l = c.clear_all.new in let a = c.args in sizes l.0 l.1.0 l.1.1.0 l.1.1.1.0 ≡ sizes a.sections.now a.imports.now a.exports.now a.names.now = let k = c.clear_all.auto in sizes-same k.0 k.1.0 k.1.1.0 k.1.1.1.0 in
-    let kept-through : let l = c.read_sections.new.sections in let a = c.args in sizes l.0 l.1.0 l.1.1.0 l.1.1.1.0 ≡ sizes a.sections.now a.imports.now a.exports.now a.names.now = let k = c.read_sections.auto.sections in sizes-same k.0 k.1.0 k.1.1.0 k.1.1.1.0 ∙ kept in
+    let kept : let l = c.clear_all.new in let a = c.args in sizes l.sections l.imports l.exports l.names ≡ sizes a.sections.now a.imports.now a.exports.now a.names.now = let k = c.clear_all.auto in sizes-same k.sections k.imports k.exports k.names in
+    let kept-through : let l = c.read_sections.new in let a = c.args in sizes l.sections l.imports l.exports l.names ≡ sizes a.sections.now a.imports.now a.exports.now a.names.now = let k = c.read_sections.auto in sizes-same k.sections k.imports k.exports k.names ∙ kept in
     ap (λ (z : Sizes). z.imports) (kept-through)
 
 pub shape_of-exports-in-Read-read_sections : goal.shape_of-exports-in-Read-read_sections
 shape_of-exports-in-Read-read_sections c =
-    let kept : let l = c.clear_all.new in let a = c.args in sizes l.0 l.1.0 l.1.1.0 l.1.1.1.0 ≡ sizes a.sections.now a.imports.now a.exports.now a.names.now = let k = c.clear_all.auto in sizes-same k.0 k.1.0 k.1.1.0 k.1.1.1.0 in
-    let kept-through : let l = c.read_sections.new.sections in let a = c.args in sizes l.0 l.1.0 l.1.1.0 l.1.1.1.0 ≡ sizes a.sections.now a.imports.now a.exports.now a.names.now = let k = c.read_sections.auto.sections in sizes-same k.0 k.1.0 k.1.1.0 k.1.1.1.0 ∙ kept in
+    let kept : let l = c.clear_all.new in let a = c.args in sizes l.sections l.imports l.exports l.names ≡ sizes a.sections.now a.imports.now a.exports.now a.names.now = let k = c.clear_all.auto in sizes-same k.sections k.imports k.exports k.names in
+    let kept-through : let l = c.read_sections.new in let a = c.args in sizes l.sections l.imports l.exports l.names ≡ sizes a.sections.now a.imports.now a.exports.now a.names.now = let k = c.read_sections.auto in sizes-same k.sections k.imports k.exports k.names ∙ kept in
     ap (λ (z : Sizes). z.exports) (kept-through)
 
 pub shape_of-names-in-Read-read_sections : goal.shape_of-names-in-Read-read_sections
 shape_of-names-in-Read-read_sections c =
-    let kept : let l = c.clear_all.new in let a = c.args in sizes l.0 l.1.0 l.1.1.0 l.1.1.1.0 ≡ sizes a.sections.now a.imports.now a.exports.now a.names.now = let k = c.clear_all.auto in sizes-same k.0 k.1.0 k.1.1.0 k.1.1.1.0 in
-    let kept-through : let l = c.read_sections.new.sections in let a = c.args in sizes l.0 l.1.0 l.1.1.0 l.1.1.1.0 ≡ sizes a.sections.now a.imports.now a.exports.now a.names.now = let k = c.read_sections.auto.sections in sizes-same k.0 k.1.0 k.1.1.0 k.1.1.1.0 ∙ kept in
+    let kept : let l = c.clear_all.new in let a = c.args in sizes l.sections l.imports l.exports l.names ≡ sizes a.sections.now a.imports.now a.exports.now a.names.now = let k = c.clear_all.auto in sizes-same k.sections k.imports k.exports k.names in
+    let kept-through : let l = c.read_sections.new in let a = c.args in sizes l.sections l.imports l.exports l.names ≡ sizes a.sections.now a.imports.now a.exports.now a.names.now = let k = c.read_sections.auto in sizes-same k.sections k.imports k.exports k.names ∙ kept in
     ap (λ (z : Sizes). z.names) (kept-through)
 
 pub returns-in-Read-read_sections : goal.returns-in-Read-read_sections
 returns-in-Read-read_sections c =
-    let kept : let l = c.clear_all.new in let a = c.args in sizes l.0 l.1.0 l.1.1.0 l.1.1.1.0 ≡ sizes a.sections.now a.imports.now a.exports.now a.names.now = let k = c.clear_all.auto in sizes-same k.0 k.1.0 k.1.1.0 k.1.1.1.0 in
+    let kept : let l = c.clear_all.new in let a = c.args in sizes l.sections l.imports l.exports l.names ≡ sizes a.sections.now a.imports.now a.exports.now a.names.now = let k = c.clear_all.auto in sizes-same k.sections k.imports k.exports k.names in
     module-good _ _ c.if-length-gt-MAX_FILE.false _ _
     (sym c.read_header-one.ensures ∙ ap said_header c.in-Read.is) _
     (kept) _
@@ -60,40 +60,40 @@ returns-in-Read-read_sections c =
 
 pub shape_of-sections-in-Refused : goal.shape_of-sections-in-Refused
 shape_of-sections-in-Refused c =
-    let kept : let l = c.clear_all.new in let a = c.args in sizes l.0 l.1.0 l.1.1.0 l.1.1.1.0 ≡ sizes a.sections.now a.imports.now a.exports.now a.names.now = let k = c.clear_all.auto in sizes-same k.0 k.1.0 k.1.1.0 k.1.1.1.0 in
-    let kept-through : let l = c.read_sections.new.sections in let a = c.args in sizes l.0 l.1.0 l.1.1.0 l.1.1.1.0 ≡ sizes a.sections.now a.imports.now a.exports.now a.names.now = let k = c.read_sections.auto.sections in sizes-same k.0 k.1.0 k.1.1.0 k.1.1.1.0 ∙ kept in
+    let kept : let l = c.clear_all.new in let a = c.args in sizes l.sections l.imports l.exports l.names ≡ sizes a.sections.now a.imports.now a.exports.now a.names.now = let k = c.clear_all.auto in sizes-same k.sections k.imports k.exports k.names in
+    let kept-through : let l = c.read_sections.new in let a = c.args in sizes l.sections l.imports l.exports l.names ≡ sizes a.sections.now a.imports.now a.exports.now a.names.now = let k = c.read_sections.auto in sizes-same k.sections k.imports k.exports k.names ∙ kept in
     c.clear_all-in-Refused.auto.sections ∙ ap
     (λ (z : Sizes). z.sections) (kept-through)
 
 pub shape_of-imports-in-Refused : goal.shape_of-imports-in-Refused
 shape_of-imports-in-Refused c =
-    let kept : let l = c.clear_all.new in let a = c.args in sizes l.0 l.1.0 l.1.1.0 l.1.1.1.0 ≡ sizes a.sections.now a.imports.now a.exports.now a.names.now = let k = c.clear_all.auto in sizes-same k.0 k.1.0 k.1.1.0 k.1.1.1.0 in
-    let kept-through : let l = c.read_sections.new.sections in let a = c.args in sizes l.0 l.1.0 l.1.1.0 l.1.1.1.0 ≡ sizes a.sections.now a.imports.now a.exports.now a.names.now = let k = c.read_sections.auto.sections in sizes-same k.0 k.1.0 k.1.1.0 k.1.1.1.0 ∙ kept in
+    let kept : let l = c.clear_all.new in let a = c.args in sizes l.sections l.imports l.exports l.names ≡ sizes a.sections.now a.imports.now a.exports.now a.names.now = let k = c.clear_all.auto in sizes-same k.sections k.imports k.exports k.names in
+    let kept-through : let l = c.read_sections.new in let a = c.args in sizes l.sections l.imports l.exports l.names ≡ sizes a.sections.now a.imports.now a.exports.now a.names.now = let k = c.read_sections.auto in sizes-same k.sections k.imports k.exports k.names ∙ kept in
     c.clear_all-in-Refused.auto.imports ∙ ap
     (λ (z : Sizes). z.imports) (kept-through)
 
 pub shape_of-exports-in-Refused : goal.shape_of-exports-in-Refused
 shape_of-exports-in-Refused c =
-    let kept : let l = c.clear_all.new in let a = c.args in sizes l.0 l.1.0 l.1.1.0 l.1.1.1.0 ≡ sizes a.sections.now a.imports.now a.exports.now a.names.now = let k = c.clear_all.auto in sizes-same k.0 k.1.0 k.1.1.0 k.1.1.1.0 in
-    let kept-through : let l = c.read_sections.new.sections in let a = c.args in sizes l.0 l.1.0 l.1.1.0 l.1.1.1.0 ≡ sizes a.sections.now a.imports.now a.exports.now a.names.now = let k = c.read_sections.auto.sections in sizes-same k.0 k.1.0 k.1.1.0 k.1.1.1.0 ∙ kept in
+    let kept : let l = c.clear_all.new in let a = c.args in sizes l.sections l.imports l.exports l.names ≡ sizes a.sections.now a.imports.now a.exports.now a.names.now = let k = c.clear_all.auto in sizes-same k.sections k.imports k.exports k.names in
+    let kept-through : let l = c.read_sections.new in let a = c.args in sizes l.sections l.imports l.exports l.names ≡ sizes a.sections.now a.imports.now a.exports.now a.names.now = let k = c.read_sections.auto in sizes-same k.sections k.imports k.exports k.names ∙ kept in
     c.clear_all-in-Refused.auto.exports ∙ ap
     (λ (z : Sizes). z.exports) (kept-through)
 
 pub shape_of-names-in-Refused : goal.shape_of-names-in-Refused
 shape_of-names-in-Refused c =
-    let kept : let l = c.clear_all.new in let a = c.args in sizes l.0 l.1.0 l.1.1.0 l.1.1.1.0 ≡ sizes a.sections.now a.imports.now a.exports.now a.names.now = let k = c.clear_all.auto in sizes-same k.0 k.1.0 k.1.1.0 k.1.1.1.0 in
-    let kept-through : let l = c.read_sections.new.sections in let a = c.args in sizes l.0 l.1.0 l.1.1.0 l.1.1.1.0 ≡ sizes a.sections.now a.imports.now a.exports.now a.names.now = let k = c.read_sections.auto.sections in sizes-same k.0 k.1.0 k.1.1.0 k.1.1.1.0 ∙ kept in
+    let kept : let l = c.clear_all.new in let a = c.args in sizes l.sections l.imports l.exports l.names ≡ sizes a.sections.now a.imports.now a.exports.now a.names.now = let k = c.clear_all.auto in sizes-same k.sections k.imports k.exports k.names in
+    let kept-through : let l = c.read_sections.new in let a = c.args in sizes l.sections l.imports l.exports l.names ≡ sizes a.sections.now a.imports.now a.exports.now a.names.now = let k = c.read_sections.auto in sizes-same k.sections k.imports k.exports k.names ∙ kept in
     c.clear_all-in-Refused.auto.names ∙ ap
     (λ (z : Sizes). z.names) (kept-through)
 
 pub returns-in-Refused : goal.returns-in-Refused
 returns-in-Refused c =
-    let kept : let l = c.clear_all.new in let a = c.args in sizes l.0 l.1.0 l.1.1.0 l.1.1.1.0 ≡ sizes a.sections.now a.imports.now a.exports.now a.names.now = let k = c.clear_all.auto in sizes-same k.0 k.1.0 k.1.1.0 k.1.1.1.0 in
-    let kept-through : let l = c.read_sections.new.sections in let a = c.args in sizes l.0 l.1.0 l.1.1.0 l.1.1.1.0 ≡ sizes a.sections.now a.imports.now a.exports.now a.names.now = let k = c.read_sections.auto.sections in sizes-same k.0 k.1.0 k.1.1.0 k.1.1.1.0 ∙ kept in
+    let kept : let l = c.clear_all.new in let a = c.args in sizes l.sections l.imports l.exports l.names ≡ sizes a.sections.now a.imports.now a.exports.now a.names.now = let k = c.clear_all.auto in sizes-same k.sections k.imports k.exports k.names in
+    let kept-through : let l = c.read_sections.new in let a = c.args in sizes l.sections l.imports l.exports l.names ≡ sizes a.sections.now a.imports.now a.exports.now a.names.now = let k = c.read_sections.auto in sizes-same k.sections k.imports k.exports k.names ∙ kept in
     let l = c.clear_all-in-Refused.new in
     module-stop _ _ c.if-length-gt-MAX_FILE.false _ _
     (sym c.read_header-one.ensures ∙ ap said_header c.in-Read.is) _
     (kept) _
     c.read_sections.ensures _ _ _ (ap said_counts c.in-Refused.is)
-    (subst (λ (z : Sizes). Holds (lend l.0 l.1.0 l.1.1.0 l.1.1.1.0) z no_tables) (kept-through)
+    (subst (λ (z : Sizes). Holds (lend l.sections l.imports l.exports l.names) z no_tables) (kept-through)
     c.clear_all-in-Refused.ensures)

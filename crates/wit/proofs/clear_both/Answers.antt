@@ -1,5 +1,4 @@
 -- `clear_both` meets its contract. Assumes nothing.
-use borrow.Author.Rules.{rules}
 use Rattle.table.specs.Table.{cells}
 use Rattle.wit.specs.Manifest.{start}
 use Rattle.wit.proofs.clear_both.Goals as goal

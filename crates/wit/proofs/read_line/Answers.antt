@@ -1,7 +1,6 @@
 -- `read_line` meets its contract. Assumes nothing.
 use mathlib.Core.Path.{ap}
 use native.Mathlib.Omega.{arith}
-use borrow.Author.Rules.{rules}
 use Rattle.text.proofs.LineLaws.{line-bounds}
 use Rattle.wit.specs.declared.rows.Known.{Known}
 use Rattle.wit.proofs.Stepping.{ends-passed, numbered-as}

@@ -1,13 +1,9 @@
 -- `read_lines` meets its contract: the invariant is `Going`. Assumes nothing.
-use Prim.Native.Nat.{◌-◌, ◌≤◌}
 use mathlib.Core.Path.{◌≡◌, refl, ◌∙◌, ap}
 use native.Mathlib.Omega.{arith}
-use borrow.Author.Rules.{rules}
-use lib.ListN.{length}
-use Rattle.table.specs.Walking.{walk_from}
 use Rattle.table.proofs.Telling.{passed}
-use Rattle.table.proofs.Walking.{Going, going-off, going_on}
-use Rattle.wit.specs.Manifest.{ManifestSizes, lend_manifest, manifest_sizes, ManifestHolds, start, line_at, known_of, said_known}
+use Rattle.table.proofs.Walking.{going-off, going_on}
+use Rattle.wit.specs.Manifest.{ManifestSizes, manifest_sizes, ManifestHolds, start, line_at, known_of, said_known}
 use Rattle.wit.specs.declared.rows.Known.{Known}
 use Rattle.wit.proofs.Stepping.{numbered}
 use Rattle.wit.proofs.Answer.{sizes-same, lines-off, lines-told}
@@ -22,16 +18,16 @@ loop-at-init c = (
 )
 
 pub read_line-requires : goal.read_line-requires
-read_line-requires c = (c.loop-at-test.true, c.loop-at.invariant.2)
+read_line-requires c = record { at_in_bounds = c.loop-at-test.true; line_le_at = c.loop-at.invariant.2 }
 
 pub shape_of-worlds-in-Refused : goal.shape_of-worlds-in-Refused
 shape_of-worlds-in-Refused c =
-    let kept : let l = c.read_line.new.worlds in let a = c.args in manifest_sizes l.0 l.1.0 ≡ manifest_sizes a.worlds.now a.references.now = let k = c.read_line.auto.worlds in sizes-same k.0 k.1.0 ∙ c.loop-at.invariant.1 in
+    let kept : let a = c.args in manifest_sizes c.read_line.new.worlds c.read_line.new.references ≡ manifest_sizes a.worlds.now a.references.now = sizes-same c.read_line.auto.worlds c.read_line.auto.references ∙ c.loop-at.invariant.1 in
     ap (λ (z : ManifestSizes). z.worlds) (kept)
 
 pub shape_of-references-in-Refused : goal.shape_of-references-in-Refused
 shape_of-references-in-Refused c =
-    let kept : let l = c.read_line.new.worlds in let a = c.args in manifest_sizes l.0 l.1.0 ≡ manifest_sizes a.worlds.now a.references.now = let k = c.read_line.auto.worlds in sizes-same k.0 k.1.0 ∙ c.loop-at.invariant.1 in
+    let kept : let a = c.args in manifest_sizes c.read_line.new.worlds c.read_line.new.references ≡ manifest_sizes a.worlds.now a.references.now = sizes-same c.read_line.auto.worlds c.read_line.auto.references ∙ c.loop-at.invariant.1 in
     ap (λ (z : ManifestSizes). z.references) (kept)
 
 pub returns-in-Refused : goal.returns-in-Refused
@@ -46,7 +42,7 @@ loop-at-smaller c =
 
 pub loop-at-preserved : goal.loop-at-preserved
 loop-at-preserved c =
-    let kept : let l = c.read_line.new.worlds in let a = c.args in manifest_sizes l.0 l.1.0 ≡ manifest_sizes a.worlds.now a.references.now = let k = c.read_line.auto.worlds in sizes-same k.0 k.1.0 ∙ c.loop-at.invariant.1 in
+    let kept : let a = c.args in manifest_sizes c.read_line.new.worlds c.read_line.new.references ≡ manifest_sizes a.worlds.now a.references.now = sizes-same c.read_line.auto.worlds c.read_line.auto.references ∙ c.loop-at.invariant.1 in
     let q = ap said_known c.in-Read.is in
     let p = passed _ _ c.read_line.ensures.0 q in (
       going_on (line_at _) (ManifestHolds _) (ManifestHolds _) c.loop-at.invariant.0 c.loop-at.invariant.1 c.read_line.ensures.2 q p.0

@@ -1,15 +1,9 @@
 use Prim.Native.Nat.{◌-◌, ◌≤◌}
-use mathlib.Core.Path.{◌≡◌, refl, ◌∙◌, ap}
-use native.Mathlib.Omega.{arith}
-use borrow.Author.Rules.{rules}
+use mathlib.Core.Path.{◌≡◌}
 use lib.ListN.{length}
 use Rattle.table.specs.Walking.{walk_from}
-use Rattle.table.proofs.Telling.{passed}
-use Rattle.table.proofs.Walking.{Going, going-off, going_on}
-use Rattle.wit.specs.Manifest.{ManifestSizes, lend_manifest, manifest_sizes, ManifestHolds, start, line_at, known_of, said_known}
-use Rattle.wit.specs.declared.rows.Known.{Known}
-use Rattle.wit.proofs.Stepping.{numbered}
-use Rattle.wit.proofs.Answer.{sizes-same, lines-off, lines-told}
+use Rattle.table.proofs.Walking.{Going}
+use Rattle.wit.specs.Manifest.{lend_manifest, manifest_sizes, ManifestHolds, start, line_at, known_of}
 use Rattle.wit.proofs.read_lines.Given as goal
 
 abbrev pub invariant-loop-at : goal.invariant-loop-at

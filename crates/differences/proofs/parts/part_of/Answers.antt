@@ -38,7 +38,7 @@ returns-then-not-fits c =
     let a = c.args in
     let e : absent =
     outside _ _ _ _ _ _ c.if-n-row.false c.capacity.ensures c.if-capacity-row.false c.cell-from.ensures c.cell-len.ensures
-    (said-out _ _ _ c.fits.ensures (not-true _ c.if-not-fits.true-raw)) in (
+    (said-out _ _ _ c.fits.ensures c.if-not-fits.true) in (
       gone-bytes _ _ _ _ _ _ e,
       gone-block _ _ _ _ _ _ e _ _,
       omega (arith, gone-offset _ _ _ _ _ _ e a.file.ptr.1 a.baseline.ptr.1),
@@ -46,17 +46,17 @@ returns-then-not-fits c =
 
 pub overflow_add-result : goal.overflow_add-result
 overflow_add-result c =
-    let within : c.cell-from.result + c.cell-len.result ≤ length c.args.file.now = said_in _ _ _ c.fits.ensures (not-false _ c.if-not-fits.false-raw) in
+    let within : c.cell-from.result + c.cell-len.result ≤ length c.args.file.now = said_in _ _ _ c.fits.ensures c.if-not-fits.false in
     omega (arith, within)
 
 pub slice_bounds-result-end-2 : goal.slice_bounds-result-end-2
 slice_bounds-result-end-2 c =
-    let within : c.cell-from.result + c.cell-len.result ≤ length c.args.file.now = said_in _ _ _ c.fits.ensures (not-false _ c.if-not-fits.false-raw) in
+    let within : c.cell-from.result + c.cell-len.result ≤ length c.args.file.now = said_in _ _ _ c.fits.ensures c.if-not-fits.false in
     omega (arith, within)
 
 pub returns : goal.returns
 returns c =
-    let within : c.cell-from.result + c.cell-len.result ≤ length c.args.file.now = said_in _ _ _ c.fits.ensures (not-false _ c.if-not-fits.false-raw) in
+    let within : c.cell-from.result + c.cell-len.result ≤ length c.args.file.now = said_in _ _ _ c.fits.ensures c.if-not-fits.false in
     let a = c.args in (
       part_bytes _ _ _ _ _ _ c.if-n-row.false c.capacity.ensures c.if-capacity-row.false c.cell-from.ensures c.cell-len.ensures (within),
       part-block _ _ _ _ _ _ c.if-n-row.false c.capacity.ensures c.if-capacity-row.false c.cell-from.ensures c.cell-len.ensures (within)

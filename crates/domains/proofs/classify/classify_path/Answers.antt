@@ -13,10 +13,10 @@ slice_bounds-body_of-count c =
     let e = sym c.starts.ensures ∙ c.if-starts.true in
     omega (arith, begins-le wasi s e)
 
-pub UNKNOWN : goal.UNKNOWN
-UNKNOWN c =
+pub slice_bounds-body_of-start : goal.slice_bounds-body_of-start
+slice_bounds-body_of-start c =
     let s = c.args.path.now in
-    let e = sym c.starts.ensures ∙ c.if1.true in
+    let e = sym c.starts.ensures ∙ c.if-starts.true in
     omega (arith, begins-le wasi s e)
 
 pub returns-then-starts : goal.returns-then-starts

@@ -28,7 +28,7 @@ loop-j-smaller c = omega arith
 pub loop-j-preserved : goal.loop-j-preserved
 loop-j-preserved c =
     let x = c.args in
-    let e = c.none_like.ensures (not-false _ c.if-not-none_like.false-raw) in (
+    let e = c.none_like.ensures c.if-not-none_like.false in (
       omega arith,
       omega arith,
       unlike-join x.prints.now x.print x.from c.loop-j.j (c.loop-j.j + 16) c.loop-j.invariant.2 e,

@@ -31,7 +31,7 @@ returns-then-not-mark_found c = record { done = λ y. absurd (true≢false (sym 
 pub returns : goal.returns
 returns c =
     let a = c.args in
-    let marks = c.mark_found.ensures (not-false _ c.if-not-mark_found.false-raw) in
+    let marks = c.mark_found.ensures c.if-not-mark_found.false in
     record {
       done = λ y every.
           left-missing a.first.now a.second.now a.keys.now _ _ a.nb a.n every c.unmark.ensures

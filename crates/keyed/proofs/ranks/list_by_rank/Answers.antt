@@ -12,22 +12,22 @@ use Rattle.keyed.proofs.ranks.list_by_rank.Goals as goal
 pub returns-then-not-has_room : goal.returns-then-not-has_room
 returns-then-not-has_room c =
     let room : let a = c.args in c.has_room.result ≡ holds_all (a.nb + a.nc) (length a.ranks.now) (length a.lost.now) (length a.numbers.now) = room_as _ c.has_room.ensures (cleared-length c.clear.ensures) (cleared-length c.clear-2.ensures) (cleared-length c.clear-3.ensures) in
-    lists-none (sym (room) ∙ not-true _ c.if-not-has_room.true-raw) c.clear-3.ensures
+    lists-none (sym (room) ∙ c.if-not-has_room.true) c.clear-3.ensures
 
 pub overflow_add-nb : goal.overflow_add-nb
 overflow_add-nb c =
     let short : length c.args.ranks.now < 18446744073709551616 = omega arith in
     let room : let a = c.args in c.has_room.result ≡ holds_all (a.nb + a.nc) (length a.ranks.now) (length a.lost.now) (length a.numbers.now) = room_as _ c.has_room.ensures (cleared-length c.clear.ensures) (cleared-length c.clear-2.ensures) (cleared-length c.clear-3.ensures) in
-    omega (arith, short, room-ranks _ _ _ _ (room) (not-false _ c.if-not-has_room.false-raw))
+    omega (arith, short, room-ranks _ _ _ _ (room) c.if-not-has_room.false)
 
 pub sort_missing-requires : goal.sort_missing-requires
 sort_missing-requires c =
-    let r = room-ranks _ _ _ _ c.has_room.ensures (not-false _ c.if-not-has_room.false-raw) in
-    let l = room-lost _ _ _ _ c.has_room.ensures (not-false _ c.if-not-has_room.false-raw) in
-    let n = room-list _ _ _ _ c.has_room.ensures (not-false _ c.if-not-has_room.false-raw) in
+    let r = room-ranks _ _ _ _ c.has_room.ensures c.if-not-has_room.false in
+    let l = room-lost _ _ _ _ c.has_room.ensures c.if-not-has_room.false in
+    let n = room-list _ _ _ _ c.has_room.ensures c.if-not-has_room.false in
     ((omega arith, r, l, n), (cleared _ c.clear.ensures, cleared _ c.clear-2.ensures))
 
 pub returns : goal.returns
 returns c =
     let room : let a = c.args in c.has_room.result ≡ holds_all (a.nb + a.nc) (length a.ranks.now) (length a.lost.now) (length a.numbers.now) = room_as _ c.has_room.ensures (cleared-length c.clear.ensures) (cleared-length c.clear-2.ensures) (cleared-length c.clear-3.ensures) in
-    lists-whole (sym (room) ∙ not-false _ c.if-not-has_room.false-raw) (cleared-length c.clear-3.ensures) c.sort_missing.ensures
+    lists-whole (sym (room) ∙ c.if-not-has_room.false) (cleared-length c.clear-3.ensures) c.sort_missing.ensures

@@ -2,8 +2,6 @@
 -- Assumes nothing.
 use Prim.Native.Nat.{◌-◌, ◌^◌, ◌<◌}
 use native.Mathlib.Omega.{arith}
-use mathlib.Core.Logic.{⊎_elim}
-use borrow.Author.Tests.{ltb-true, ltb-false}
 use borrow.Author.Rules.{rules}
 use lib.Bits.{bit_and}
 use lib.ListN.{get_or}
@@ -11,6 +9,7 @@ use Rattle.bits.proofs.Masks.{low-lt}
 use Rattle.leb.proofs.Answering.{gives, refuses}
 use Rattle.leb.proofs.Unsigned.{Reading, begins, at-end, too_long, too-big, fits-tenth, fits-before, last, more}
 use Rattle.leb.proofs.Cursor.uleb128.Goals as goal
+use Rattle.leb.proofs.Cursor.uleb128.Goals.{else-shift-eq63-via-then-shift-eq63+else-low-gt1, else-shift-eq63-via-else-shift-eq63}
 
 pub loop-shift-init : goal.loop-shift-init
 loop-shift-init c = begins c.args.s.now c.args.self.at
@@ -26,12 +25,12 @@ returns-then-low-gt1 c =
     let byte : get_or c.args.s.now c.loop-shift.i 0 < 256 = omega (arith, c.type_inv.s c.loop-shift.i) in
     refuses _
     (too-big _ _ _ _ _ c.loop-shift.invariant c.loop-shift-test.true c.if-s-i.false (byte)
-    c.if-shift-eq63.true (ltb-true _ _ c.if-low-gt1.true-raw))
+    c.if-shift-eq63.true c.if-low-gt1.true)
 
 pub returns-then-b-eq0 : goal.returns-then-b-eq0
 returns-then-b-eq0 c =
     let byte : get_or c.args.s.now c.loop-shift.i 0 < 256 = omega (arith, c.type_inv.s c.loop-shift.i) in
-    let room : bit_and (get_or c.args.s.now c.loop-shift.i 0) 127 < 2 ^ (64 - c.loop-shift.shift) = let inv = c.loop-shift.invariant in let t = c.loop-shift-test.true in let l = c.if-s-i.false in ⊎_elim (λ w. fits-tenth _ _ _ _ _ inv t l (byte) w.0.taken (ltb-false _ _ w.1.left)) (λ w. fits-before _ _ _ _ _ inv t l (byte) w.left) c.else-shift-eq63.branch in
+    let room : bit_and (get_or c.args.s.now c.loop-shift.i 0) 127 < 2 ^ (64 - c.loop-shift.shift) = let inv = c.loop-shift.invariant in let t = c.loop-shift-test.true in let l = c.if-s-i.false in elim c.else-shift-eq63.branch [ else-shift-eq63-via-then-shift-eq63+else-low-gt1 w ↦ fits-tenth _ _ _ _ _ inv t l byte w.if-shift-eq63.true w.if-low-gt1.false | else-shift-eq63-via-else-shift-eq63 w ↦ fits-before _ _ _ _ _ inv t l byte w.if-shift-eq63.false ] in
     gives _
     (last _ _ _ _ _ c.loop-shift.invariant c.loop-shift-test.true c.if-s-i.false (byte)
     (room) c.if-b-eq0.true)
@@ -42,7 +41,7 @@ loop-shift-smaller c = omega arith
 pub loop-shift-preserved : goal.loop-shift-preserved
 loop-shift-preserved c =
     let byte : get_or c.args.s.now c.loop-shift.i 0 < 256 = omega (arith, c.type_inv.s c.loop-shift.i) in
-    let room : bit_and (get_or c.args.s.now c.loop-shift.i 0) 127 < 2 ^ (64 - c.loop-shift.shift) = let inv = c.loop-shift.invariant in let t = c.loop-shift-test.true in let l = c.if-s-i.false in ⊎_elim (λ w. fits-tenth _ _ _ _ _ inv t l (byte) w.0.taken (ltb-false _ _ w.1.left)) (λ w. fits-before _ _ _ _ _ inv t l (byte) w.left) c.else-shift-eq63.branch in
+    let room : bit_and (get_or c.args.s.now c.loop-shift.i 0) 127 < 2 ^ (64 - c.loop-shift.shift) = let inv = c.loop-shift.invariant in let t = c.loop-shift-test.true in let l = c.if-s-i.false in elim c.else-shift-eq63.branch [ else-shift-eq63-via-then-shift-eq63+else-low-gt1 w ↦ fits-tenth _ _ _ _ _ inv t l byte w.if-shift-eq63.true w.if-low-gt1.false | else-shift-eq63-via-else-shift-eq63 w ↦ fits-before _ _ _ _ _ inv t l byte w.if-shift-eq63.false ] in
     more _ _ _ _ _ c.loop-shift.invariant c.loop-shift-test.true c.if-s-i.false (byte)
     (room) c.if-b-eq0.false
 

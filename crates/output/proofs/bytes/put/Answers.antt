@@ -1,7 +1,5 @@
 -- `writing::put` meets its contract. Assumes nothing.
 use native.Mathlib.Omega.{arith}
-use borrow.Author.Tests.{not-true, not-false}
-use borrow.Author.Rules.{rules}
 use Rattle.output.proofs.ByteLaws.{puts-over, puts-no, puts-full, puts-all}
 use Rattle.output.proofs.bytes.put.Goals as goal
 
@@ -13,7 +11,7 @@ returns-then-at-bytes c =
 pub returns-then-not-go : goal.returns-then-not-go
 returns-then-not-go c =
     let a = c.args in
-    puts-no a.out.now a.at a.go a.bytes.now (not-true a.go c.if-not-go.true-raw) (omega arith)
+    puts-no a.out.now a.at a.go a.bytes.now c.if-not-go.true (omega arith)
 
 pub returns-then-out-end : goal.returns-then-out-end
 returns-then-out-end c =
@@ -23,5 +21,5 @@ returns-then-out-end c =
 pub returns : goal.returns
 returns c =
     let a = c.args in
-    puts-all a.out.now a.at a.go a.bytes.now (not-false a.go c.if-not-go.false-raw) c.if-out-end.false (omega arith)
+    puts-all a.out.now a.at a.go a.bytes.now c.if-not-go.false c.if-out-end.false (omega arith)
     c.copy_in.ensures.value c.copy_in.ensures.dst_after

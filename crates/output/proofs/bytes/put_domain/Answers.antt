@@ -12,9 +12,9 @@ slice_bounds-bytes-end c =
     let word-is : SlugIs (slug c.args.d) c.domain_slug-word.result = domain-is c.args.d c.domain_of.ensures c.in-Domain.is c.domain_slug-word.ensures in
     (word-is).fits
 
-pub UNKNOWN : goal.UNKNOWN
-UNKNOWN c =
-    let word-is : SlugIs (slug c.args.d) c.domain_slug-word.result = domain-is c.args.d c.domain_of.ensures c.domain-1.given.1 c.domain_slug-word.ensures in
+pub slice_bounds-put-end-2 : goal.slice_bounds-put-end-2
+slice_bounds-put-end-2 c =
+    let word-is : SlugIs (slug c.args.d) c.domain_slug-word.result = domain-is c.args.d c.domain_of.ensures c.in-Domain.is c.domain_slug-word.ensures in
     (word-is).long
 
 pub returns : goal.returns

@@ -42,4 +42,4 @@ pub returns : goal.returns
 returns c =
     let l = c.loop-i in
     let a = c.args in
-    (omega arith, sym (cells-done a.cells.now l.out l.o l.i (omega arith)) ∙ l.invariant.2)
+    record { value = omega arith; out_after = sym (cells-done a.cells.now l.out l.o l.i (omega arith)) ∙ l.invariant.2 }

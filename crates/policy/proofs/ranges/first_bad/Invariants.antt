@@ -1,11 +1,5 @@
-use mathlib.Core.Path.{◌≡◌, sym, ◌∙◌}
-use Prim.Native.Nat.{◌+◌, ◌-◌, ◌≤◌}
-use native.Mathlib.Omega.{arith}
-use lib.ListN.{drop}
-use borrow.Author.Tests.{not-true, not-false}
-use borrow.Author.Rules.{rules}
-use Rattle.policy.specs.Eight.{eight, first_bad, slot_of}
-use Rattle.policy.proofs.EightLaws.{bad-on, bad-here, bad-seven, bad-eight, eight-next}
+use Rattle.std.proofs.Common.{◌-◌, ◌≡◌, ◌+◌, ◌≤◌, drop}
+use Rattle.policy.specs.Eight.{eight, first_bad}
 use Rattle.policy.proofs.ranges.first_bad.Given as goal
 
 abbrev pub invariant-loop-i : goal.invariant-loop-i

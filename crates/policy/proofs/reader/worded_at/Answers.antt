@@ -12,8 +12,8 @@ use Rattle.policy.proofs.HeardLaws.{word_fits, worded-name, worded-default, word
 use Rattle.policy.proofs.reader.worded_at.Goals as goal
 
 -- the line begins with a word, or does not
-abbrev Begins : List ℕ → tie.Start → Bool → Type 0
-Begins w c t = begins w (bytes_between c.args.s.now c.args.a c.args.e) ≡ t
+abbrev Begins : List ℕ → List ℕ → ℕ → ℕ → Bool → Type 0
+Begins w s a e t = begins w (bytes_between s a e) ≡ t
 
 pub called_at-requires : goal.called_at-requires
 called_at-requires c =
@@ -33,7 +33,7 @@ preset_at-requires c =
 
 pub returns-then-starts-2 : goal.returns-then-starts-2
 returns-then-starts-2 c =
-    let missed1 : Begins policy_w c false = sym c.starts.ensures ∙ c.if-starts.false in
+    let missed1 : Begins policy_w c.args.s.now c.args.a c.args.e false = sym c.starts.ensures ∙ c.if-starts.false in
     let a = c.args in
     c.preset_at.ensures
     ∙ sym (worded-default a.s.now a.a a.e (missed1) (sym c.starts-2.ensures ∙ c.if-starts-2.true))
@@ -45,8 +45,8 @@ ruled_at-requires c =
 
 pub returns-then-starts-3 : goal.returns-then-starts-3
 returns-then-starts-3 c =
-    let missed1 : Begins policy_w c false = sym c.starts.ensures ∙ c.if-starts.false in
-    let missed2 : Begins default_w c false = sym c.starts-2.ensures ∙ c.if-starts-2.false in
+    let missed1 : Begins policy_w c.args.s.now c.args.a c.args.e false = sym c.starts.ensures ∙ c.if-starts.false in
+    let missed2 : Begins default_w c.args.s.now c.args.a c.args.e false = sym c.starts-2.ensures ∙ c.if-starts-2.false in
     let a = c.args in
     c.ruled_at.ensures
     ∙ sym (worded-allow a.s.now a.a a.e (missed1) (missed2) (sym c.starts-3.ensures ∙ c.if-starts-3.true))
@@ -58,18 +58,18 @@ ruled_at-requires-then-starts-4 c =
 
 pub returns-then-starts-4 : goal.returns-then-starts-4
 returns-then-starts-4 c =
-    let missed1 : Begins policy_w c false = sym c.starts.ensures ∙ c.if-starts.false in
-    let missed2 : Begins default_w c false = sym c.starts-2.ensures ∙ c.if-starts-2.false in
-    let missed3 : Begins allow_w c false = sym c.starts-3.ensures ∙ c.if-starts-3.false in
+    let missed1 : Begins policy_w c.args.s.now c.args.a c.args.e false = sym c.starts.ensures ∙ c.if-starts.false in
+    let missed2 : Begins default_w c.args.s.now c.args.a c.args.e false = sym c.starts-2.ensures ∙ c.if-starts-2.false in
+    let missed3 : Begins allow_w c.args.s.now c.args.a c.args.e false = sym c.starts-3.ensures ∙ c.if-starts-3.false in
     let a = c.args in
     c.ruled_at-then-starts-4.ensures
     ∙ sym (worded-deny a.s.now a.a a.e (missed1) (missed2) (missed3) (sym c.starts-4.ensures ∙ c.if-starts-4.true))
 
 pub returns : goal.returns
 returns c =
-    let missed1 : Begins policy_w c false = sym c.starts.ensures ∙ c.if-starts.false in
-    let missed2 : Begins default_w c false = sym c.starts-2.ensures ∙ c.if-starts-2.false in
-    let missed3 : Begins allow_w c false = sym c.starts-3.ensures ∙ c.if-starts-3.false in
-    let missed4 : Begins deny_w c false = sym c.starts-4.ensures ∙ c.if-starts-4.false in
+    let missed1 : Begins policy_w c.args.s.now c.args.a c.args.e false = sym c.starts.ensures ∙ c.if-starts.false in
+    let missed2 : Begins default_w c.args.s.now c.args.a c.args.e false = sym c.starts-2.ensures ∙ c.if-starts-2.false in
+    let missed3 : Begins allow_w c.args.s.now c.args.a c.args.e false = sym c.starts-3.ensures ∙ c.if-starts-3.false in
+    let missed4 : Begins deny_w c.args.s.now c.args.a c.args.e false = sym c.starts-4.ensures ∙ c.if-starts-4.false in
     let a = c.args in
     sym (worded-wrong a.s.now a.a a.e (missed1) (missed2) (missed3) (missed4))

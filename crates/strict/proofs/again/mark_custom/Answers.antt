@@ -28,9 +28,9 @@ overflow_add-end c =
     let named : counted_at c.args.s.now 0 ≡ accepted (got c.in-Read.p c.in-Read.c.at) = hear said_part _ _ c.read_part-one.ensures c.in-Read.is in
     let w = counted-in _ _ _ _ (named) in omega (arith, w.end, w.in-s)
 
-pub UNKNOWN : goal.UNKNOWN
-UNKNOWN c =
-    let named : counted_at c.args.s.now 0 ≡ accepted (got c.one-1.given.0.0 c.one-1.given.0.1.0.at) = hear said_part _ _ c.read_part-one.ensures c.one-1.given.1 in
+pub slice_bounds-equal-end : goal.slice_bounds-equal-end
+slice_bounds-equal-end c =
+    let named : counted_at c.args.s.now 0 ≡ accepted (got c.in-Read.p c.in-Read.c.at) = hear said_part _ _ c.read_part-one.ensures c.in-Read.is in
     let w = counted-in _ _ _ _ (named) in omega (arith, w.end, w.in-s)
 
 pub returns-then-not-equal : goal.returns-then-not-equal

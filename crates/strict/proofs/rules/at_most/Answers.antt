@@ -1,5 +1,4 @@
 -- `strict::rules::at_most` meets its contract. Assumes nothing.
-use mathlib.Core.Logic.{⊎_elim}
 use mathlib.Core.Path.{◌≡◌, refl, ◌∙◌}
 use Prim.Native.Nat.{◌-◌, ◌≤◌}
 use Rattle.strict.proofs.Ruling.{none-next, none_over}
@@ -8,6 +7,7 @@ use Rattle.table.specs.Table.{rows_of}
 use borrow.Author.Rules.{rules}
 use native.Mathlib.Omega.{arith}
 use Rattle.strict.proofs.rules.at_most.Goals as goal
+use Rattle.strict.proofs.rules.at_most.Goals.{then-last-cell, else-last-cell}
 
 pub loop-i-init : goal.loop-i-init
 unfolding none_above column_of rows_of
@@ -16,9 +16,10 @@ loop-i-init c = (omega arith, refl)
 pub loop-i-preserved : goal.loop-i-preserved
 loop-i-preserved c =
     let l = c.loop-i in
-    ⊎_elim (λ w. (omega arith, w.1 ∙ none_over _ _ _ _ _ c.cell.ensures w.0.taken))
-    (λ w. (omega arith, w.1 ∙ none-next _ _ _ _ _ c.cell.ensures _ l.invariant.1 w.0.left))
-    c.if-last-cell.branch
+    elim c.if-last-cell.branch [
+      | then-last-cell w ↦ (omega arith, w.good-is ∙ none_over _ _ _ _ _ c.cell.ensures w.if-last-cell.true)
+      | else-last-cell w ↦ (omega arith, w.good-is ∙ none-next _ _ _ _ _ c.cell.ensures _ l.invariant.1 w.if-last-cell.false)
+    ]
 
 pub returns : goal.returns
 returns c =

@@ -1,10 +1,8 @@
-use mathlib.Core.Path.{◌≡◌, ◌∙◌}
+use mathlib.Core.Path.{◌∙◌}
 use mathlib.Core.List.{[], ◌∷◌}
-use Prim.Native.Nat.{◌+◌, ◌-◌, ◌≤◌}
 use native.Mathlib.Omega.{arith}
-use lib.ListN.{length, drop}
 use borrow.Author.Tests.{eq-eqb, ne_eqb}
-use Rattle.text.specs.Find.{index_of, seek, begins}
+use Rattle.text.specs.Find.{index_of, begins}
 use Rattle.text.proofs.FindLaws.{seek_hit, seek-miss, seek-end, begins-one}
 use Rattle.text.proofs.find.find.Goals as goal
 

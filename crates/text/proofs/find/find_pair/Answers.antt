@@ -1,10 +1,8 @@
 -- `find_pair` meets its contract. Assumes nothing.
-use mathlib.Core.Path.{◌≡◌, sym, ◌∙◌}
+use mathlib.Core.Path.{sym, ◌∙◌}
 use mathlib.Core.List.{[], ◌∷◌}
-use Prim.Native.Nat.{◌+◌, ◌-◌, ◌≤◌}
 use native.Mathlib.Omega.{arith}
-use lib.ListN.{length, drop}
-use Rattle.text.specs.Find.{index_of2, seek, begins}
+use Rattle.text.specs.Find.{index_of2, begins}
 use Rattle.text.proofs.FindLaws.{seek_hit, seek-miss, seek-end}
 use Rattle.text.proofs.find.find_pair.Goals as goal
 

@@ -1,10 +1,8 @@
-use mathlib.Core.Path.{◌≡◌, sym, ◌∙◌}
+use mathlib.Core.Path.{◌≡◌}
 use mathlib.Core.List.{[], ◌∷◌}
 use Prim.Native.Nat.{◌+◌, ◌-◌, ◌≤◌}
-use native.Mathlib.Omega.{arith}
 use lib.ListN.{length, drop}
 use Rattle.text.specs.Find.{index_of2, seek, begins}
-use Rattle.text.proofs.FindLaws.{seek_hit, seek-miss, seek-end}
 use Rattle.text.proofs.find.find_pair.Given as goal
 
 abbrev pub invariant-loop-i : goal.invariant-loop-i

@@ -1,7 +1,6 @@
 -- `pair` meets its contract. Assumes nothing.
 use Prim.Native.Nat.{◌+◌}
 use native.Mathlib.Omega.{arith}
-use borrow.Author.Rules.{rules}
 use borrow.Author.Tests.{eq-eqb, ne_eqb}
 use Rattle.text.specs.Find.{begins}
 use Rattle.text.proofs.Laws.{left-next, left-none, both_yes}

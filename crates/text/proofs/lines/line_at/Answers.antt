@@ -1,17 +1,16 @@
 -- `line_at` meets its contract, by the place of the first LF in what is left. Assumes nothing.
 use mathlib.Core.Path.{◌≡◌, sym, ap, ◌∙◌}
 use mathlib.Core.List.{List}
-use mathlib.Core.Logic.{⊎_elim}
 use Prim.Native.Nat.{ℕ, ◌+◌, ◌-◌, ◌<◌}
 use native.Mathlib.Omega.{arith}
 use lib.ListN.{length, drop, get_or, length-drop}
 use lib.Seq.{get_or-drop}
-use borrow.Author.Rules.{rules}
 use Rattle.text.specs.Find.{index_of}
 use Rattle.text.proofs.Laws.{left-part}
 use Rattle.text.proofs.FindLaws.{index-le}
 use Rattle.text.proofs.LineLaws.{len-past, len-none, len-empty, len-cr, len-lf}
 use Rattle.text.proofs.lines.line_at.Goals as goal
+use Rattle.text.proofs.lines.line_at.Goals.{then-at-lf+else-s-lf-eq13, else-at-lf}
 
 record Found (s : List ℕ) (at lf : ℕ) : Type 0 where
   place : lf ≡ index_of 10 (drop at s)
@@ -51,10 +50,10 @@ returns c =
     let a = c.args in
     let r = drop a.at a.s.now in
     let inside : index_of 10 r < length r = omega (arith, f) in
-    ⊎_elim
-    (λ w.
-    let later : 0 < c.find.result = omega (arith, w.0.taken) in
-    let other : get_or r (index_of 10 r - 1) 0 ≡ 13 → ⊥ = λ e. w.2.left (sym (byte later) ∙ e) in
-    omega (arith, f, len-lf r inside (omega (arith, f, later)) other))
-    (λ w. omega (arith, f, len-empty r inside (omega (arith, f, w.left))))
-    c.if-at-lf.branch
+    elim c.if-at-lf.branch [
+      | then-at-lf+else-s-lf-eq13 w ↦
+          let later : 0 < c.find.result = omega (arith, w.if-at-lf.true) in
+          let other : get_or r (index_of 10 r - 1) 0 ≡ 13 → ⊥ = λ e. w.if-s-lf-eq13.false (sym (byte later) ∙ e) in
+          omega (arith, f, len-lf r inside (omega (arith, f, later)) other)
+      | else-at-lf w ↦ omega (arith, f, len-empty r inside (omega (arith, f, w.if-at-lf.false)))
+    ]

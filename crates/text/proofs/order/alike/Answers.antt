@@ -1,13 +1,12 @@
 -- `alike` meets its contract: no byte passed is another, unless one was told. Assumes nothing.
-use mathlib.Core.Path.{◌≡◌, sym, ◌∙◌}
-use mathlib.Core.Bool.{false, false≢true}
-use mathlib.Core.Logic.{⊎_elim}
-use Prim.Native.Nat.{◌+◌, ◌-◌, ◌≤◌}
+use mathlib.Core.Path.{sym, ◌∙◌}
+use mathlib.Core.Bool.{false≢true}
+use Prim.Native.Nat.{◌+◌}
 use native.Mathlib.Omega.{arith}
 use borrow.Author.Tests.{not-true}
-use Rattle.text.specs.Agree.{Agree}
 use Rattle.text.proofs.AgreeLaws.{agree-join, agree-one}
 use Rattle.text.proofs.order.alike.Goals as goal
+use Rattle.text.proofs.order.alike.Goals.{then-a-at, else-a-at}
 
 pub loop-i-init : goal.loop-i-init
 loop-i-init c = (omega arith, λ e j h k. absurd (omega arith))
@@ -35,11 +34,12 @@ loop-i-preserved c =
     let x = c.args in
     let i = c.loop-i.i in (
       omega arith,
-      λ e. ⊎_elim
-          (λ w. absurd (false≢true (sym e ∙ w.1)))
-          (λ w. agree-join x.a.now x.b.now x.at (x.at + i) (x.at + (i + 1)) (c.loop-i.invariant.1 (sym w.1 ∙ e))
-          (agree-one x.a.now x.b.now (x.at + i) (x.at + (i + 1)) (omega arith) w.0.left))
-          c.if-a-at.branch,
+      λ e. elim c.if-a-at.branch [
+        | then-a-at w ↦ absurd (false≢true (sym e ∙ w.other-is))
+        | else-a-at w ↦
+            agree-join x.a.now x.b.now x.at (x.at + i) (x.at + (i + 1)) (c.loop-i.invariant.1 (sym w.other-is ∙ e))
+            (agree-one x.a.now x.b.now (x.at + i) (x.at + (i + 1)) (omega arith) w.if-a-at.false)
+      ],
     )
 
 pub returns : goal.returns

@@ -1,11 +1,7 @@
-use mathlib.Core.Path.{◌≡◌, sym, ◌∙◌}
-use mathlib.Core.Bool.{false, false≢true}
-use mathlib.Core.Logic.{⊎_elim}
+use mathlib.Core.Path.{◌≡◌}
+use mathlib.Core.Bool.{false}
 use Prim.Native.Nat.{◌+◌, ◌-◌, ◌≤◌}
-use native.Mathlib.Omega.{arith}
-use borrow.Author.Tests.{not-true}
 use Rattle.text.specs.Agree.{Agree}
-use Rattle.text.proofs.AgreeLaws.{agree-join, agree-one}
 use Rattle.text.proofs.order.alike.Given as goal
 
 abbrev pub invariant-loop-i : goal.invariant-loop-i

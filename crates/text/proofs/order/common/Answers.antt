@@ -1,16 +1,15 @@
 -- `common` meets its contract: the steps passed are the same. Assumes nothing.
-use mathlib.Core.Logic.{⊎_elim}
-use Prim.Native.Nat.{◌+◌, ◌-◌, ◌≤◌}
+use Prim.Native.Nat.{◌+◌, ◌≤◌}
 use native.Mathlib.Omega.{arith}
 use lib.ListN.{length}
 use borrow.Author.Tests.{not-false}
-use Rattle.text.specs.Agree.{Agree}
 use Rattle.text.proofs.AgreeLaws.{agree-join}
 use Rattle.text.proofs.order.common.Goals as goal
+use Rattle.text.proofs.order.common.Goals.{then-a-b, else-a-b}
 
 pub loop-i-init : goal.loop-i-init
 loop-i-init c =
-    let sized : let x = c.args in (c.if-a-b.n ≤ length x.a.now) × (c.if-a-b.n ≤ length x.b.now) = ⊎_elim (λ w. (omega (arith, w), omega (arith, w))) (λ w. (omega (arith, w), omega (arith, w))) c.if-a-b.branch in
+    let sized : let x = c.args in (c.if-a-b.n ≤ length x.a.now) × (c.if-a-b.n ≤ length x.b.now) = elim c.if-a-b.branch [ then-a-b w ↦ (omega (arith, w), omega (arith, w)) | else-a-b w ↦ (omega (arith, w), omega (arith, w)) ] in
     (omega arith, (sized).0, (sized).1, λ j h k. absurd (omega arith))
 
 pub overflow_sub-n : goal.overflow_sub-n

@@ -1,10 +1,6 @@
-use mathlib.Core.Logic.{⊎_elim}
-use Prim.Native.Nat.{◌+◌, ◌-◌, ◌≤◌}
-use native.Mathlib.Omega.{arith}
+use Prim.Native.Nat.{◌-◌, ◌≤◌}
 use lib.ListN.{length}
-use borrow.Author.Tests.{not-false}
 use Rattle.text.specs.Agree.{Agree}
-use Rattle.text.proofs.AgreeLaws.{agree-join}
 use Rattle.text.proofs.order.common.Given as goal
 
 abbrev pub invariant-loop-i : goal.invariant-loop-i

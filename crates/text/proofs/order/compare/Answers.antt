@@ -1,10 +1,6 @@
 -- `compare` meets its contract: what is left of the two compares as the whole does. Assumes nothing.
-use mathlib.Core.Path.{◌≡◌, sym, ◌∙◌}
-use Prim.Native.Nat.{◌-◌, ◌≤◌}
+use mathlib.Core.Path.{sym, ◌∙◌}
 use native.Mathlib.Omega.{arith}
-use lib.ListN.{length, drop}
-use borrow.Author.Rules.{rules}
-use Rattle.text.specs.Order.{cmp_bytes}
 use Rattle.text.proofs.AgreeLaws.{cmp-agree}
 use Rattle.text.proofs.OrderLaws.{cmp-longer, cmp-shorter, cmp-ended, cmp-less, cmp-greater, cmp-on}
 use Rattle.text.proofs.order.compare.Goals as goal

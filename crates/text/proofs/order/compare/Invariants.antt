@@ -1,11 +1,7 @@
-use mathlib.Core.Path.{◌≡◌, sym, ◌∙◌}
+use mathlib.Core.Path.{◌≡◌}
 use Prim.Native.Nat.{◌-◌, ◌≤◌}
-use native.Mathlib.Omega.{arith}
 use lib.ListN.{length, drop}
-use borrow.Author.Rules.{rules}
 use Rattle.text.specs.Order.{cmp_bytes}
-use Rattle.text.proofs.AgreeLaws.{cmp-agree}
-use Rattle.text.proofs.OrderLaws.{cmp-longer, cmp-shorter, cmp-ended, cmp-less, cmp-greater, cmp-on}
 use Rattle.text.proofs.order.compare.Given as goal
 
 abbrev pub invariant-loop-i : goal.invariant-loop-i

@@ -1,10 +1,6 @@
 -- `equal` meets its contract: texts of one length, and what is left of both answers as the whole does. Assumes nothing.
-use mathlib.Core.Path.{◌≡◌, sym, ◌∙◌}
-use Prim.Native.Nat.{◌-◌, ◌≤◌}
+use mathlib.Core.Path.{sym, ◌∙◌}
 use native.Mathlib.Omega.{arith}
-use lib.ListN.{length, drop}
-use borrow.Author.Rules.{rules}
-use Rattle.text.specs.Find.{same}
 use Rattle.text.proofs.AgreeLaws.{same-agree}
 use Rattle.text.proofs.FindLaws.{same-long, same-other, same-on, same-all}
 use Rattle.text.proofs.order.equal.Goals as goal

@@ -1,11 +1,7 @@
-use mathlib.Core.Path.{◌≡◌, sym, ◌∙◌}
+use mathlib.Core.Path.{◌≡◌}
 use Prim.Native.Nat.{◌-◌, ◌≤◌}
-use native.Mathlib.Omega.{arith}
 use lib.ListN.{length, drop}
-use borrow.Author.Rules.{rules}
 use Rattle.text.specs.Find.{same}
-use Rattle.text.proofs.AgreeLaws.{same-agree}
-use Rattle.text.proofs.FindLaws.{same-long, same-other, same-on, same-all}
 use Rattle.text.proofs.order.equal.Given as goal
 
 abbrev pub invariant-loop-i : goal.invariant-loop-i

@@ -1,9 +1,6 @@
 -- `starts` meets its contract: what is left of both answers as the whole does. Assumes nothing.
-use mathlib.Core.Path.{◌≡◌, refl, sym, ◌∙◌}
-use Prim.Native.Nat.{◌-◌, ◌≤◌}
+use mathlib.Core.Path.{refl, sym, ◌∙◌}
 use native.Mathlib.Omega.{arith}
-use lib.ListN.{length, drop}
-use Rattle.text.specs.Find.{begins}
 use Rattle.text.proofs.FindLaws.{begins-short, begins-other, begins-on, begins-all}
 use Rattle.text.proofs.order.starts.Goals as goal
 

@@ -1,9 +1,7 @@
-use mathlib.Core.Path.{◌≡◌, refl, sym, ◌∙◌}
+use mathlib.Core.Path.{◌≡◌}
 use Prim.Native.Nat.{◌-◌, ◌≤◌}
-use native.Mathlib.Omega.{arith}
 use lib.ListN.{length, drop}
 use Rattle.text.specs.Find.{begins}
-use Rattle.text.proofs.FindLaws.{begins-short, begins-other, begins-on, begins-all}
 use Rattle.text.proofs.order.starts.Given as goal
 
 abbrev pub invariant-loop-i : goal.invariant-loop-i

@@ -1,8 +1,6 @@
 -- `shorn_of` meets its contract. Assumes nothing.
 use mathlib.Core.Path.{◌≡◌, sym, ap}
-use Prim.Native.Nat.{◌≤◌}
 use native.Mathlib.Omega.{arith}
-use lib.ListN.{length, take}
 use lib.Seq.{take-length}
 use Rattle.text.specs.Piece.{shorn}
 use Rattle.text.proofs.PieceLaws.{shorn-same, shorn-other}

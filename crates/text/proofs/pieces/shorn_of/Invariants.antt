@@ -1,10 +1,7 @@
-use mathlib.Core.Path.{◌≡◌, sym, ap}
+use mathlib.Core.Path.{◌≡◌}
 use Prim.Native.Nat.{◌≤◌}
-use native.Mathlib.Omega.{arith}
 use lib.ListN.{length, take}
-use lib.Seq.{take-length}
 use Rattle.text.specs.Piece.{shorn}
-use Rattle.text.proofs.PieceLaws.{shorn-same, shorn-other}
 use Rattle.text.proofs.pieces.shorn_of.Given as goal
 
 abbrev pub invariant-loop-n : goal.invariant-loop-n

@@ -2,7 +2,6 @@
 use native.Mathlib.Omega.{arith}
 use lib.ListN.{length}
 use borrow.Author.Tests.{lt-ltb, le-ltb}
-use borrow.Author.Rules.{rules}
 use Rattle.text.specs.Utf8.{up_to}
 use Rattle.text.specs.Whole.{whole_text}
 use Rattle.refusal.specs.Sizes.{text_limit}

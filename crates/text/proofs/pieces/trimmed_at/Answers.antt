@@ -1,7 +1,6 @@
 -- `trimmed_at` meets its contract. Assumes nothing.
 use Prim.Native.Nat.{◌+◌}
 use native.Mathlib.Omega.{arith}
-use borrow.Author.Rules.{rules}
 use Rattle.text.specs.Piece.{TrimTo}
 use Rattle.text.proofs.PieceLaws.{trim-is, trim-backward, trim-outside, trim-ends}
 use Rattle.text.proofs.pieces.trimmed_at.Goals as goal

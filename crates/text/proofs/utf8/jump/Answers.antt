@@ -1,7 +1,6 @@
 -- `jump` meets its contract. Assumes nothing.
 use Prim.Native.Nat.{◌+◌}
 use native.Mathlib.Omega.{arith}
-use borrow.Author.Rules.{rules}
 use Rattle.text.proofs.FastLaws.{jump-eight, jump-on, jump-one, jump-step}
 use Rattle.text.proofs.utf8.jump.Goals as goal
 

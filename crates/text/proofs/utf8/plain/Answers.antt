@@ -1,10 +1,8 @@
 -- `plain` meets its contract: bytes that are ASCII together are each a sequence. Assumes nothing.
 use mathlib.Core.Path.{◌≡◌}
-use Prim.Native.Nat.{◌+◌, ◌-◌, ◌≤◌, ◌<◌}
 use native.Mathlib.Omega.{arith}
 use native.Mathlib.Nat.{add-zero}
 use borrow.Author.Tests.{ltb-true}
-use Rattle.text.specs.Steps.{Ran}
 use Rattle.text.proofs.FastLaws.{ran-none, ran-next}
 use Rattle.text.proofs.utf8.plain.Goals as goal
 

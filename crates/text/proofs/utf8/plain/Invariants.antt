@@ -1,10 +1,5 @@
-use mathlib.Core.Path.{◌≡◌}
 use Prim.Native.Nat.{◌+◌, ◌-◌, ◌≤◌, ◌<◌}
-use native.Mathlib.Omega.{arith}
-use native.Mathlib.Nat.{add-zero}
-use borrow.Author.Tests.{ltb-true}
 use Rattle.text.specs.Steps.{Ran}
-use Rattle.text.proofs.FastLaws.{ran-none, ran-next}
 use Rattle.text.proofs.utf8.plain.Given as goal
 
 abbrev pub invariant-loop-i : goal.invariant-loop-i

@@ -1,10 +1,7 @@
 -- `run` meets its contract: the steps passed are ASCII. Assumes nothing.
-use Prim.Native.Nat.{◌+◌, ◌-◌}
+use Prim.Native.Nat.{◌+◌}
 use native.Mathlib.Omega.{arith}
-use lib.ListN.{length}
-use borrow.Author.Rules.{rules}
 use borrow.Author.Tests.{not-false}
-use Rattle.text.specs.Steps.{Ran}
 use Rattle.text.proofs.FastLaws.{ran-none, ran-join}
 use Rattle.text.proofs.utf8.run.Goals as goal
 

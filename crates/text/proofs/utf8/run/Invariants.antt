@@ -1,10 +1,6 @@
-use Prim.Native.Nat.{◌+◌, ◌-◌}
-use native.Mathlib.Omega.{arith}
+use Prim.Native.Nat.{◌-◌}
 use lib.ListN.{length}
-use borrow.Author.Rules.{rules}
-use borrow.Author.Tests.{not-false}
 use Rattle.text.specs.Steps.{Ran}
-use Rattle.text.proofs.FastLaws.{ran-none, ran-join}
 use Rattle.text.proofs.utf8.run.Given as goal
 
 abbrev pub invariant-loop-at : goal.invariant-loop-at

@@ -1,11 +1,10 @@
 -- `text::utf8::step` meets its contract: so many bytes as the first asks for are left and tested, or there are too few. Assumes nothing.
 use mathlib.Core.Bool.{true, false}
-use mathlib.Core.Logic.{⊎_elim}
 use native.Mathlib.Omega.{arith}
-use borrow.Author.Rules.{rules}
 use Rattle.text.specs.Steps.{sequence_of}
 use Rattle.text.proofs.Utf8Laws.{step-1, step-2, step-3, step-4, short-2, short-3, short-4}
 use Rattle.text.proofs.utf8.step.Goals as goal
+use Rattle.text.proofs.utf8.step.Goals.{else-left-ge2-via-then-left-ge2+else-two, else-left-ge2-via-else-left-ge2, else-left-ge3-via-then-left-ge3+else-three, else-left-ge3-via-else-left-ge3, else-left-ge4-via-then-left-ge4+else-four, else-left-ge4-via-else-left-ge4}
 
 pub returns-then-a-lt128 : goal.returns-then-a-lt128
 returns-then-a-lt128 c =
@@ -22,10 +21,10 @@ pub returns-then-a-lt224 : goal.returns-then-a-lt224
 unfolding sequence_of
 returns-then-a-lt224 c =
     let x = c.args in
-    ⊎_elim
-    (λ w. step-2 x.s.now x.at w.2.result false (omega (arith, w.0)) w.2.ensures w.3.left)
-    (λ w. short-2 x.s.now x.at (omega arith) (omega arith) (omega arith) (omega (arith, w)))
-    c.else-left-ge2.branch
+    elim c.else-left-ge2.branch [
+      | else-left-ge2-via-then-left-ge2+else-two w ↦ step-2 x.s.now x.at w.two.result false (omega (arith, w.if-left-ge2.true)) w.two.ensures w.if-two.false
+      | else-left-ge2-via-else-left-ge2 w ↦ short-2 x.s.now x.at (omega arith) (omega arith) (omega arith) (omega (arith, w.if-left-ge2.false))
+    ]
 
 pub returns-then-three : goal.returns-then-three
 unfolding sequence_of
@@ -37,10 +36,10 @@ pub returns-then-a-lt240 : goal.returns-then-a-lt240
 unfolding sequence_of
 returns-then-a-lt240 c =
     let x = c.args in
-    ⊎_elim
-    (λ w. step-3 x.s.now x.at w.3.result false (omega (arith, w.0)) w.3.ensures w.4.left)
-    (λ w. short-3 x.s.now x.at (omega arith) (omega arith) (omega arith) (omega (arith, w)))
-    c.else-left-ge3.branch
+    elim c.else-left-ge3.branch [
+      | else-left-ge3-via-then-left-ge3+else-three w ↦ step-3 x.s.now x.at w.three.result false (omega (arith, w.if-left-ge3.true)) w.three.ensures w.if-three.false
+      | else-left-ge3-via-else-left-ge3 w ↦ short-3 x.s.now x.at (omega arith) (omega arith) (omega arith) (omega (arith, w.if-left-ge3.false))
+    ]
 
 pub returns-then-four : goal.returns-then-four
 unfolding sequence_of
@@ -52,8 +51,8 @@ pub returns : goal.returns
 unfolding sequence_of
 returns c =
     let x = c.args in
-    let byte = c.shared_slice_known-1.given x.at in
-    ⊎_elim
-    (λ w. step-4 x.s.now x.at w.4.result false (omega (arith, w.0)) w.4.ensures w.5.left)
-    (λ w. short-4 x.s.now x.at (omega arith) (omega arith) (omega arith) (omega (arith, w)))
-    c.else-left-ge4.branch
+    let byte = c.type_inv.s x.at in
+    elim c.else-left-ge4.branch [
+      | else-left-ge4-via-then-left-ge4+else-four w ↦ step-4 x.s.now x.at w.four.result false (omega (arith, w.if-left-ge4.true)) w.four.ensures w.if-four.false
+      | else-left-ge4-via-else-left-ge4 w ↦ short-4 x.s.now x.at (omega arith) (omega arith) (omega arith) (omega (arith, w.if-left-ge4.false))
+    ]

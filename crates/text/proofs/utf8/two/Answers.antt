@@ -1,6 +1,5 @@
 -- `two` meets its contract. Assumes nothing.
 use native.Mathlib.Omega.{arith}
-use borrow.Author.Rules.{rules}
 use Rattle.text.proofs.Utf8Laws.{two_is}
 use Rattle.text.proofs.utf8.two.Goals as goal
 

@@ -1,10 +1,6 @@
 -- `valid_up_to` meets its contract: what is left is as long well formed as the whole. Assumes nothing.
-use mathlib.Core.Path.{◌≡◌}
-use Prim.Native.Nat.{◌+◌, ◌-◌, ◌≤◌}
 use native.Mathlib.Omega.{arith}
-use lib.ListN.{length, drop}
 use borrow.Author.Rules.{rules}
-use Rattle.text.specs.Scan.{scan}
 use Rattle.text.specs.Utf8.{seq_len, up_to}
 use Rattle.text.specs.Steps.{Went}
 use Rattle.text.proofs.Laws.{scan-end}

@@ -1,12 +1,8 @@
 use mathlib.Core.Path.{◌≡◌}
 use Prim.Native.Nat.{◌+◌, ◌-◌, ◌≤◌}
-use native.Mathlib.Omega.{arith}
 use lib.ListN.{length, drop}
-use borrow.Author.Rules.{rules}
 use Rattle.text.specs.Scan.{scan}
 use Rattle.text.specs.Utf8.{seq_len, up_to}
-use Rattle.text.specs.Steps.{Went}
-use Rattle.text.proofs.Laws.{scan-end}
 use Rattle.text.proofs.utf8.valid_up_to.Given as goal
 
 abbrev pub invariant-loop-at : goal.invariant-loop-at

@@ -3,7 +3,6 @@ use mathlib.Core.Path.{◌≡◌, sym, ◌∙◌}
 use Prim.Native.Nat.{suc, ◌-◌}
 use native.Mathlib.Omega.{arith}
 use lib.ListN.{drop}
-use borrow.Author.Rules.{rules}
 use Rattle.text.specs.Utf8.{seq_len}
 use Rattle.text.proofs.CharLaws.{Long, long, short, code-0, code-1, code-2, code-3, code-4, more_of, more-0}
 use Rattle.text.proofs.white.char_at.Goals as goal

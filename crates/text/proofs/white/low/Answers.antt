@@ -3,7 +3,6 @@ use mathlib.Core.Path.{refl, sym}
 use native.Mathlib.Omega.{arith}
 use native.Mathlib.Nat.{mod-le, zero-mod}
 use lib.ListN.{get_or, get_or-eq_default}
-use borrow.Author.Rules.{rules}
 use Rattle.text.proofs.white.low.Goals as goal
 
 pub overflow_cast-result : goal.overflow_cast-result

@@ -1,13 +1,12 @@
 -- `scan_end` meets its contract: where the last character passed that stays ends, unless one of those left does. Assumes nothing.
-use mathlib.Core.Path.{◌≡◌, sym, ◌∙◌}
-use Prim.Native.Nat.{◌+◌, ◌-◌, ◌≤◌}
+use mathlib.Core.Path.{sym, ◌∙◌}
+use Prim.Native.Nat.{◌+◌, ◌≤◌}
 use native.Mathlib.Omega.{arith}
-use lib.ListN.{length, drop}
+use lib.ListN.{length}
 use borrow.Author.Rules.{rules}
 use borrow.Author.Tests.{not-true, not-false}
-use Rattle.text.specs.Chars.{chars}
-use Rattle.text.specs.Trim.{end_len, trim_end}
-use Rattle.text.proofs.CharLaws.{Here, turned, more-long, ends, ends-start, end-white, end-other, end-end}
+use Rattle.text.specs.Trim.{trim_end}
+use Rattle.text.proofs.CharLaws.{Here, turned, more-long, ends-start, end-white, end-other, end-end}
 use Rattle.text.proofs.white.scan_end.Goals as goal
 
 pub loop-at-init : goal.loop-at-init

@@ -1,12 +1,9 @@
-use mathlib.Core.Path.{◌≡◌, sym, ◌∙◌}
-use Prim.Native.Nat.{◌+◌, ◌-◌, ◌≤◌}
-use native.Mathlib.Omega.{arith}
+use mathlib.Core.Path.{◌≡◌}
+use Prim.Native.Nat.{◌-◌, ◌≤◌}
 use lib.ListN.{length, drop}
-use borrow.Author.Rules.{rules}
-use borrow.Author.Tests.{not-true, not-false}
 use Rattle.text.specs.Chars.{chars}
 use Rattle.text.specs.Trim.{end_len, trim_end}
-use Rattle.text.proofs.CharLaws.{Here, turned, more-long, ends, ends-start, end-white, end-other, end-end}
+use Rattle.text.proofs.CharLaws.{ends}
 use Rattle.text.proofs.white.scan_end.Given as goal
 
 abbrev pub invariant-loop-at : goal.invariant-loop-at

@@ -1,7 +1,6 @@
 -- `trim` meets its contract. Assumes nothing.
 use mathlib.Core.Path.{ap, ◌∙◌}
 use native.Mathlib.Omega.{arith}
-use borrow.Author.Rules.{rules}
 use Rattle.text.specs.Trim.{trim_end, trimmed}
 use Rattle.text.proofs.Laws.{left-part}
 use Rattle.text.proofs.CharLaws.{start-long}

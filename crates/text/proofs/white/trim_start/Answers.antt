@@ -1,12 +1,9 @@
 -- `trim_start` meets its contract: the White_Space passed, and that at the front of what is left. Assumes nothing.
-use mathlib.Core.Path.{◌≡◌, ◌∙◌}
-use Prim.Native.Nat.{◌+◌, ◌-◌, ◌≤◌}
+use mathlib.Core.Path.{◌∙◌}
 use native.Mathlib.Omega.{arith}
-use lib.ListN.{length, drop}
 use borrow.Author.Rules.{rules}
 use borrow.Author.Tests.{not-true, not-false}
-use Rattle.text.specs.Chars.{chars}
-use Rattle.text.specs.Trim.{start_len, trim_start}
+use Rattle.text.specs.Trim.{trim_start}
 use Rattle.text.proofs.CharLaws.{Here, turned, start-white, start-other, start-end}
 use Rattle.text.proofs.white.trim_start.Goals as goal
 

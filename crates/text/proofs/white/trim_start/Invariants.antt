@@ -1,12 +1,8 @@
-use mathlib.Core.Path.{◌≡◌, ◌∙◌}
+use mathlib.Core.Path.{◌≡◌}
 use Prim.Native.Nat.{◌+◌, ◌-◌, ◌≤◌}
-use native.Mathlib.Omega.{arith}
 use lib.ListN.{length, drop}
-use borrow.Author.Rules.{rules}
-use borrow.Author.Tests.{not-true, not-false}
 use Rattle.text.specs.Chars.{chars}
 use Rattle.text.specs.Trim.{start_len, trim_start}
-use Rattle.text.proofs.CharLaws.{Here, turned, start-white, start-other, start-end}
 use Rattle.text.proofs.white.trim_start.Given as goal
 
 abbrev pub invariant-loop-at : goal.invariant-loop-at

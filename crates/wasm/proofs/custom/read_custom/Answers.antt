@@ -34,9 +34,9 @@ overflow_add-end c =
     let w = name_in _ _ _ _ (named) in omega
     (arith, w.end, w.in-s, c.requires)
 
-pub UNKNOWN : goal.UNKNOWN
-UNKNOWN c =
-    let named : name_at c.args.s.now 0 ≡ accepted (got c.one-1.given.0.0 c.one-1.given.0.1.0.at) = hear said_part _ _ c.name-one.ensures c.one-1.given.1 in
+pub slice_bounds-equal-end : goal.slice_bounds-equal-end
+slice_bounds-equal-end c =
+    let named : name_at c.args.s.now 0 ≡ accepted (got c.in-Read.p c.in-Read.c.at) = hear said_part _ _ c.name-one.ensures c.in-Read.is in
     let w = name_in _ _ _ _ (named) in omega (arith, w.end, w.in-s)
 
 pub returns-then-not-equal : goal.returns-then-not-equal

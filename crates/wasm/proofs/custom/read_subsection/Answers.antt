@@ -66,10 +66,12 @@ read_told-requires c =
 pub returns-in-Refused : goal.returns-in-Refused
 unfolding Passed
 returns-in-Refused c =
-    let first : let a = c.args in byte_at a.s.now a.c.at ≡ accepted (got c.in-Read.id c.in-Read.after_id.at) = hear said_byte _ _ c.u8-one.ensures c.in-Read.is in (
+    let first : let a = c.args in byte_at a.s.now a.c.at ≡ accepted (got c.in-Read.id c.in-Read.after_id.at) = hear said_byte _ _ c.u8-one.ensures c.in-Read.is in
+    let second : counted_at c.args.s.now c.in-Read.after_id.at ≡ accepted (got c.in-Read-two.p c.in-Read-two.next.at) = hear said_part _ _ c.counted-two.ensures c.in-Read-two.is in
+    let q = c.in-Read-two.p in (
       tt,
       λ t n h.
-          subsection-stop _ _ _ _ t _ _ _ _ (first) (second (c)) _ (cutting (c)) _
+          subsection-stop _ _ _ _ t _ _ _ _ (first) second _ (cut q.from q.len c.args.s.now) _
           (c.read_told.ensures t n h) c.in-Refused.r
           (ap said_named c.in-Refused.is) c.moved.ensures,
     )
@@ -79,10 +81,11 @@ unfolding Passed
 returns-in-Read-read_told c =
     let first : let a = c.args in byte_at a.s.now a.c.at ≡ accepted (got c.in-Read.id c.in-Read.after_id.at) = hear said_byte _ _ c.u8-one.ensures c.in-Read.is in
     let second : counted_at c.args.s.now c.in-Read.after_id.at ≡ accepted (got c.in-Read-two.p c.in-Read-two.next.at) = hear said_part _ _ c.counted-two.ensures c.in-Read-two.is in
+    let q = c.in-Read-two.p in
     let p = byte-in _ _ _ _ (first) in
     let w = counted-in _ _ _ _ (second) in (
       (omega (arith, p.past, w.past, w.end), w.in-s),
       λ t n h.
-          subsection-got _ _ _ _ t _ _ _ _ (first) (second (c)) _ (cutting (c)) _
+          subsection-got _ _ _ _ t _ _ _ _ (first) second _ (cut q.from q.len c.args.s.now) _
           (c.read_told.ensures t n h) (ap said_named c.in-Read-read_told.is),
     )

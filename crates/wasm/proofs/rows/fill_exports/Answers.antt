@@ -24,7 +24,7 @@ wide r = refl
 
 pub loop-left-init : goal.loop-left-init
 unfolding cells
-loop-left-init c = (record { rows = []; table_is = c.requires.1; count-is = refl; goes_on = rw c.capacity-room.ensures }, refl)
+loop-left-init c = (record { rows = []; table_is = c.requires.table_value; count-is = refl; goes_on = rw c.capacity-room.ensures }, refl)
 
 pub returns-in-Refused : goal.returns-in-Refused
 returns-in-Refused c =

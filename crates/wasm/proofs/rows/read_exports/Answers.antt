@@ -18,7 +18,7 @@ returns-in_default c =
 pub fill_exports-requires : goal.fill_exports-requires
 fill_exports-requires c =
     let e = c.clear in
-    (search rules, e.ensures ∙ ap (λ n. laid n []) (sym e.auto.table))
+    record { payload_bound = search rules; table_value = e.ensures ∙ ap (λ n. laid n []) (sym e.auto.table) }
 
 pub returns : goal.returns
 unfolding exports_of

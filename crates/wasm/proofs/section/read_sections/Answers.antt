@@ -15,26 +15,26 @@ use Rattle.wasm.proofs.section.read_sections.Goals as goal
 
 pub loop-c-init : goal.loop-c-init
 unfolding no_tables counts_of named_of
-loop-c-init c = (record { state = no_tables; value = refl; held = c.requires.1; goes_on = refl }, refl)
+loop-c-init c = (record { state = no_tables; value = refl; held = c.requires.holds; goes_on = refl }, refl)
 
 pub shape_of-sections-in-Refused : goal.shape_of-sections-in-Refused
 shape_of-sections-in-Refused c =
-    let kept : let l = c.read_section.new.sections in let a = c.args in sizes l.0 l.1.0 l.1.1.0 l.1.1.1.0 ≡ sizes a.sections.now a.imports.now a.exports.now a.names.now = let k = c.read_section.auto.sections in sizes-same k.0 k.1.0 k.1.1.0 k.1.1.1.0 ∙ c.loop-c.invariant.1 in
+    let kept : let l = c.read_section.new in let a = c.args in sizes l.sections l.imports l.exports l.names ≡ sizes a.sections.now a.imports.now a.exports.now a.names.now = let k = c.read_section.auto in sizes-same k.sections k.imports k.exports k.names ∙ c.loop-c.invariant.1 in
     ap (λ (z : Sizes). z.sections) (kept)
 
 pub shape_of-imports-in-Refused : goal.shape_of-imports-in-Refused
 shape_of-imports-in-Refused c =
-    let kept : let l = c.read_section.new.sections in let a = c.args in sizes l.0 l.1.0 l.1.1.0 l.1.1.1.0 ≡ sizes a.sections.now a.imports.now a.exports.now a.names.now = let k = c.read_section.auto.sections in sizes-same k.0 k.1.0 k.1.1.0 k.1.1.1.0 ∙ c.loop-c.invariant.1 in
+    let kept : let l = c.read_section.new in let a = c.args in sizes l.sections l.imports l.exports l.names ≡ sizes a.sections.now a.imports.now a.exports.now a.names.now = let k = c.read_section.auto in sizes-same k.sections k.imports k.exports k.names ∙ c.loop-c.invariant.1 in
     ap (λ (z : Sizes). z.imports) (kept)
 
 pub shape_of-exports-in-Refused : goal.shape_of-exports-in-Refused
 shape_of-exports-in-Refused c =
-    let kept : let l = c.read_section.new.sections in let a = c.args in sizes l.0 l.1.0 l.1.1.0 l.1.1.1.0 ≡ sizes a.sections.now a.imports.now a.exports.now a.names.now = let k = c.read_section.auto.sections in sizes-same k.0 k.1.0 k.1.1.0 k.1.1.1.0 ∙ c.loop-c.invariant.1 in
+    let kept : let l = c.read_section.new in let a = c.args in sizes l.sections l.imports l.exports l.names ≡ sizes a.sections.now a.imports.now a.exports.now a.names.now = let k = c.read_section.auto in sizes-same k.sections k.imports k.exports k.names ∙ c.loop-c.invariant.1 in
     ap (λ (z : Sizes). z.exports) (kept)
 
 pub shape_of-names-in-Refused : goal.shape_of-names-in-Refused
 shape_of-names-in-Refused c =
-    let kept : let l = c.read_section.new.sections in let a = c.args in sizes l.0 l.1.0 l.1.1.0 l.1.1.1.0 ≡ sizes a.sections.now a.imports.now a.exports.now a.names.now = let k = c.read_section.auto.sections in sizes-same k.0 k.1.0 k.1.1.0 k.1.1.1.0 ∙ c.loop-c.invariant.1 in
+    let kept : let l = c.read_section.new in let a = c.args in sizes l.sections l.imports l.exports l.names ≡ sizes a.sections.now a.imports.now a.exports.now a.names.now = let k = c.read_section.auto in sizes-same k.sections k.imports k.exports k.names ∙ c.loop-c.invariant.1 in
     ap (λ (z : Sizes). z.names) (kept)
 
 pub returns-in-Refused : goal.returns-in-Refused
@@ -53,7 +53,7 @@ loop-c-smaller c =
 
 pub loop-c-preserved : goal.loop-c-preserved
 loop-c-preserved c =
-    let kept : let l = c.read_section.new.sections in let a = c.args in sizes l.0 l.1.0 l.1.1.0 l.1.1.1.0 ≡ sizes a.sections.now a.imports.now a.exports.now a.names.now = let k = c.read_section.auto.sections in sizes-same k.0 k.1.0 k.1.1.0 k.1.1.1.0 ∙ c.loop-c.invariant.1 in
+    let kept : let l = c.read_section.new in let a = c.args in sizes l.sections l.imports l.exports l.names ≡ sizes a.sections.now a.imports.now a.exports.now a.names.now = let k = c.read_section.auto in sizes-same k.sections k.imports k.exports k.names ∙ c.loop-c.invariant.1 in
     let p = passed _ _ c.read_section.ensures.0 (ap said_counts c.in-Read.is) in (
       going_on (section_at _) (Holds _) (Holds _) c.loop-c.invariant.0 c.loop-c.invariant.1 c.read_section.ensures.1
           (ap said_counts c.in-Read.is) p.0 p.1,

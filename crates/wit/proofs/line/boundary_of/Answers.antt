@@ -1,9 +1,6 @@
 -- `boundary_of` meets its contract. Assumes nothing.
-use mathlib.Core.Path.{◌≡◌, sym, ◌∙◌}
-use Prim.Native.Nat.{◌+◌, ◌-◌, ◌≤◌}
+use mathlib.Core.Path.{sym, ◌∙◌}
 use native.Mathlib.Omega.{arith}
-use lib.ListN.{length, drop}
-use Rattle.text.specs.Find.{seek}
 use Rattle.text.proofs.FindLaws.{seek_hit, seek-miss, seek-end}
 use Rattle.wit.specs.Line.{splits, boundary}
 use Rattle.wit.proofs.line.boundary_of.Goals as goal

@@ -1,9 +1,7 @@
-use mathlib.Core.Path.{◌≡◌, sym, ◌∙◌}
+use mathlib.Core.Path.{◌≡◌}
 use Prim.Native.Nat.{◌+◌, ◌-◌, ◌≤◌}
-use native.Mathlib.Omega.{arith}
 use lib.ListN.{length, drop}
 use Rattle.text.specs.Find.{seek}
-use Rattle.text.proofs.FindLaws.{seek_hit, seek-miss, seek-end}
 use Rattle.wit.specs.Line.{splits, boundary}
 use Rattle.wit.proofs.line.boundary_of.Given as goal
 

@@ -2,7 +2,6 @@
 use mathlib.Core.Path.{◌∙◌}
 use Prim.Native.Nat.{◌+◌}
 use native.Mathlib.Omega.{arith}
-use borrow.Author.Rules.{rules}
 use Rattle.text.specs.Piece.{bytes_between, TrimTo}
 use Rattle.text.proofs.PieceLaws.{piece-long, trim-to}
 use Rattle.wit.proofs.LineLaws.{pair-le, directive-some, directive-none}

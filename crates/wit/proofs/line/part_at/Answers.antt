@@ -1,6 +1,5 @@
 -- `part_at` meets its contract. Assumes nothing.
 use native.Mathlib.Omega.{arith}
-use borrow.Author.Rules.{rules}
 use Rattle.text.proofs.PieceLaws.{trim-to}
 use Rattle.wit.proofs.LineLaws.{part-trim}
 use Rattle.wit.proofs.line.part_at.Goals as goal

@@ -3,7 +3,6 @@ use mathlib.Core.Path.{◌≡◌, sym, ap, ◌∙◌}
 use Prim.Native.Nat.{◌≤◌}
 use native.Mathlib.Omega.{arith}
 use lib.ListN.{length}
-use borrow.Author.Rules.{rules}
 use Rattle.text.specs.Piece.{piece, trim, bytes_between}
 use Rattle.text.proofs.PieceLaws.{piece-long, trim-to}
 use Rattle.wit.specs.Line.{unbraced, reference_of}

@@ -1,7 +1,6 @@
 -- `splits_at` meets its contract. Assumes nothing.
 use mathlib.Core.Path.{sym, ◌∙◌}
 use native.Mathlib.Omega.{arith}
-use borrow.Author.Rules.{rules}
 use Rattle.wit.proofs.LineLaws.{splits-other, splits-next, splits_last}
 use Rattle.wit.proofs.line.splits_at.Goals as goal
 

@@ -1,6 +1,5 @@
 -- `unbraced_at` meets its contract. Assumes nothing.
 use native.Mathlib.Omega.{arith}
-use borrow.Author.Rules.{rules}
 use Rattle.wit.proofs.LineLaws.{unbraced-is}
 use Rattle.wit.proofs.line.unbraced_at.Goals as goal
 

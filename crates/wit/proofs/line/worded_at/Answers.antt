@@ -1,7 +1,6 @@
 -- `worded_at` meets its contract. Assumes nothing.
 use mathlib.Core.Path.{sym, ◌∙◌}
 use native.Mathlib.Omega.{arith}
-use borrow.Author.Rules.{rules}
 use Rattle.wit.specs.Line.{package_w, world_w, import_w, export_w}
 use Rattle.wit.proofs.LineLaws.{word_fits, worded-package, worded-world, worded-close, worded-import, worded-export}
 use Rattle.wit.proofs.LineLaws.{worded-brace, worded-other}

@@ -1,7 +1,6 @@
 -- `add_reference` meets its contract. Assumes nothing.
 use mathlib.Core.Path.{refl}
 use native.Mathlib.Omega.{arith}
-use borrow.Author.Rules.{rules}
 use Rattle.table.specs.Told.{Ends}
 use Rattle.wit.specs.Manifest.{Numbered}
 use Rattle.wit.proofs.Stepping.{refer-full, refer-put}

@@ -1,7 +1,6 @@
 -- `close_world` meets its contract. Assumes nothing.
 use mathlib.Core.Path.{refl}
 use native.Mathlib.Omega.{arith}
-use borrow.Author.Rules.{rules}
 use borrow.Author.Tests.{not-true, not-false}
 use Rattle.table.specs.Told.{Ends}
 use Rattle.wit.specs.Manifest.{Numbered}

@@ -1,5 +1,4 @@
 -- `first_known` meets its contract. Assumes nothing.
-use borrow.Author.Rules.{rules}
 use Rattle.wit.specs.Manifest.{start, known_of}
 use Rattle.wit.proofs.rows.first_known.Goals as goal
 

@@ -1,6 +1,5 @@
 -- `obey` meets its contract: each kind of line by its own law. Assumes nothing.
 use mathlib.Core.Path.{refl, ap}
-use borrow.Author.Rules.{rules}
 use Rattle.table.specs.Told.{Ends}
 use Rattle.wit.specs.Manifest.{Numbered}
 use Rattle.wit.specs.declared.rows.Known.{Known}

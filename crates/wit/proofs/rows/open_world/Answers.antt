@@ -1,6 +1,5 @@
 -- `open_world` meets its contract. Assumes nothing.
-use mathlib.Core.Path.{sym, ap, ◌∙◌}
-use borrow.Author.Rules.{rules}
+use mathlib.Core.Path.{ap, ◌∙◌}
 use Rattle.table.specs.Told.{Ends}
 use Rattle.table.proofs.Telling.{ended}
 use Rattle.wit.specs.Manifest.{Numbered, said_known}

@@ -1,6 +1,5 @@
 -- `put_reference` meets its contract. Assumes nothing.
 use mathlib.Core.Path.{◌∙◌}
-use borrow.Author.Rules.{rules}
 use Rattle.wit.proofs.Stepping.{cells-put}
 use Rattle.wit.proofs.rows.put_reference.Goals as goal
 

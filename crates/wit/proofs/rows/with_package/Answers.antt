@@ -1,5 +1,4 @@
 -- `with_package` meets its contract. Assumes nothing.
-use borrow.Author.Rules.{rules}
 use Rattle.wit.proofs.rows.with_package.Goals as goal
 
 pub returns : goal.returns
