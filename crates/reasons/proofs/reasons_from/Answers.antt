@@ -8,7 +8,7 @@ use Rattle.reasons.proofs.reasons_from.Goals as goal
 pub write_reasons-requires : goal.write_reasons-requires
 write_reasons-requires c =
     let z = fine _ _ _ c.check_reasons.ensures c.in-Accepted.is in
-    (z.kinds, (z.files.0, z.files.1, z.counts.0, z.counts.1))
+    record { kinds_fit = z.kinds; baseline_len_bound = (z.files.0, z.files.1, z.counts.0, z.counts.1) }
 
 pub returns-in-Refused : goal.returns-in-Refused
 returns-in-Refused c = reasons-refused _ _ _ c.check_reasons.ensures _ _ c.in-Refused.is
