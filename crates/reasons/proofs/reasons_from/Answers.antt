@@ -1,5 +1,4 @@
 -- `reasons::reasons_from` meets its contract. Assumes nothing.
-use borrow.Author.Rules.{rules}
 use Rattle.output.proofs.ByteLaws.{formed-long}
 use Rattle.reasons.specs.Reasons.{reasons_of}
 use Rattle.reasons.proofs.Fine.{fine, reasons-refused, reasons-formed}

@@ -1,7 +1,6 @@
 -- `reasons::write_reasons` meets its contract. Assumes nothing.
 use Prim.Native.Nat.{◌+◌, ◌≤◌}
 use native.Mathlib.Omega.{arith}
-use borrow.Author.Rules.{rules}
 use mathlib.Core.List.{◌++◌}
 use lib.ListN.{length}
 use Rattle.output.specs.Bytes.{most}
