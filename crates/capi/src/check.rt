@@ -8,8 +8,7 @@ use told::check::{EvaluationTold, evaluation_of};
 use verdicts::Evaluation;
 
 // The whole check of a module's file against a policy's text.
-#[unsafe(no_mangle)]
-pub extern "C" fn viscrombal_check(file: &[u8], text: &[u8]) -> EvaluationTold
+pub fn viscrombal_check(file: &[u8], text: &[u8]) -> EvaluationTold
     ensures { result ≡ evaluation_told (checked_of file.now text.now) }
 {
     let e: Evaluation = check_module(file, text);

@@ -55,32 +55,28 @@ fn signed_of(r: I64Read) -> Signed
     }
 }
 
-#[unsafe(no_mangle)]
-pub extern "C" fn viscrombal_uleb128(s: &[u8], at: usize) -> Unsigned
+pub fn viscrombal_uleb128(s: &[u8], at: usize) -> Unsigned
     ensures { result ≡ unsigned_told (uleb_at s.now at) }
 {
     let c = Cursor { at };
     unsigned_of(c.uleb128(s))
 }
 
-#[unsafe(no_mangle)]
-pub extern "C" fn viscrombal_uleb128_u32(s: &[u8], at: usize) -> Unsigned
+pub fn viscrombal_uleb128_u32(s: &[u8], at: usize) -> Unsigned
     ensures { result ≡ unsigned_told (u32_at s.now at) }
 {
     let c = Cursor { at };
     narrow_of(c.uleb128_u32(s))
 }
 
-#[unsafe(no_mangle)]
-pub extern "C" fn viscrombal_sleb128(s: &[u8], at: usize) -> Signed
+pub fn viscrombal_sleb128(s: &[u8], at: usize) -> Signed
     ensures { result ≡ signed_told (sleb_at s.now at) }
 {
     let c = Cursor { at };
     signed_of(c.sleb128(s))
 }
 
-#[unsafe(no_mangle)]
-pub extern "C" fn viscrombal_name(s: &[u8], at: usize) -> Range
+pub fn viscrombal_name(s: &[u8], at: usize) -> Range
     ensures { result ≡ range_told (name_at s.now at) }
 {
     let c = Cursor { at };

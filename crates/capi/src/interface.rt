@@ -6,8 +6,7 @@ ghost use Rattle.capi.specs.Interface.{interface_number};
 const INTERFACE: u32 = 4;
 
 // A change of a struct, of a number or of a place raises it.
-#[unsafe(no_mangle)]
-pub extern "C" fn viscrombal_interface() -> u32
+pub fn viscrombal_interface() -> u32
     ensures { result ≡ interface_number }
 {
     INTERFACE

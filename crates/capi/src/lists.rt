@@ -14,8 +14,7 @@ use listed::modules::ModuleTold;
 use listed::tokens::TokensTold;
 
 // A module's file: the rows of tables 1 to 4, eight bytes a cell. Refused, nothing is touched; accepted, nothing past the rows.
-#[unsafe(no_mangle)]
-pub extern "C" fn viscrombal_module(file: &[u8], out: &mut [u8]) -> ModuleTold
+pub fn viscrombal_module(file: &[u8], out: &mut [u8]) -> ModuleTold
     ensures { Delivers module_bytes (module_told (length file.now)) (module_at file.now limits)
         out.old result out.new }
 {
@@ -23,16 +22,14 @@ pub extern "C" fn viscrombal_module(file: &[u8], out: &mut [u8]) -> ModuleTold
 }
 
 // A manifest's text: the rows of tables 5 and 6, then the rows by the paths that are imported, then by those that are exported.
-#[unsafe(no_mangle)]
-pub extern "C" fn viscrombal_manifest(text: &[u8], out: &mut [u8]) -> ManifestTold
+pub fn viscrombal_manifest(text: &[u8], out: &mut [u8]) -> ManifestTold
     ensures { Delivers manifest_bytes manifest_told (manifest_listed text.now) out.old result out.new }
 {
     listed::manifests::list_manifest(text, out)
 }
 
 // Two builds: the rows of tables 8 and 9, whose row numbers are those of the module they came from, then the breaking reasons as text.
-#[unsafe(no_mangle)]
-pub extern "C" fn viscrombal_compare<'a, 'b>(
+pub fn viscrombal_compare<'a, 'b>(
     baseline: &'a [u8],
     candidate: &'a [u8],
     out: &'b mut [u8],
@@ -44,8 +41,7 @@ pub extern "C" fn viscrombal_compare<'a, 'b>(
 }
 
 // A policy's text: the ranges of the tokens of a domain's list, each its offset in the text and its length.
-#[unsafe(no_mangle)]
-pub extern "C" fn viscrombal_tokens(text: &[u8], domain: usize, out: &mut [u8]) -> TokensTold
+pub fn viscrombal_tokens(text: &[u8], domain: usize, out: &mut [u8]) -> TokensTold
     ensures { Delivers tokens_bytes tokens_told (tokens_read text.now domain) out.old result out.new }
 {
     listed::tokens::list_tokens(text, domain, out)

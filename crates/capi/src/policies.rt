@@ -75,8 +75,7 @@ fn show(number: u32, place: usize, p: Policy) -> PolicyTold
     }
 }
 
-#[unsafe(no_mangle)]
-pub extern "C" fn viscrombal_policy(text: &[u8]) -> PolicyTold
+pub fn viscrombal_policy(text: &[u8]) -> PolicyTold
     ensures { result ≡ policy_told (read_policy text.now) }
 {
     let read = policy::read_policy(text);
@@ -86,8 +85,7 @@ pub extern "C" fn viscrombal_policy(text: &[u8]) -> PolicyTold
 }
 
 // The first token of a domain's list at or after offset `from`.
-#[unsafe(no_mangle)]
-pub extern "C" fn viscrombal_token(text: &[u8], domain: usize, from: usize) -> TokenTold
+pub fn viscrombal_token(text: &[u8], domain: usize, from: usize) -> TokenTold
     ensures { result ≡ token_told (token_read text.now domain from) }
 {
     let read = policy::read_policy(text);
@@ -102,8 +100,7 @@ pub extern "C" fn viscrombal_token(text: &[u8], domain: usize, from: usize) -> T
 }
 
 // The reader, then the writer. Refused, nothing is touched; accepted, nothing past the text.
-#[unsafe(no_mangle)]
-pub extern "C" fn viscrombal_rewrite(text: &[u8], out: &mut [u8]) -> WrittenTold
+pub fn viscrombal_rewrite(text: &[u8], out: &mut [u8]) -> WrittenTold
     ensures { WriteTells (rewritten text.now (length out.old)) out.old result out.new }
 {
     let read = policy::read_policy(text);

@@ -8,8 +8,7 @@ use refusal::Answer;
 use told::answers::{AnswerTold, answer_of};
 
 // Whether a module's file is clean in what is read.
-#[unsafe(no_mangle)]
-pub extern "C" fn viscrombal_strict(file: &[u8]) -> AnswerTold
+pub fn viscrombal_strict(file: &[u8]) -> AnswerTold
     ensures { result ≡ answer_told (tested_at file.now limits) }
 {
     let a: Answer = strict::test_strict(file);

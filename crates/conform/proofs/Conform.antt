@@ -246,6 +246,8 @@ module _ (s : List ℕ) (size : length s < 18446744073709551616) where
     unfolding entries_from onward
     many-reads zero at l r [] rows e h none =
         record { new = []; stands = record { next = at; is = rw (append-nil rows); rest = e }; agree = nil }
+    many-reads zero at l r (v ∷ vs) rows e h x = elim x [ ]
+    many-reads (suc n) at l r [] rows e h x = elim x [ ]
     many-reads (suc n) at l r (v ∷ vs) rows e h (more {m = m} x y) =
         let g = reads at l m v e x in
         let k : length (rows ++ (g.row ∷ [])) ≡ length rows + 1 = length-append rows (g.row ∷ []) in

@@ -118,9 +118,9 @@ outs : (N : ℕ) (l : List ℕ) → OutIn l (u_n N l)
 unfolding u_n
 outs N [] = omega arith
 outs N (n ∷ l) =
-    out-pick _ (ltb n 128) _ _ (out-pick (n ∷ l) (ltb n _) (value n 1) oversize tt tt)
-    (out-pick _ (ltb 7 N) _ _ (out-grown l n _ _ (outs (N - 7) l))
-    (out-pick _ (ltb (n - 128) _) _ oversize (out-grown l n _ _ (out-spent l)) tt))
+    out-pick (n ∷ l) (ltb n 128) _ _ (out-pick (n ∷ l) (ltb n _) (value n 1) oversize tt tt)
+    (out-pick (n ∷ l) (ltb 7 N) _ _ (out-grown l n _ _ (outs (N - 7) l))
+    (out-pick (n ∷ l) (ltb (n - 128) _) _ oversize (out-grown l n _ _ (out-spent l)) tt))
 
 module _ (s : List ℕ) where
   byte-well : (at : ℕ) → at ≤ length s → Well s (byte_at s at)

@@ -80,8 +80,7 @@ pub(crate) fn name_of(name: &[u8], k: usize) -> NameTold
 }
 
 // Tables 8 and 9: what was removed from the baseline and added in the candidate.
-#[unsafe(no_mangle)]
-pub extern "C" fn judged_compare<'a, 'b, 'c, 'd, 'e, 'f, 'g>(
+pub fn judged_compare<'a, 'b, 'c, 'd, 'e, 'f, 'g>(
     baseline: &'a [u8],
     bi: &'b [usize],
     be: &'c [usize],
@@ -106,8 +105,7 @@ pub extern "C" fn judged_compare<'a, 'b, 'c, 'd, 'e, 'f, 'g>(
 }
 
 // Of the name of an export that was removed (0) or added, byte k.
-#[unsafe(no_mangle)]
-pub extern "C" fn judged_export_name<'a, 'b, 'c>(
+pub fn judged_export_name<'a, 'b, 'c>(
     baseline: &'a [u8],
     be: &'b [usize],
     candidate: &'a [u8],
@@ -135,8 +133,7 @@ pub extern "C" fn judged_export_name<'a, 'b, 'c>(
 }
 
 // And of the module name of a pair.
-#[unsafe(no_mangle)]
-pub extern "C" fn judged_source_name<'a, 'b, 'c>(
+pub fn judged_source_name<'a, 'b, 'c>(
     baseline: &'a [u8],
     bi: &'b [usize],
     candidate: &'a [u8],
@@ -164,8 +161,7 @@ pub extern "C" fn judged_source_name<'a, 'b, 'c>(
 }
 
 // Why the candidate cannot stand in for the baseline, in words.
-#[unsafe(no_mangle)]
-pub extern "C" fn judged_reasons(
+pub fn judged_reasons(
     baseline: &[u8],
     bi: &[usize],
     be: &[usize],

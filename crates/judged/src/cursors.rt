@@ -61,40 +61,35 @@ fn skip_of(r: Skipped) -> SkipTold
     }
 }
 
-#[unsafe(no_mangle)]
-pub extern "C" fn judged_u8(s: &[u8], at: usize) -> Unsigned
+pub fn judged_u8(s: &[u8], at: usize) -> Unsigned
     ensures { result ≡ unsigned_told (byte_at s.now at) }
 {
     let c = Cursor { at };
     byte_of(c.u8(s))
 }
 
-#[unsafe(no_mangle)]
-pub extern "C" fn judged_u32_le(s: &[u8], at: usize) -> Unsigned
+pub fn judged_u32_le(s: &[u8], at: usize) -> Unsigned
     ensures { result ≡ unsigned_told (fixed_at s.now at) }
 {
     let c = Cursor { at };
     narrow_of(c.u32_le(s))
 }
 
-#[unsafe(no_mangle)]
-pub extern "C" fn judged_take(s: &[u8], at: usize, n: usize) -> Range
+pub fn judged_take(s: &[u8], at: usize, n: usize) -> Range
     ensures { result ≡ range_told (taken_at s.now at n) }
 {
     let c = Cursor { at };
     range_of(c.take(s, n))
 }
 
-#[unsafe(no_mangle)]
-pub extern "C" fn judged_skip(s: &[u8], at: usize, n: usize) -> SkipTold
+pub fn judged_skip(s: &[u8], at: usize, n: usize) -> SkipTold
     ensures { result ≡ skip_told (skip_at s.now at n) }
 {
     let c = Cursor { at };
     skip_of(c.skip(s, n))
 }
 
-#[unsafe(no_mangle)]
-pub extern "C" fn judged_left(s: &[u8], at: usize) -> LeftTold
+pub fn judged_left(s: &[u8], at: usize) -> LeftTold
     ensures { result ≡ left_told at (length s.now - at) (leb (length s.now) at) }
 {
     let c = Cursor { at };

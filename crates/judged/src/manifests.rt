@@ -47,12 +47,7 @@ fn manifest_of(r: ManifestRead) -> ManifestTold
     }
 }
 
-#[unsafe(no_mangle)]
-pub extern "C" fn judged_manifest(
-    text: &[u8],
-    worlds: &mut [usize],
-    references: &mut [usize],
-) -> ManifestTold
+pub fn judged_manifest(text: &[u8], worlds: &mut [usize], references: &mut [usize]) -> ManifestTold
     ensures { ManifestTells (manifest_sizes worlds.old references.old)
         (manifest_at text.now (manifest_sizes worlds.old references.old))
         (lend_manifest worlds.new references.new) result }
@@ -61,8 +56,7 @@ pub extern "C" fn judged_manifest(
 }
 
 // Table 15: of each path that is imported the lowest row, by bytes.
-#[unsafe(no_mangle)]
-pub extern "C" fn judged_imports(
+pub fn judged_imports(
     text: &[u8],
     worlds: &[usize],
     references: &[usize],
@@ -77,8 +71,7 @@ pub extern "C" fn judged_imports(
 }
 
 // And of each that is exported.
-#[unsafe(no_mangle)]
-pub extern "C" fn judged_exports(
+pub fn judged_exports(
     text: &[u8],
     worlds: &[usize],
     references: &[usize],
@@ -93,8 +86,7 @@ pub extern "C" fn judged_exports(
 }
 
 // Table 7: of each path that is imported the domain and the lowest row, by bytes.
-#[unsafe(no_mangle)]
-pub extern "C" fn judged_needs(
+pub fn judged_needs(
     text: &[u8],
     worlds: &[usize],
     references: &[usize],

@@ -85,8 +85,7 @@ fn rule_of(r: Rule) -> EffectiveTold
 }
 
 // The rule that holds for a domain; of a number above 6 there is none.
-#[unsafe(no_mangle)]
-pub extern "C" fn judged_effective(cells: &[usize], domain: usize) -> EffectiveTold
+pub fn judged_effective(cells: &[usize], domain: usize) -> EffectiveTold
     ensures { result ≡ effective_asked (policy_in cells.now) domain }
 {
     let p = policy_of(cells);
@@ -101,21 +100,14 @@ pub extern "C" fn judged_effective(cells: &[usize], domain: usize) -> EffectiveT
     rule_of(verdicts::effective(p, d))
 }
 
-#[unsafe(no_mangle)]
-pub extern "C" fn judged_token(
-    text: &[u8],
-    cells: &[usize],
-    domain: usize,
-    from: usize,
-) -> TokenTold
+pub fn judged_token(text: &[u8], cells: &[usize], domain: usize, from: usize) -> TokenTold
     ensures { result ≡ token_told (token_asked text.now (policy_in cells.now) domain from) }
 {
     let p = policy_of(cells);
     token_for(text, p, domain, from)
 }
 
-#[unsafe(no_mangle)]
-pub extern "C" fn judged_write(text: &[u8], cells: &[usize], out: &mut [u8]) -> WrittenTold
+pub fn judged_write(text: &[u8], cells: &[usize], out: &mut [u8]) -> WrittenTold
     ensures { WriteTells (written text.now (policy_in cells.now) (length out.old))
         out.old result out.new }
 {
@@ -123,35 +115,27 @@ pub extern "C" fn judged_write(text: &[u8], cells: &[usize], out: &mut [u8]) -> 
     written_of(policy_text::write_policy(text, p, out))
 }
 
-#[unsafe(no_mangle)]
-pub extern "C" fn judged_evaluate(domains: &[usize], n: usize, cells: &[usize]) -> EvaluationTold
+pub fn judged_evaluate(domains: &[usize], n: usize, cells: &[usize]) -> EvaluationTold
     ensures { result ≡ evaluation_told (evaluated domains.now n (policy_in cells.now)) }
 {
     let p = policy_of(cells);
     evaluation_of(verdicts::evaluate_domains(domains, n, p))
 }
 
-#[unsafe(no_mangle)]
-pub extern "C" fn judged_evaluate_records(
-    list: &[Requirement],
-    n: usize,
-    cells: &[usize],
-) -> EvaluationTold
+pub fn judged_evaluate_records(list: &[Requirement], n: usize, cells: &[usize]) -> EvaluationTold
     ensures { result ≡ evaluation_told (evaluated (numbers list.now) n (policy_in cells.now)) }
 {
     let p = policy_of(cells);
     evaluation_of(verdicts::records::evaluate(list, n, p))
 }
 
-#[unsafe(no_mangle)]
-pub extern "C" fn judged_import(source: &[u8], field: &[u8]) -> usize
+pub fn judged_import(source: &[u8], field: &[u8]) -> usize
     ensures { result ≡ import_domain source.now field.now }
 {
     domain_number(classify_import(source, field))
 }
 
-#[unsafe(no_mangle)]
-pub extern "C" fn judged_path(path: &[u8]) -> usize
+pub fn judged_path(path: &[u8]) -> usize
     ensures { result ≡ path_domain path.now }
 {
     domain_number(classify_path(path))

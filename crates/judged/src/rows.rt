@@ -87,8 +87,7 @@ pub(crate) fn count_of(r: Count) -> CountTold
     }
 }
 
-#[unsafe(no_mangle)]
-pub extern "C" fn judged_module(
+pub fn judged_module(
     file: &[u8],
     sections: &mut [usize],
     imports: &mut [usize],
@@ -103,8 +102,7 @@ pub extern "C" fn judged_module(
     module_of(wasm::read_module(file, sections, imports, exports, names))
 }
 
-#[unsafe(no_mangle)]
-pub extern "C" fn judged_strict(
+pub fn judged_strict(
     file: &[u8],
     sections: &mut [usize],
     imports: &mut [usize],
@@ -119,22 +117,19 @@ pub extern "C" fn judged_strict(
     module_of(strict::read_strict(file, sections, imports, exports, names))
 }
 
-#[unsafe(no_mangle)]
-pub extern "C" fn judged_functions(imports: &[usize], n: usize) -> CountTold
+pub fn judged_functions(imports: &[usize], n: usize) -> CountTold
     ensures { result ≡ count_told (imported_of imports.now n 0) }
 {
     count_of(import_rows::imported_functions(imports, n))
 }
 
-#[unsafe(no_mangle)]
-pub extern "C" fn judged_memories(imports: &[usize], n: usize) -> CountTold
+pub fn judged_memories(imports: &[usize], n: usize) -> CountTold
     ensures { result ≡ count_told (imported_of imports.now n 2) }
 {
     count_of(import_rows::imported_memories(imports, n))
 }
 
-#[unsafe(no_mangle)]
-pub extern "C" fn judged_namespaces(
+pub fn judged_namespaces(
     file: &[u8],
     imports: &[usize],
     n: usize,
@@ -147,8 +142,7 @@ pub extern "C" fn judged_namespaces(
 }
 
 // Table 7: of each function that is imported the domain and the row.
-#[unsafe(no_mangle)]
-pub extern "C" fn judged_requirements(
+pub fn judged_requirements(
     file: &[u8],
     imports: &[usize],
     domains: &mut [usize],

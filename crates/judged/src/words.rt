@@ -19,37 +19,32 @@ fn word_of(word: Slug, k: usize) -> NameTold
 }
 
 // Of the word of a kind byte, byte k.
-#[unsafe(no_mangle)]
-pub extern "C" fn judged_kind(b: u8, k: usize) -> NameTold
+pub fn judged_kind(b: u8, k: usize) -> NameTold
     ensures { result ≡ word_told (slug_of (kind_word (kind_of b))) k }
 {
     word_of(kinds::kind_slug(kinds::kind_of(b)), k)
 }
 
-#[unsafe(no_mangle)]
-pub extern "C" fn judged_kind_byte(b: u8) -> u8
+pub fn judged_kind_byte(b: u8) -> u8
     ensures { result ≡ kind_byte (kind_of b) }
 {
     kinds::kind_byte(kinds::kind_of(b))
 }
 
-#[unsafe(no_mangle)]
-pub extern "C" fn judged_section(id: u8, k: usize) -> NameTold
+pub fn judged_section(id: u8, k: usize) -> NameTold
     ensures { result ≡ word_told (slug_of (section_word id)) k }
 {
     word_of(kinds::section_name(id), k)
 }
 
-#[unsafe(no_mangle)]
-pub extern "C" fn judged_change(change: usize, k: usize) -> NameTold
+pub fn judged_change(change: usize, k: usize) -> NameTold
     ensures { result ≡ word_told (slug_of (change_word (change_at change))) k }
 {
     word_of(differences::change_slug(change_of(change)), k)
 }
 
 // The domain that a word names, by its number; 7 where it names none.
-#[unsafe(no_mangle)]
-pub extern "C" fn judged_slug(word: &[u8]) -> usize
+pub fn judged_slug(word: &[u8]) -> usize
     ensures { result ≡ perhaps_number (domain_of word.now) }
 {
     let found = domains::from_slug(word);
@@ -60,8 +55,7 @@ pub extern "C" fn judged_slug(word: &[u8]) -> usize
 }
 
 // Of the word of a domain, byte k; a number above 6 has no word.
-#[unsafe(no_mangle)]
-pub extern "C" fn judged_domain(domain: usize, k: usize) -> NameTold
+pub fn judged_domain(domain: usize, k: usize) -> NameTold
     ensures { result ≡ domain_told domain k }
 {
     let found = domain_of(domain);

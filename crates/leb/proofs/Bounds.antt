@@ -1,20 +1,20 @@
 -- Where a read that was accepted ends: after its start, and within the bytes. Assumes nothing.
-use Prim.Native.Nat.{ℕ, suc, ◌+◌, ◌-◌, ◌≤◌, ◌<◌}
+use Prim.Native.Nat.{ℕ, ◌+◌, ◌-◌, ◌≤◌, ◌<◌}
 use native.Mathlib.Nat.{add-sub_cancel_left}
 use native.Mathlib.Omega.{arith}
 use mathlib.Core.Path.{◌≡◌, refl, sym, ◌∙◌, ap}
 use mathlib.Core.Bool.{Bool, true, false}
-use mathlib.Core.List.{List, [], ◌∷◌}
+use mathlib.Core.List.{List}
 use lib.ListN.{length, take, drop, get_or, length-drop}
 use lib.Dec.{ltb, leb, eqb}
 use borrow.Author.Tests.{ltb-true, leb-true, eq-eqb, ne_eqb}
 use Rattle.text.specs.Utf8.{up_to}
 use Rattle.refusal.specs.Pick.{pick}
-use Rattle.refusal.specs.Said.{Said, accepted, refused, Got, got, offset, kind_at}
+use Rattle.refusal.specs.Said.{accepted, refused, got, offset, kind_at}
 use Rattle.refusal.specs.declared.Part.{Part}
 use Rattle.refusal.proofs.Following.{never, read-on}
 use Rattle.leb.specs.Grammar.{U, last_u, more_u}
-use Rattle.leb.specs.Reads.{part, part_bytes, told_at, narrowed, uleb_at, u32_at, byte_at, taken_at, counted_at, checked, name_at}
+use Rattle.leb.specs.Reads.{part, part_bytes, narrowed, uleb_at, u32_at, byte_at, taken_at, counted_at, checked, name_at}
 use Rattle.leb.proofs.Conform.{u64-only, narrow-only}
 
 pub record Ahead (s : List ℕ) (at d : ℕ) : Type 0 where

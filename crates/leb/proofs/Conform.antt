@@ -10,11 +10,11 @@ use lib.Dec.{ltb, leb}
 use lib.Pow.{pow_mono, pow-add, pow_pos}
 use lib.Arith.{digits_lt, digits_mod}
 use lib.ListN.{get_or, drop}
-use lib.IntN.{ℤ, pos, ◌+ℤ◌, ◌-ℤ◌, ◌*ℤ◌}
+use lib.IntN.{ℤ, pos, ◌-ℤ◌}
 use Rattle.bits.proofs.Integers.{diff-eq}
 use Rattle.refusal.specs.Pick.{pick}
-use Rattle.refusal.specs.Said.{Said, accepted, refused, Got, got, onward, offset}
-use Rattle.refusal.proofs.Following.{never, read-on}
+use Rattle.refusal.specs.Said.{accepted, refused, got, onward, offset}
+use Rattle.refusal.proofs.Following.{never}
 use Rattle.leb.specs.Grammar.{U, last_u, more_u, S, plus_s, minus_s, more_s}
 use Rattle.leb.specs.Groups.{Out, value, ends, overlong, oversize, grown, spent, u_n, s_n, twos}
 use Rattle.leb.specs.Reads.{told_at, narrowed, uleb_at, u32_at, sleb_at}

@@ -1,13 +1,13 @@
 -- The loop of `sleb128`, on values: the invariant `SReading` over the bits of the i64, how a turn keeps it, and the answer at each way
 -- out. Assumes nothing.
 use Prim.Native.Nat.{ℕ, suc, ◌+◌, ◌-◌, ◌*◌, ◌%◌, ◌^◌, ◌≤◌, ◌<◌, min}
-use native.Mathlib.Nat.{add-zero, mul_comm, mul-add, mul_assoc, lt_of_le_of_lt, lt_of_lt_of_le, mod-le, mod-lt, mod-eq_of_lt, min-eq_left}
+use native.Mathlib.Nat.{mul_comm, mul-add, mul_assoc, lt_of_le_of_lt, lt_of_lt_of_le, mod-le, mod-eq_of_lt}
 use native.Mathlib.Nat.{min-eq_right, sub-add-eq}
 use native.Mathlib.Numerals.{add-one}
 use native.Mathlib.Omega.{arith}
-use mathlib.Core.Path.{◌≡◌, refl, sym, ◌∙◌, ap, ap₂, subst}
+use mathlib.Core.Path.{◌≡◌, refl, sym, ◌∙◌, ap}
 use mathlib.Core.Bool.{Bool, true, false}
-use mathlib.Core.List.{List, [], ◌∷◌}
+use mathlib.Core.List.{List, ◌∷◌}
 use borrow.Author.Tests.{lt-ltb, le-ltb, ltb-true, ltb-false}
 use lib.Dec.{ltb}
 use lib.IntN.{ℤ, pos, negsuc, ◌+ℤ◌, ◌-ℤ◌, ◌*ℤ◌}
@@ -18,11 +18,10 @@ use lib.Seq.{drop-cons}
 use mir.Syntax.{w64}
 use mir.Val.{to_z}
 use mir.ValLaws.{to_z_pos}
-use Rattle.refusal.specs.Pick.{pick}
 use Rattle.refusal.specs.Said.{accepted, refused, got, offset}
 use Rattle.leb.specs.Groups.{value, grown, spent, s_n, twos}
 use Rattle.leb.specs.Reads.{told_at, sleb_at}
-use Rattle.bits.proofs.Masks.{or-place, or-fits, or-ones, place-lt, top-clear, top_set, low_small, low-large, low-lt}
+use Rattle.bits.proofs.Masks.{or-place, or-ones, place-lt, top-clear, top_set, low_small, low-large, low-lt}
 use Rattle.bits.proofs.Integers.{diff-neg, lin, as-diff, to_z-upper, extended}
 use Rattle.leb.proofs.Groups.{left, left-none, left_over, grown-none, grown-twice, grown-same, grown-spent}
 

@@ -54,11 +54,10 @@ module _ (s : List ℕ) (i e : ℕ) where
       tokens-more s i e z
 
   -- not the first variant
-  pub found_none : (t : Token) → Told t → (tag_of (declared enum) t ≡ 1) ⊎ (tag_of (declared enum) t ≡ 2) → tokens_in s i e ≡ []
+  pub found_none : (t : Token) → Told t → ((x : Part) (next : ℕ) → t ≡ Token.At x next → ⊥) → tokens_in s i e ≡ []
   found_none Token.Done h k = let z : token_from i 0 (pieces.bytes_between s i e) ≡ tokens.nothing = cc in tokens-done s i e z
   found_none (Token.Refused w) h k = absurd (never h)
-  found_none (Token.At x next) h (inl q) = absurd (omega arith)
-  found_none (Token.At x next) h (inr q) = absurd (omega arith)
+  found_none (Token.At x next) h k = absurd (k x next refl)
 
 -- ---- their ranges as bytes
 pub tokens-long : (xs : List Part) → length (tokens_bytes xs) ≡ length xs * 16

@@ -16,7 +16,7 @@ use Rattle.text.specs.Utf8.{up_to, seq_len}
 use Rattle.text.specs.Scan.{scan}
 use Rattle.text.proofs.SplitLaws.{well, upto-well}
 use Rattle.domains.specs.Domain.{Perhaps, nothing, just, domain_of}
-use Rattle.text.specs.Piece.{Piece, first, beyond, trim, shorn}
+use Rattle.text.specs.Piece.{Piece, beyond, trim, shorn}
 use Rattle.policy.specs.Piece.{until, past_byte, bare, quotes, lines_of}
 use Rattle.policy.specs.Directive.{policy_w, default_w, allow_w, deny_w, allow, deny, Directive, blank, wrong, called, preset, plain}
 use Rattle.policy.specs.Directive.{listed, defaulted, plain_by, listed_by, rule_directive, policy_worded, policy_spoken, policy_core}

@@ -1,6 +1,6 @@
 -- Worked examples of the definitions. Assumes nothing.
 use mathlib.Core.Path.{◌≡◌, refl}
-use mathlib.Core.List.{List, [], ◌∷◌}
+use mathlib.Core.List.{[], ◌∷◌}
 use Rattle.report.specs.Decimal.{digits, decimal_of}
 use Rattle.report.specs.Texts.{refused_text}
 

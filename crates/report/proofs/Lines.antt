@@ -6,10 +6,9 @@ use Prim.Native.Nat.{ℕ, zero, suc, ◌+◌, ◌≤◌, ◌<◌, min}
 use native.Mathlib.Numerals.{add-one}
 use native.Mathlib.Omega.{arith}
 use lib.Dec.{ltb}
-use lib.ListN.{length, take, drop, get_or, set, drop_of_length-le, length-append}
+use lib.ListN.{length, drop, get_or, set, drop_of_length-le, length-append}
 use lib.Seq.{drop-cons}
 use borrow.Author.Tests.{lt-ltb, le-ltb, ltb-true, ltb-false}
-use Rattle.refusal.specs.Pick.{pick}
 use Rattle.refusal.specs.Slug.{padded}
 use Rattle.report.specs.declared.line.Line.{Line}
 use Rattle.report.specs.Line.{line_of, empty, add_byte, added}

@@ -1,5 +1,23 @@
 // The files that the arguments name.
-ghost use Rattle.std.specs.Prelude.{◌≤◌, length};
+ghost use Rattle.std.specs.Prelude.{◌≡◌, ◌≤◌, length, IfOk};
+
+use super::standard_error::fail;
+use std::env::FillError;
+use std::fs::File;
+use std::io;
+use std::io::Read;
+use std::rt::{Env, Files};
+
+// A path that is longer cannot be opened.
+const LONGEST_PATH: usize = 4096;
+
+// What the system says of an argument that is not there, of one that is too long for a path, and of one that is no text in UTF-8, by which
+// alone std opens a file.
+const INVALID_ARGUMENT: i32 = 22;
+
+const NAME_TOO_LONG: i32 = 36;
+
+const ILLEGAL_BYTES: i32 = 84;
 
 #[derive(Clone, Copy)]
 pub(crate) struct Input {
@@ -7,66 +25,101 @@ pub(crate) struct Input {
     pub len: usize,
 }
 
-// A file that an argument names, to its end or until the buffer is full. One that cannot be read is said on standard error by what it is,
-// as its path may hold any bytes.
-pub(crate) fn read_argument(what: &[u8], i: usize, buffer: &mut [u8]) -> Input
-    ensures { result.len ≤ length buffer.new }
-{
-    let mut path = io::buffer();
-    let n = os::arg(i, &mut path);
-    if os::errno() != 0 {
-        os::fail(what);
-        return Input {
-            failed: true,
-            len: 0,
-        };
+// How many arguments the program was started with, its own name among them.
+pub(crate) fn argument_count(rt: &impl Env) -> usize {
+    for i in 0..usize::MAX {
+        if let Err(FillError::NotPresent) = rt.arg(i, &mut []) {
+            return i;
+        }
     }
-    read_file(what, &path[..n], buffer)
+    usize::MAX
 }
 
-fn read_file(what: &[u8], path: &[u8], buffer: &mut [u8]) -> Input
+// Room for a path.
+pub(crate) fn path_buffer() -> [u8; LONGEST_PATH] {
+    [0u8; LONGEST_PATH]
+}
+
+// Puts an argument at the start of the buffer, and returns its length; 0 where it is missing, or longer than the buffer.
+pub(crate) fn argument(rt: &impl Env, i: usize, buffer: &mut [u8]) -> usize
+    ensures { result ≤ length buffer.new }
+{
+    rt.arg(i, buffer).unwrap_or(0)
+}
+
+// A file that an argument names, to its end or until the buffer is full. One that cannot be read is said on standard error by what it is,
+// as its path may hold any bytes.
+pub(crate) fn read_argument(
+    rt: &(impl Env + Files + Eprint + AllocGlobal),
+    what: &str,
+    i: usize,
+    buffer: &mut [u8],
+) -> Input
     ensures { result.len ≤ length buffer.new }
 {
-    let fd = os::open_read(path);
-    if fd < 0 {
-        os::fail(what);
-        return Input {
-            failed: true,
-            len: 0,
-        };
+    let mut path = path_buffer();
+    match rt.arg(i, &mut path) {
+        Ok(n) => read_file(rt, what, &path[..n], buffer),
+        Err(error) => not_read(rt, what, &argument_error(error)),
     }
-    let input = read_all(fd, buffer);
-    if input.failed {
-        os::fail(what);
+}
+
+fn argument_error(error: FillError) -> io::Error {
+    io::Error::from_raw_os_error(match error {
+        FillError::NotPresent => INVALID_ARGUMENT,
+        FillError::TooLong => NAME_TOO_LONG,
+    })
+}
+
+fn read_file(
+    rt: &(impl Files + Eprint + AllocGlobal),
+    what: &str,
+    path: &[u8],
+    buffer: &mut [u8],
+) -> Input
+    ensures { result.len ≤ length buffer.new }
+{
+    let mut file = match open_file(rt, path) {
+        Ok(file) => file,
+        Err(error) => return not_read(rt, what, &error),
+    };
+    match read_all(&mut file, buffer) {
+        Ok(n) => Input {
+            failed: false,
+            len: n,
+        },
+        Err(error) => not_read(rt, what, &error),
     }
-    libc::close(fd);
-    input
+}
+
+fn open_file<R: Files>(rt: &R, path: &[u8]) -> io::Result<R::File> {
+    match str::from_utf8(path) {
+        Ok(text) => File::open(rt, text),
+        Err(_) => Err(io::Error::from_raw_os_error(ILLEGAL_BYTES)),
+    }
+}
+
+fn not_read(rt: &(impl Eprint + AllocGlobal), what: &str, error: &io::Error) -> Input
+    ensures { result.len ≡ 0 }
+{
+    fail(rt, what, error);
+    Input {
+        failed: true,
+        len: 0,
+    }
 }
 
 // A read that fails is no end of the file.
-fn read_all(fd: i32, buffer: &mut [u8]) -> Input
-    ensures { result.len ≤ length buffer.new }
+fn read_all(file: &mut impl Read, buffer: &mut [u8]) -> io::Result<usize>
+    ensures { IfOk result (λ n. n ≤ length buffer.new) }
 {
     let mut n = 0;
     while n < buffer.len() {
-        let got = libc::read(fd, &mut buffer[n..]);
-        if got < 0 {
-            return Input {
-                failed: true,
-                len: 0,
-            };
-        }
-        let more = io::count(got, &buffer[n..]);
+        let more = file.read(&mut buffer[n..])?;
         if more == 0 {
-            return Input {
-                failed: false,
-                len: n,
-            };
+            return Ok(n);
         }
         n += more;
     }
-    Input {
-        failed: false,
-        len: n,
-    }
+    Ok(n)
 }

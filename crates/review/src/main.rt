@@ -2,14 +2,16 @@
 #![tactic(auto)]
 
 mod files;
+mod standard_error;
 
 ghost use Rattle.std.specs.Prelude.{◌≡◌};
 ghost use Rattle.reviewed.specs.Review.{file_at, review_of, unread_of, or_no_room};
 
-use files::read_argument;
-use libc::{STDERR_FILENO, STDOUT_FILENO};
+use files::{argument, argument_count, path_buffer, read_argument};
 use refusal::MAX_TEXT;
 use reviewed::{review_text, unread_text};
+use standard_error::fail;
+use std::rt::{Env, Files};
 
 // One byte more than a policy and a build may have, so that 14 is seen; and room for a report.
 const BUFFER: usize = MAX_TEXT + 1;
@@ -31,55 +33,70 @@ fn blank() -> [u8; ROOM] {
     [0u8; ROOM]
 }
 
-fn main() {
-    if os::arg_count() <= CANDIDATES {
-        io::write_all(
-            STDERR_FILENO,
-            b"usage: review POLICY BASELINE CANDIDATE..\n",
-        );
+fn main(rt: HostRuntime) {
+    if argument_count(&rt) <= CANDIDATES {
+        let _ = eprintln!(rt; "usage: review POLICY BASELINE CANDIDATE..");
         return;
     }
     let mut text = unread();
-    let policy = read_argument(b"policy", POLICY, &mut text);
+    let policy = read_argument(&rt, "policy", POLICY, &mut text);
     let mut file = unread();
-    let baseline = read_argument(b"baseline", BASELINE, &mut file);
+    let baseline = read_argument(&rt, "baseline", BASELINE, &mut file);
     let n = policy.len;
     let m = baseline.len;
-    review_all(policy.failed, &text[..n], baseline.failed, &file[..m]);
+    review_all(&rt, policy.failed, &text[..n], baseline.failed, &file[..m]);
 }
 
 // A report for each candidate.
-fn review_all(no_text: bool, text: &[u8], no_baseline: bool, baseline: &[u8]) {
-    for i in CANDIDATES..os::arg_count() {
+fn review_all(
+    rt: &(impl Env + Files + Print + Eprint + AllocGlobal),
+    no_text: bool,
+    text: &[u8],
+    no_baseline: bool,
+    baseline: &[u8],
+) {
+    for i in CANDIDATES..argument_count(rt) {
         if no_text {
-            tell_unread(b"policy ", i);
+            tell_unread(rt, b"policy ", i);
         } else if no_baseline {
-            tell_unread(b"baseline ", i);
+            tell_unread(rt, b"baseline ", i);
         } else {
-            review_one(text, baseline, i);
+            review_one(rt, text, baseline, i);
         }
     }
 }
 
-fn review_one(text: &[u8], baseline: &[u8], i: usize) {
+fn review_one(
+    rt: &(impl Env + Files + Print + Eprint + AllocGlobal),
+    text: &[u8],
+    baseline: &[u8],
+    i: usize,
+) {
     let mut file = unread();
-    let input = read_argument(b"candidate", i, &mut file);
+    let input = read_argument(rt, "candidate", i, &mut file);
     if input.failed {
-        tell_unread(b"", i);
+        tell_unread(rt, b"", i);
         return;
     }
     let n = input.len;
-    review(text, baseline, i, &file[..n]);
+    review(rt, text, baseline, i, &file[..n]);
 }
 
-fn review<'a, 'b>(text: &'b [u8], baseline: &'a [u8], i: usize, candidate: &'a [u8]) {
-    let mut first = io::buffer();
-    let a = os::arg(POLICY, &mut first);
-    let mut second = io::buffer();
-    let b = os::arg(BASELINE, &mut second);
-    let mut third = io::buffer();
-    let c = os::arg(i, &mut third);
+fn review<'a, 'b>(
+    rt: &(impl Env + Print + Eprint + AllocGlobal),
+    text: &'b [u8],
+    baseline: &'a [u8],
+    i: usize,
+    candidate: &'a [u8],
+) {
+    let mut first = path_buffer();
+    let a = argument(rt, POLICY, &mut first);
+    let mut second = path_buffer();
+    let b = argument(rt, BASELINE, &mut second);
+    let mut third = path_buffer();
+    let c = argument(rt, i, &mut third);
     report(
+        rt,
         &first[..a],
         text,
         &second[..b],
@@ -90,6 +107,7 @@ fn review<'a, 'b>(text: &'b [u8], baseline: &'a [u8], i: usize, candidate: &'a [
 }
 
 fn report<'a, 'b, 'c, 'd, 'e>(
+    rt: &(impl Print + Eprint + AllocGlobal),
     text_path: &'b [u8],
     text: &'c [u8],
     baseline_path: &'d [u8],
@@ -108,6 +126,7 @@ fn report<'a, 'b, 'c, 'd, 'e>(
         &mut out,
     );
     print_report(
+        rt,
         text_path,
         text,
         baseline_path,
@@ -120,6 +139,7 @@ fn report<'a, 'b, 'c, 'd, 'e>(
 
 // Nothing else is printed of a candidate that was read: the bytes are what `review_of` says of the paths and the files.
 fn print_report(
+    rt: &(impl Print + Eprint + AllocGlobal),
     text_path: &[u8],
     text: &[u8],
     baseline_path: &[u8],
@@ -131,31 +151,31 @@ fn print_report(
     requires { bytes.now ≡ or_no_room 1310720 (review_of (file_at text_path.now text.now) (file_at baseline_path.now baseline.now)
         (file_at candidate_path.now candidate.now)) }
 {
-    write(bytes);
+    write(rt, bytes);
 }
 
 // Of a candidate that was not read, or whose policy or baseline was not.
-fn tell_unread(whose: &[u8], i: usize) {
-    let mut path = io::buffer();
-    let n = os::arg(i, &mut path);
-    tell_path(whose, &path[..n]);
+fn tell_unread(rt: &(impl Env + Print + Eprint + AllocGlobal), whose: &[u8], i: usize) {
+    let mut path = path_buffer();
+    let n = argument(rt, i, &mut path);
+    tell_path(rt, whose, &path[..n]);
 }
 
-fn tell_path(whose: &[u8], path: &[u8]) {
+fn tell_path(rt: &(impl Print + Eprint + AllocGlobal), whose: &[u8], path: &[u8]) {
     let mut out = blank();
     let n = unread_text(whose, path, &mut out);
-    print_unread(whose, path, &out[..n]);
+    print_unread(rt, whose, path, &out[..n]);
 }
 
 // Nor is anything else of such a candidate.
-fn print_unread(whose: &[u8], path: &[u8], bytes: &[u8])
+fn print_unread(rt: &(impl Print + Eprint + AllocGlobal), whose: &[u8], path: &[u8], bytes: &[u8])
     requires { bytes.now ≡ or_no_room 1310720 (unread_of whose.now path.now) }
 {
-    write(bytes);
+    write(rt, bytes);
 }
 
-fn write(bytes: &[u8]) {
-    if !io::write_all(STDOUT_FILENO, bytes) {
-        os::fail(b"standard output");
+fn write(rt: &(impl Print + Eprint + AllocGlobal), bytes: &[u8]) {
+    if let Err(error) = rt.write_all(bytes) {
+        fail(rt, "standard output", &error);
     }
 }

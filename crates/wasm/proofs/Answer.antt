@@ -1,6 +1,6 @@
 -- Laws of the public reader: 14 first, the header, the sections, and zeros after a refusal. Assumes nothing.
 use Prim.Native.Nat.{ℕ, ◌≤◌, ◌<◌}
-use mathlib.Core.Path.{◌≡◌, refl, sym, ◌∙◌, ap, subst}
+use mathlib.Core.Path.{◌≡◌, refl, ◌∙◌, ap, subst}
 use mathlib.Core.List.{List}
 use borrow.Author.Tests.{lt-ltb, le-ltb}
 use lib.ListN.{length}
@@ -12,7 +12,7 @@ use Rattle.table.specs.Walking.{walk_from}
 use Rattle.table.proofs.Telling.{told-stop, told-got}
 use Rattle.wasm.specs.declared.section.Counts.{Counts}
 use Rattle.wasm.specs.declared.Module.{Module}
-use Rattle.wasm.specs.Module.{Tables, counts_of, Sizes, Lent, Holds, no_tables, section_at, header_at, module_at, module_counted, module_of}
+use Rattle.wasm.specs.Module.{counts_of, Sizes, Lent, Holds, no_tables, section_at, header_at, module_at, module_counted, module_of}
 use Rattle.wasm.specs.Module.{tables_of, ModuleIs}
 
 module _ (b : List ℕ) (z : Sizes) where

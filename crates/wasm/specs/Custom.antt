@@ -1,6 +1,6 @@
 -- docs/RULES.md, "The module": custom sections, and the name section (Core Specification 2.0, appendix 7.4.1): subsection 0 names the
 -- module, the last wins; 1 adds function names. Assumes nothing.
-use Rattle.std.specs.Prelude.{ℕ, ◌+◌, ◌≡◌, true, false, List, [], ◌∷◌, length, eqb}
+use Rattle.std.specs.Prelude.{ℕ, ◌+◌, ◌≡◌, true, List, [], ◌∷◌, length, eqb}
 use Rattle.refusal.specs.Pick.{pick}
 use Rattle.refusal.specs.Said.{Said, accepted, refused_by, relocated, Got, got, onward}
 use Rattle.refusal.specs.declared.Part.{Part}

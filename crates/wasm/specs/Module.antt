@@ -1,5 +1,5 @@
 -- docs/RULES.md, "The module" (Core Specification 2.0, 5.5.2, 5.5.16): header, sections, and what the four tables hold. Assumes nothing.
-use Rattle.std.specs.Prelude.{ℕ, ◌+◌, ◌≡◌, true, false, List, [], ◌∷◌, ◌++◌, length, ltb, eqb}
+use Rattle.std.specs.Prelude.{ℕ, ◌≡◌, false, List, [], ◌∷◌, ◌++◌, length, ltb, eqb}
 use Rattle.refusal.specs.Pick.{pick}
 use Rattle.refusal.specs.Sizes.{file_limit}
 use Rattle.refusal.specs.Said.{Said, accepted, refused, refused_by, relocated, follow, Got, got, onward, offset, spot}

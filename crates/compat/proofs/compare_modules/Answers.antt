@@ -7,10 +7,10 @@ use Rattle.compat.proofs.Answering.{compared-bad, compares-whole, compares-stop,
 use Rattle.compat.proofs.compare_modules.Goals as goal
 
 pub compare_tables-requires : goal.compare_tables-requires
-compare_tables-requires c = (
-  both-good _ _ (sym c.check_both.ensures ∙ ap said_answer c.in-Accepted.is),
-  (cleared _ c.clear.ensures, cleared _ c.clear-2.ensures),
-)
+compare_tables-requires c = record {
+  good = both-good _ _ (sym c.check_both.ensures ∙ ap said_answer c.in-Accepted.is);
+  xd_value = (cleared _ c.clear.ensures, cleared _ c.clear-2.ensures);
+}
 
 pub returns-in-Refused : goal.returns-in-Refused
 returns-in-Refused c =

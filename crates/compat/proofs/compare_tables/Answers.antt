@@ -14,10 +14,10 @@ use Rattle.compat.proofs.compare_tables.Goals as goal
 
 pub list_exports-m-requires : goal.list_exports-m-requires
 list_exports-m-requires c =
-    let g = c.requires.0 in
+    let g = c.requires.good in
     let p = (exports-good _ _ _ g.0.exports-good).0 in
     let q = (exports-good _ _ _ g.1.exports-good).0 in
-    ((p, q, omega (arith, zeros-length key_limit)), (g.0.exports-good, g.1.exports-good))
+    record { nb_bound = (p, q, omega (arith, zeros-length key_limit)); nb_value = (g.0.exports-good, g.1.exports-good) }
 
 pub returns-then-capacity-m : goal.returns-then-capacity-m
 returns-then-capacity-m c =
@@ -27,7 +27,7 @@ returns-then-capacity-m c =
 
 pub list_needs-n-requires : goal.list_needs-n-requires
 list_needs-n-requires c =
-    let g = c.requires.0 in
+    let g = c.requires.good in
     let p = imports-good _ _ _ g.0.imports-good in
     let q = imports-good _ _ _ g.1.imports-good in
     (p, q, omega (arith, zeros-length key_limit))
@@ -44,7 +44,7 @@ slice_bounds-lay_exports-end c = sym (length-take-le _ _ c.list_exports-m.ensure
 
 pub lay_exports-requires : goal.lay_exports-requires
 lay_exports-requires c = (
-  c.requires.1.0,
+  c.requires.xd_value.0,
   rw (length-take-le _ _ c.list_exports-m.ensures.within)
       (rows_fit _ (width 8) (limit 8) _ (omega (arith, c.capacity.ensures, c.if-capacity-m.false))),
 )
@@ -54,7 +54,7 @@ slice_bounds-lay_needs-end c = sym (length-take-le _ _ c.list_needs-n.ensures.wi
 
 pub lay_needs-requires : goal.lay_needs-requires
 lay_needs-requires c = (
-  c.requires.1.1,
+  c.requires.xd_value.1,
   rw (length-take-le _ _ c.list_needs-n.ensures.within)
       (rows_fit _ (width 9) (limit 9) _ (omega (arith, c.capacity-2.ensures, c.if-capacity-n.false))),
 )

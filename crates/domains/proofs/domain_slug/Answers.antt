@@ -1,5 +1,4 @@
 -- `domain_slug` meets its contract. Assumes nothing.
-use borrow.Author.Rules.{rules}
 use Rattle.refusal.specs.Slug.{slug_of, padded}
 use Rattle.domains.specs.Domain.{slug, slugs}
 use Rattle.domains.proofs.domain_slug.Goals as goal

@@ -25,7 +25,7 @@ try_quick-requires c =
 pub returns-then-try_quick : goal.returns-then-try_quick
 returns-then-try_quick c =
     let a = c.args in
-    let y = not-false _ c.if-not-has_room.false in
+    let y = c.if-not-has_room.false in
     whole-quick a.first.now a.second.now a.keys.now _ a.nb (a.nb + a.nc) a.every
     (c.try_quick.ensures.done c.if-try_quick.true) (omega arith) c.columns.ensures c.sort.ensures
     (room-list _ _ _ _ c.has_room.ensures y) (sym c.has_room.ensures ∙ y)
@@ -34,4 +34,4 @@ pub returns : goal.returns
 returns c =
     let a = c.args in
     whole-slow a.first.now a.second.now a.nb (a.nb + a.nc) a.every (c.try_quick.ensures.kept c.if-try_quick.false)
-    (room_as _ refl c.try_quick.kept.1.1.1.1.1.0 c.try_quick.kept.1.1.1.1.1.1.0 refl) c.list_by_rank.ensures
+    (room_as _ refl c.try_quick.auto.prints c.try_quick.auto.found refl) c.list_by_rank.ensures

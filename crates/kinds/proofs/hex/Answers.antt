@@ -1,5 +1,4 @@
 -- `kinds::hex` meets its contract. Assumes nothing.
-use borrow.Author.Rules.{rules}
 use borrow.Author.Tests.{lt-ltb, le-ltb}
 use Rattle.kinds.proofs.hex.Goals as goal
 

@@ -1,4 +1,5 @@
 -- `kinds::kind_of` meets its contract. Assumes nothing.
+use native.Mathlib.Omega.{arith}
 use borrow.Author.Tests.{ne_eqb}
 use Rattle.kinds.specs.Kinds.{kind_of}
 use Rattle.kinds.proofs.kind_of.Goals as goal
@@ -21,4 +22,6 @@ returns-in-3 c = simp c.in-3.is
 
 pub returns-in_default : goal.returns-in_default
 unfolding kind_of
-returns-in_default c = let q = c.in_default.in_default-own.rest in simp (ne_eqb _ _ q.0.0.0.1, ne_eqb _ _ q.0.0.1, ne_eqb _ _ q.0.1, ne_eqb _ _ q.1)
+returns-in_default c =
+    let b = c.args.b in
+    simp (ne_eqb b 0 (omega arith), ne_eqb b 1 (omega arith), ne_eqb b 2 (omega arith), ne_eqb b 3 (omega arith))

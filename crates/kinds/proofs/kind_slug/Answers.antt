@@ -1,6 +1,5 @@
 -- `kinds::kind_slug` meets its contract. Assumes nothing.
 use mathlib.Core.Path.{sym, ◌∙◌, ap}
-use borrow.Author.Rules.{rules}
 use Rattle.refusal.specs.Slug.{slug_of}
 use Rattle.kinds.specs.Kinds.{kind_word}
 use Rattle.kinds.specs.declared.ExternalKind.{ExternalKind}

@@ -1,7 +1,7 @@
 -- `kinds::section_name` meets its contract. Assumes nothing.
 use Prim.Native.Nat.{ℕ}
 use mathlib.Core.Path.{sym, ◌∙◌, ap}
-use borrow.Author.Rules.{rules}
+use native.Mathlib.Omega.{arith}
 use Rattle.refusal.specs.Slug.{slug_of}
 use Rattle.kinds.specs.Kinds.{section_words, section_word}
 use Rattle.kinds.proofs.Words.{no_word}
@@ -64,10 +64,4 @@ unfolding section_word section_words
 returns-in-13 c = c.slug_of-in-13.ensures ∙ ap (λ (i : ℕ). slug_of (section_word i)) (sym c.in-13.is)
 
 pub returns-in_default : goal.returns-in_default
-returns-in_default c =
-    let q = c.in_default.in_default-own.rest in
-    c.slug_of-in_default.ensures
-    ∙ ap slug_of (sym (no_word _ q.0.0.0.0.0.0.0.0.0.0.0.0.0.1 q.0.0.0.0.0.0.0.0.0.0.0.0.1
-    q.0.0.0.0.0.0.0.0.0.0.0.1 q.0.0.0.0.0.0.0.0.0.0.1 q.0.0.0.0.0.0.0.0.0.1
-    q.0.0.0.0.0.0.0.0.1 q.0.0.0.0.0.0.0.1 q.0.0.0.0.0.0.1 q.0.0.0.0.0.1 q.0.0.0.0.1
-    q.0.0.0.1 q.0.0.1 q.0.1 q.1))
+returns-in_default c = c.slug_of-in_default.ensures ∙ ap slug_of (sym (no_word c.args.id (omega arith)))

@@ -1,6 +1,5 @@
 -- `obeyed_by` meets its contract. Assumes nothing.
 use native.Mathlib.Omega.{arith}
-use borrow.Author.Rules.{rules}
 use Rattle.policy.proofs.obeyed_by.Goals as goal
 
 pub returns-in-Called : goal.returns-in-Called

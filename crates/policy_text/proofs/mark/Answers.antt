@@ -1,5 +1,4 @@
 -- `mark` meets its contract. Assumes nothing.
-use borrow.Author.Rules.{rules}
 use Rattle.policy_text.proofs.WriteLaws.{marked-none, marked-some}
 use Rattle.policy_text.proofs.mark.Goals as goal
 

@@ -1,5 +1,4 @@
 -- `put_form` meets its contract. Assumes nothing.
-use borrow.Author.Rules.{rules}
 use Rattle.policy.specs.View.{says}
 use Rattle.output.proofs.ByteLaws.{wrote-put, wrote_then}
 use Rattle.policy_text.proofs.WriteLaws.{form-text}

@@ -1,5 +1,4 @@
 -- `put_line` meets its contract. Assumes nothing.
-use borrow.Author.Rules.{rules}
 use Rattle.output.proofs.ByteLaws.{wrote-put, wrote_then}
 use Rattle.policy_text.proofs.put_line.Goals as goal
 

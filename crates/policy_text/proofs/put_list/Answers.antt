@@ -1,9 +1,8 @@
 -- `put_list` meets its contract. Assumes nothing.
-use Prim.Native.Nat.{◌+◌, ◌-◌, ◌≤◌}
+use Prim.Native.Nat.{◌+◌, ◌≤◌}
 use native.Mathlib.Omega.{arith}
 use lib.ListN.{length}
-use borrow.Author.Rules.{rules}
-use Rattle.policy_text.proofs.WriteLaws.{Going, going-first, going_next, going-last, comma-near, TokenAt, token-at, whole-list}
+use Rattle.policy_text.proofs.WriteLaws.{going-first, going_next, going-last, comma-near, TokenAt, token-at, whole-list}
 use Rattle.policy_text.proofs.put_list.Goals as goal
 
 pub loop-i-init : goal.loop-i-init

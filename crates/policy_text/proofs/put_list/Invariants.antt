@@ -1,8 +1,6 @@
 use Prim.Native.Nat.{◌+◌, ◌-◌, ◌≤◌}
-use native.Mathlib.Omega.{arith}
 use lib.ListN.{length}
-use borrow.Author.Rules.{rules}
-use Rattle.policy_text.proofs.WriteLaws.{Going, going-first, going_next, going-last, comma-near, TokenAt, token-at, whole-list}
+use Rattle.policy_text.proofs.WriteLaws.{Going}
 use Rattle.policy_text.proofs.put_list.Given as goal
 
 abbrev pub invariant-loop-i : goal.invariant-loop-i

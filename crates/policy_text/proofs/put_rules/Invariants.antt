@@ -1,9 +1,6 @@
 use Prim.Native.Nat.{◌-◌, ◌≤◌}
-use native.Mathlib.Omega.{arith}
-use lib.ListN.{get_or}
 use Rattle.policy.specs.View.{seven}
-use Rattle.policy.specs.Eight.{no_slot}
-use Rattle.policy_text.proofs.WriteLaws.{Turning, turning-first, turning-next, turning-last, seven-next, seven-end}
+use Rattle.policy_text.proofs.WriteLaws.{Turning}
 use Rattle.policy_text.proofs.put_rules.Given as goal
 
 abbrev pub invariant-loop-d : goal.invariant-loop-d

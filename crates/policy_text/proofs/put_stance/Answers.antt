@@ -1,5 +1,4 @@
 -- `put_stance` meets its contract. Assumes nothing.
-use borrow.Author.Rules.{rules}
 use Rattle.output.proofs.ByteLaws.{wrote-put}
 use Rattle.policy_text.specs.Writer.{stance_word}
 use Rattle.policy_text.proofs.put_stance.Goals as goal

@@ -3,7 +3,6 @@ use mathlib.Core.Path.{◌≡◌, ap, ◌∙◌}
 use mathlib.Core.Bool.{true, false}
 use mathlib.Core.List.{◌++◌}
 use native.Mathlib.Omega.{arith}
-use borrow.Author.Rules.{rules}
 use Rattle.output.proofs.ByteLaws.{wrote_none, wrote-put, wrote_then}
 use Rattle.policy_text.specs.Writing.{separator, token_form}
 use Rattle.policy_text.proofs.WriteLaws.{token-none, token-some}

@@ -1,6 +1,5 @@
 -- `write_form` meets its contract. Assumes nothing.
 use native.Mathlib.Omega.{arith}
-use borrow.Author.Rules.{rules}
 use Rattle.output.proofs.ByteLaws.{form-full, form-done}
 use Rattle.policy_text.proofs.WriteLaws.{form-few}
 use Rattle.policy_text.proofs.write_form.Goals as goal

@@ -1,6 +1,5 @@
 -- `write_policy` meets its contract. Assumes nothing.
 use mathlib.Core.Path.{sym, ap, ◌∙◌}
-use borrow.Author.Rules.{rules}
 use Rattle.refusal.specs.Said.{said_answer}
 use Rattle.policy.proofs.EightLaws.{tested}
 use Rattle.output.proofs.ByteLaws.{formed-long}

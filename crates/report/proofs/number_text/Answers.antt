@@ -1,5 +1,4 @@
 -- `number_text` meets its contract. Assumes nothing.
-use borrow.Author.Rules.{rules}
 use Rattle.report.specs.Line.{empty}
 use Rattle.report.proofs.Lines.{then, whole}
 use Rattle.report.proofs.number_text.Goals as goal

@@ -1,5 +1,4 @@
 -- `refused_line` meets its contract. Assumes nothing.
-use borrow.Author.Rules.{rules}
 use Rattle.report.specs.Line.{empty}
 use Rattle.report.specs.Texts.{refused_text}
 use Rattle.report.proofs.Lines.{then, whole}

@@ -6,11 +6,7 @@ use Rattle.report.proofs.Printing.{within}
 use Rattle.reviewed.proofs.Rooms.{room-printed}
 use Rattle.review.proofs.report.Goals as goal
 
-pub slice_bounds-out-end : goal.slice_bounds-out-end
-slice_bounds-out-end c = within _ _ c.review_text-n.ensures
 
-pub slice_bounds-print_report-end : goal.slice_bounds-print_report-end
-slice_bounds-print_report-end c = sym (length-take-le _ _ (within _ _ c.review_text-n.ensures))
 
 pub print_report-requires : goal.print_report-requires
-print_report-requires c = room-printed 1310720 _ _ c.review_text-n.ensures (search rules)
+print_report-requires g c = room-printed 1310720 _ _ c.review_text-n.ensures (search rules)

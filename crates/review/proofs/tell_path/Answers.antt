@@ -6,11 +6,7 @@ use Rattle.report.proofs.Printing.{within}
 use Rattle.reviewed.proofs.Rooms.{room-printed}
 use Rattle.review.proofs.tell_path.Goals as goal
 
-pub slice_bounds-out-end : goal.slice_bounds-out-end
-slice_bounds-out-end c = within _ _ c.unread_text-n.ensures
 
-pub slice_bounds-print_unread-end : goal.slice_bounds-print_unread-end
-slice_bounds-print_unread-end c = sym (length-take-le _ _ (within _ _ c.unread_text-n.ensures))
 
 pub print_unread-requires : goal.print_unread-requires
-print_unread-requires c = room-printed 1310720 _ _ c.unread_text-n.ensures (search rules)
+print_unread-requires g c = room-printed 1310720 _ _ c.unread_text-n.ensures (search rules)

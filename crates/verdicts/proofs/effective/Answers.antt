@@ -1,6 +1,5 @@
 -- `effective` meets its contract. Assumes nothing.
 use mathlib.Core.Path.{ap, ◌∙◌}
-use borrow.Author.Rules.{rules}
 use Rattle.verdicts.specs.Evaluate.{effective_of}
 use Rattle.domains.proofs.DomainLaws.{number_small}
 use Rattle.verdicts.proofs.effective.Goals as goal

@@ -1,6 +1,5 @@
 -- `evaluate_domains` meets its contract. Assumes nothing.
 use mathlib.Core.Path.{sym, ap, ◌∙◌}
-use borrow.Author.Rules.{rules}
 use Rattle.refusal.specs.Said.{said_answer}
 use Rattle.verdicts.proofs.EvalLaws.{domains-good, evaluated-good, evaluated-bad}
 use Rattle.verdicts.proofs.evaluate_domains.Goals as goal

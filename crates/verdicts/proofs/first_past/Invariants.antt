@@ -1,9 +1,7 @@
 use mathlib.Core.Path.{◌≡◌}
 use Prim.Native.Nat.{◌+◌, ◌-◌, ◌≤◌}
-use native.Mathlib.Omega.{arith}
 use lib.ListN.{take, drop}
 use Rattle.verdicts.specs.Evaluate.{first_past}
-use Rattle.verdicts.proofs.EvalLaws.{past-here, past-on, past_end}
 use Rattle.verdicts.proofs.first_past.Given as goal
 
 abbrev pub invariant-loop-i : goal.invariant-loop-i

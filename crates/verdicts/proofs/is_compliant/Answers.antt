@@ -1,5 +1,4 @@
 -- `is_compliant` meets its contract. Assumes nothing.
-use borrow.Author.Rules.{rules}
 use Rattle.verdicts.specs.Evaluate.{compliant}
 use Rattle.verdicts.proofs.is_compliant.Goals as goal
 

@@ -2,7 +2,6 @@
 use mathlib.Core.Path.{refl}
 use mathlib.Core.List.{map}
 use native.Mathlib.Omega.{arith}
-use borrow.Author.Rules.{rules}
 use Rattle.verdicts.specs.Evaluate.{violates}
 use Rattle.verdicts.proofs.MemberLaws.{firsts-most}
 use Rattle.verdicts.proofs.EvalLaws.{judge-as}

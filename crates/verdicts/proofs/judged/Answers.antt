@@ -1,5 +1,4 @@
 -- `judged` meets its contract. Assumes nothing.
-use borrow.Author.Rules.{rules}
 use lib.ListN.{take}
 use Rattle.verdicts.proofs.EvalLaws.{judged-as}
 use Rattle.verdicts.proofs.judged.Goals as goal

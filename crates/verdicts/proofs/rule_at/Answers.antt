@@ -1,5 +1,4 @@
 -- `rule_at` meets its contract. Assumes nothing.
-use borrow.Author.Rules.{rules}
 use Rattle.verdicts.specs.Evaluate.{effective_of}
 use Rattle.verdicts.proofs.rule_at.Goals as goal
 

@@ -1,9 +1,7 @@
 -- `tally` meets its contract. Assumes nothing.
 use mathlib.Core.Path.{◌≡◌}
-use Prim.Native.Nat.{◌-◌, ◌≤◌}
 use native.Mathlib.Omega.{arith}
-use lib.ListN.{take}
-use Rattle.verdicts.proofs.EvalLaws.{counts, counts-none, counts-next, counts-most}
+use Rattle.verdicts.proofs.EvalLaws.{counts-none, counts-next, counts-most}
 use Rattle.verdicts.proofs.tally.Goals as goal
 
 pub loop-i-init : goal.loop-i-init

@@ -1,8 +1,7 @@
 use mathlib.Core.Path.{◌≡◌}
 use Prim.Native.Nat.{◌-◌, ◌≤◌}
-use native.Mathlib.Omega.{arith}
 use lib.ListN.{take}
-use Rattle.verdicts.proofs.EvalLaws.{counts, counts-none, counts-next, counts-most}
+use Rattle.verdicts.proofs.EvalLaws.{counts}
 use Rattle.verdicts.proofs.tally.Given as goal
 
 abbrev pub invariant-loop-i : goal.invariant-loop-i

@@ -1,5 +1,4 @@
 -- `test_domains` meets its contract. Assumes nothing.
-use borrow.Author.Rules.{rules}
 use Rattle.verdicts.proofs.EvalLaws.{test-room, room_fits, test-row, test-rows}
 use Rattle.verdicts.proofs.test_domains.Goals as goal
 

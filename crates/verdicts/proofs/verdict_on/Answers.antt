@@ -1,5 +1,4 @@
 -- `verdict_on` meets its contract. Assumes nothing.
-use borrow.Author.Rules.{rules}
 use Rattle.verdicts.proofs.verdict_on.Goals as goal
 
 pub returns : goal.returns

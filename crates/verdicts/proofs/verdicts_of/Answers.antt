@@ -1,5 +1,4 @@
 -- `verdicts_of` meets its contract. Assumes nothing.
-use borrow.Author.Rules.{rules}
 use Rattle.verdicts.proofs.verdicts_of.Goals as goal
 
 pub returns : goal.returns

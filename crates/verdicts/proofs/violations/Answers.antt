@@ -1,12 +1,11 @@
 -- `violations` meets its contract. Assumes nothing.
 use mathlib.Core.Path.{◌≡◌, refl, ap, ◌∙◌}
 use mathlib.Core.List.{map}
-use Prim.Native.Nat.{◌+◌, ◌*◌, ◌-◌, ◌^◌, ◌≤◌}
+use Prim.Native.Nat.{◌+◌, ◌*◌, ◌^◌}
 use native.Mathlib.Omega.{arith}
-use borrow.Author.Rules.{rules}
 use Rattle.refusal.specs.Pick.{one_if}
 use Rattle.verdicts.specs.Evaluate.{violates}
-use Rattle.verdicts.proofs.MemberLaws.{Set, set-none, set_next}
+use Rattle.verdicts.proofs.MemberLaws.{set-none, set_next}
 use Rattle.verdicts.proofs.EvalLaws.{flag_at}
 use Rattle.verdicts.proofs.violations.Goals as goal
 

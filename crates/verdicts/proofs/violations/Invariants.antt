@@ -1,12 +1,8 @@
-use mathlib.Core.Path.{◌≡◌, refl, ap, ◌∙◌}
+use mathlib.Core.Path.{◌≡◌}
 use mathlib.Core.List.{map}
-use Prim.Native.Nat.{◌+◌, ◌*◌, ◌-◌, ◌^◌, ◌≤◌}
-use native.Mathlib.Omega.{arith}
-use borrow.Author.Rules.{rules}
-use Rattle.refusal.specs.Pick.{one_if}
+use Prim.Native.Nat.{◌-◌, ◌≤◌}
 use Rattle.verdicts.specs.Evaluate.{violates}
-use Rattle.verdicts.proofs.MemberLaws.{Set, set-none, set_next}
-use Rattle.verdicts.proofs.EvalLaws.{flag_at}
+use Rattle.verdicts.proofs.MemberLaws.{Set}
 use Rattle.verdicts.proofs.violations.Given as goal
 
 abbrev pub invariant-loop-i : goal.invariant-loop-i

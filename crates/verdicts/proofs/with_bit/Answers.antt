@@ -1,7 +1,6 @@
 -- `with_bit` meets its contract. Assumes nothing.
 use Prim.Native.Nat.{◌-◌}
 use native.Mathlib.Omega.{arith}
-use borrow.Author.Rules.{rules}
 use Rattle.verdicts.proofs.MemberLaws.{with-bit}
 use Rattle.verdicts.proofs.with_bit.Goals as goal
 

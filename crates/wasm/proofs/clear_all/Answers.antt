@@ -1,5 +1,4 @@
 -- `wasm::clear_all` meets its contract. Assumes nothing.
-use borrow.Author.Rules.{rules}
 use Rattle.table.specs.Table.{cells}
 use Rattle.wasm.specs.Module.{no_tables}
 use Rattle.wasm.proofs.clear_all.Goals as goal

@@ -1,7 +1,6 @@
 -- `wasm::read_module` meets its contract: after a refusal every table is zero again. Assumes nothing.
 use mathlib.Core.Path.{◌≡◌, sym, ◌∙◌, ap, subst}
 use native.Mathlib.Omega.{arith}
-use borrow.Author.Rules.{rules}
 use Rattle.wasm.specs.Module.{Sizes, lend, sizes, Holds, no_tables}
 use Rattle.wasm.specs.Module.{said_header, why_header, said_counts}
 use Rattle.wasm.proofs.Framing.{sizes-same}
@@ -26,30 +25,6 @@ read_sections-requires c =
       holds = subst (λ (z : Sizes). Holds (lend l.sections l.imports l.exports l.names) z no_tables) (sym (kept)) c.clear_all.ensures;
     }
 
-pub shape_of-sections-in-Read-read_sections : goal.shape_of-sections-in-Read-read_sections
-shape_of-sections-in-Read-read_sections c =
-    let kept : let l = c.clear_all.new in let a = c.args in sizes l.sections l.imports l.exports l.names ≡ sizes a.sections.now a.imports.now a.exports.now a.names.now = let k = c.clear_all.auto in sizes-same k.sections k.imports k.exports k.names in
-    let kept-through : let l = c.read_sections.new in let a = c.args in sizes l.sections l.imports l.exports l.names ≡ sizes a.sections.now a.imports.now a.exports.now a.names.now = let k = c.read_sections.auto in sizes-same k.sections k.imports k.exports k.names ∙ kept in
-    ap (λ (z : Sizes). z.sections) (kept-through)
-
-pub shape_of-imports-in-Read-read_sections : goal.shape_of-imports-in-Read-read_sections
-shape_of-imports-in-Read-read_sections c =
-    let kept : let l = c.clear_all.new in let a = c.args in sizes l.sections l.imports l.exports l.names ≡ sizes a.sections.now a.imports.now a.exports.now a.names.now = let k = c.clear_all.auto in sizes-same k.sections k.imports k.exports k.names in
-    let kept-through : let l = c.read_sections.new in let a = c.args in sizes l.sections l.imports l.exports l.names ≡ sizes a.sections.now a.imports.now a.exports.now a.names.now = let k = c.read_sections.auto in sizes-same k.sections k.imports k.exports k.names ∙ kept in
-    ap (λ (z : Sizes). z.imports) (kept-through)
-
-pub shape_of-exports-in-Read-read_sections : goal.shape_of-exports-in-Read-read_sections
-shape_of-exports-in-Read-read_sections c =
-    let kept : let l = c.clear_all.new in let a = c.args in sizes l.sections l.imports l.exports l.names ≡ sizes a.sections.now a.imports.now a.exports.now a.names.now = let k = c.clear_all.auto in sizes-same k.sections k.imports k.exports k.names in
-    let kept-through : let l = c.read_sections.new in let a = c.args in sizes l.sections l.imports l.exports l.names ≡ sizes a.sections.now a.imports.now a.exports.now a.names.now = let k = c.read_sections.auto in sizes-same k.sections k.imports k.exports k.names ∙ kept in
-    ap (λ (z : Sizes). z.exports) (kept-through)
-
-pub shape_of-names-in-Read-read_sections : goal.shape_of-names-in-Read-read_sections
-shape_of-names-in-Read-read_sections c =
-    let kept : let l = c.clear_all.new in let a = c.args in sizes l.sections l.imports l.exports l.names ≡ sizes a.sections.now a.imports.now a.exports.now a.names.now = let k = c.clear_all.auto in sizes-same k.sections k.imports k.exports k.names in
-    let kept-through : let l = c.read_sections.new in let a = c.args in sizes l.sections l.imports l.exports l.names ≡ sizes a.sections.now a.imports.now a.exports.now a.names.now = let k = c.read_sections.auto in sizes-same k.sections k.imports k.exports k.names ∙ kept in
-    ap (λ (z : Sizes). z.names) (kept-through)
-
 pub returns-in-Read-read_sections : goal.returns-in-Read-read_sections
 returns-in-Read-read_sections c =
     let kept : let l = c.clear_all.new in let a = c.args in sizes l.sections l.imports l.exports l.names ≡ sizes a.sections.now a.imports.now a.exports.now a.names.now = let k = c.clear_all.auto in sizes-same k.sections k.imports k.exports k.names in
@@ -57,34 +32,6 @@ returns-in-Read-read_sections c =
     (sym c.read_header-one.ensures ∙ ap said_header c.in-Read.is) _
     (kept) _
     c.read_sections.ensures _ _ _ (ap said_counts c.in-Read-read_sections.is) c.module_of.ensures
-
-pub shape_of-sections-in-Refused : goal.shape_of-sections-in-Refused
-shape_of-sections-in-Refused c =
-    let kept : let l = c.clear_all.new in let a = c.args in sizes l.sections l.imports l.exports l.names ≡ sizes a.sections.now a.imports.now a.exports.now a.names.now = let k = c.clear_all.auto in sizes-same k.sections k.imports k.exports k.names in
-    let kept-through : let l = c.read_sections.new in let a = c.args in sizes l.sections l.imports l.exports l.names ≡ sizes a.sections.now a.imports.now a.exports.now a.names.now = let k = c.read_sections.auto in sizes-same k.sections k.imports k.exports k.names ∙ kept in
-    c.clear_all-in-Refused.auto.sections ∙ ap
-    (λ (z : Sizes). z.sections) (kept-through)
-
-pub shape_of-imports-in-Refused : goal.shape_of-imports-in-Refused
-shape_of-imports-in-Refused c =
-    let kept : let l = c.clear_all.new in let a = c.args in sizes l.sections l.imports l.exports l.names ≡ sizes a.sections.now a.imports.now a.exports.now a.names.now = let k = c.clear_all.auto in sizes-same k.sections k.imports k.exports k.names in
-    let kept-through : let l = c.read_sections.new in let a = c.args in sizes l.sections l.imports l.exports l.names ≡ sizes a.sections.now a.imports.now a.exports.now a.names.now = let k = c.read_sections.auto in sizes-same k.sections k.imports k.exports k.names ∙ kept in
-    c.clear_all-in-Refused.auto.imports ∙ ap
-    (λ (z : Sizes). z.imports) (kept-through)
-
-pub shape_of-exports-in-Refused : goal.shape_of-exports-in-Refused
-shape_of-exports-in-Refused c =
-    let kept : let l = c.clear_all.new in let a = c.args in sizes l.sections l.imports l.exports l.names ≡ sizes a.sections.now a.imports.now a.exports.now a.names.now = let k = c.clear_all.auto in sizes-same k.sections k.imports k.exports k.names in
-    let kept-through : let l = c.read_sections.new in let a = c.args in sizes l.sections l.imports l.exports l.names ≡ sizes a.sections.now a.imports.now a.exports.now a.names.now = let k = c.read_sections.auto in sizes-same k.sections k.imports k.exports k.names ∙ kept in
-    c.clear_all-in-Refused.auto.exports ∙ ap
-    (λ (z : Sizes). z.exports) (kept-through)
-
-pub shape_of-names-in-Refused : goal.shape_of-names-in-Refused
-shape_of-names-in-Refused c =
-    let kept : let l = c.clear_all.new in let a = c.args in sizes l.sections l.imports l.exports l.names ≡ sizes a.sections.now a.imports.now a.exports.now a.names.now = let k = c.clear_all.auto in sizes-same k.sections k.imports k.exports k.names in
-    let kept-through : let l = c.read_sections.new in let a = c.args in sizes l.sections l.imports l.exports l.names ≡ sizes a.sections.now a.imports.now a.exports.now a.names.now = let k = c.read_sections.auto in sizes-same k.sections k.imports k.exports k.names ∙ kept in
-    c.clear_all-in-Refused.auto.names ∙ ap
-    (λ (z : Sizes). z.names) (kept-through)
 
 pub returns-in-Refused : goal.returns-in-Refused
 returns-in-Refused c =

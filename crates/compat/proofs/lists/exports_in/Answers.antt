@@ -17,13 +17,13 @@ pub overflow_add-nb : goal.overflow_add-nb
 overflow_add-nb c = omega arith
 
 pub fill_exports-requires : goal.fill_exports-requires
-fill_exports-requires c = (c.requires.keys_value.0.0, c.requires.keys_value.0.1)
+fill_exports-requires c = (c.requires.keys_value.0, c.requires.keys_value.1)
 
 pub returns : goal.returns
 returns c =
     let rows : List ℕ = let a = c.args in table_of (length a.keys.now) (export_keys a.be.now a.nb a.ce.now) (a.nb + a.nc) in
     let a = c.args in
     lists-numbers (rw c.fill_exports.ensures at c.list_missing.ensures.0)
-    (room-yes _ _ _ _ c.requires.keys_value.0.2 c.requires.keys_value.0.3 c.requires.nb_bound.2)
+    (room-yes _ _ _ _ c.requires.keys_value.2 c.requires.keys_value.3 c.requires.nb_bound.2)
     (omega (arith, c.requires.nb_bound.2, missing-few a.b.now a.c.now (rows) a.nb (a.nb + a.nc) (omega arith) true))
-    c.rows_of.ensures (exports-listed _ _ _ _ _ _ (exports-good _ _ _ c.requires.keys_value.1.0).1 (exports-good _ _ _ c.requires.keys_value.1.1).1 _)
+    c.rows_of.ensures (exports-listed _ _ _ _ _ _ (exports-good _ _ _ c.requires.nb_value.0).1 (exports-good _ _ _ c.requires.nb_value.1).1 _)

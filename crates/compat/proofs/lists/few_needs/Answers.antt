@@ -5,15 +5,17 @@ use Rattle.keyed.proofs.Filling.{zeros-laid, zeros-length}
 use Rattle.compat.proofs.lists.few_needs.Goals as goal
 
 pub needs_in-requires : goal.needs_in-requires
-needs_in-requires c = (
-  (c.requires.0, c.requires.1, c.requires.3),
-  (
-    zeros-laid 384,
-    omega (arith, zeros-length 384, c.requires.2),
-    omega (arith, zeros-length 64, c.requires.2),
-    omega (arith, zeros-length 64, c.requires.2),
-  ),
-)
+needs_in-requires c =
+    let b = c.requires in
+    record {
+      nb_bound = (b.0, b.1, b.3);
+      keys_value = (
+        zeros-laid 384,
+        omega (arith, zeros-length 384, b.2),
+        omega (arith, zeros-length 64, b.2),
+        omega (arith, zeros-length 64, b.2),
+      );
+    }
 
 pub returns : goal.returns
 returns c = c.needs_in.ensures

@@ -8,24 +8,26 @@ pub overflow_add-nb : goal.overflow_add-nb
 overflow_add-nb c = omega arith
 
 pub few_exports-requires : goal.few_exports-requires
-few_exports-requires c = ((c.requires.0.0, c.requires.0.1, c.if-nb-nc-le-FEW_KEYS.true, c.requires.0.2), c.requires.1)
+few_exports-requires c =
+    let b = c.requires.nb_bound in
+    record { nb_bound = (b.0, b.1, c.if-nb-nc-le-FEW_KEYS.true, b.2); nb_value = c.requires.nb_value }
 
 pub returns-then-nb-nc-le-FEW_KEYS : goal.returns-then-nb-nc-le-FEW_KEYS
 returns-then-nb-nc-le-FEW_KEYS c = c.few_exports.ensures
 
 pub exports_in-requires : goal.exports_in-requires
-exports_in-requires c = (
-  (c.requires.0.0, c.requires.0.1, c.requires.0.2),
-  (
-    (
-      zeros-laid 12288,
-      omega (arith, zeros-length 12288, c.requires.0),
-      omega (arith, zeros-length 2048, c.requires.0),
-      omega (arith, zeros-length 2048, c.requires.0),
-    ),
-    c.requires.1,
-  ),
-)
+exports_in-requires c =
+    let b = c.requires.nb_bound in
+    record {
+      nb_bound = b;
+      keys_value = (
+        zeros-laid 12288,
+        omega (arith, zeros-length 12288, b),
+        omega (arith, zeros-length 2048, b),
+        omega (arith, zeros-length 2048, b),
+      );
+      nb_value = c.requires.nb_value;
+    }
 
 pub returns : goal.returns
 returns c = c.exports_in.ensures

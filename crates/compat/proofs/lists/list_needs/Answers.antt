@@ -14,15 +14,17 @@ pub returns-then-nb-nc-le-FEW_KEYS : goal.returns-then-nb-nc-le-FEW_KEYS
 returns-then-nb-nc-le-FEW_KEYS c = c.few_needs.ensures
 
 pub needs_in-requires : goal.needs_in-requires
-needs_in-requires c = (
-  (c.requires.0, c.requires.1, c.requires.2),
-  (
-    zeros-laid 12288,
-    omega (arith, zeros-length 12288, c.requires),
-    omega (arith, zeros-length 2048, c.requires),
-    omega (arith, zeros-length 2048, c.requires),
-  ),
-)
+needs_in-requires c =
+    let b = c.requires in
+    record {
+      nb_bound = b;
+      keys_value = (
+        zeros-laid 12288,
+        omega (arith, zeros-length 12288, b),
+        omega (arith, zeros-length 2048, b),
+        omega (arith, zeros-length 2048, b),
+      );
+    }
 
 pub returns : goal.returns
 returns c = c.needs_in.ensures

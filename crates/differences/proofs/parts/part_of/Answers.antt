@@ -19,7 +19,7 @@ returns-then-n-row c =
     let e : absent = past-count _ _ _ _ _ _ c.if-n-row.true in (
       gone-bytes _ _ _ _ _ _ e,
       gone-block _ _ _ _ _ _ e _ _,
-      omega (arith, gone-offset _ _ _ _ _ _ e a.file.ptr.1 a.baseline.ptr.1),
+      omega (arith, gone-offset _ _ _ _ _ _ e a.file.ref_ptr.1 a.baseline.ref_ptr.1),
     )
 
 pub returns-then-capacity-row : goal.returns-then-capacity-row
@@ -29,7 +29,7 @@ returns-then-capacity-row c =
     let e : absent = past_room _ _ _ _ _ _ c.if-n-row.false c.capacity.ensures c.if-capacity-row.true in (
       gone-bytes _ _ _ _ _ _ e,
       gone-block _ _ _ _ _ _ e _ _,
-      omega (arith, gone-offset _ _ _ _ _ _ e a.file.ptr.1 a.baseline.ptr.1),
+      omega (arith, gone-offset _ _ _ _ _ _ e a.file.ref_ptr.1 a.baseline.ref_ptr.1),
     )
 
 pub returns-then-not-fits : goal.returns-then-not-fits
@@ -41,7 +41,7 @@ returns-then-not-fits c =
     (said-out _ _ _ c.fits.ensures c.if-not-fits.true) in (
       gone-bytes _ _ _ _ _ _ e,
       gone-block _ _ _ _ _ _ e _ _,
-      omega (arith, gone-offset _ _ _ _ _ _ e a.file.ptr.1 a.baseline.ptr.1),
+      omega (arith, gone-offset _ _ _ _ _ _ e a.file.ref_ptr.1 a.baseline.ref_ptr.1),
     )
 
 pub overflow_add-result : goal.overflow_add-result
@@ -64,6 +64,6 @@ returns c =
       omega (
         arith,
         part-offset a.file.now a.width a.most a.rows.now a.n a.row c.if-n-row.false c.capacity.ensures
-            c.if-capacity-row.false c.cell-from.ensures c.cell-len.ensures (within) a.file.ptr.1 a.baseline.ptr.1,
+            c.if-capacity-row.false c.cell-from.ensures c.cell-len.ensures (within) a.file.ref_ptr.1 a.baseline.ref_ptr.1,
       ),
     )

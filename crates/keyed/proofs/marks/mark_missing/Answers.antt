@@ -1,7 +1,6 @@
 -- `keyed::marks::mark_missing` meets its contract: the rows below i are there, and what is left of the search answers for all of it.
 -- Assumes nothing.
 use mathlib.Core.Path.{◌≡◌, refl, sym, ◌∙◌, ap}
-use mathlib.Core.Logic.{⊎_elim}
 use mathlib.Core.List.{List}
 use Prim.Native.Nat.{ℕ, ◌-◌, ◌≤◌}
 use native.Mathlib.Omega.{arith}
@@ -13,6 +12,7 @@ use Rattle.keyed.specs.Keying.{single, some_other, lonely}
 use Rattle.keyed.proofs.Filling.{no_rows, one-row}
 use Rattle.keyed.proofs.Searching.{some-hit, some-miss, some_end, others-end, like, sought-is, found-one, passed-one}
 use Rattle.keyed.proofs.Searching.{lonely-met, lonely-kept}
+use Rattle.keyed.proofs.marks.mark_missing.Goals.{else-search-test, then-search-test+then-ranks-j}
 use Rattle.keyed.proofs.marks.mark_missing.Goals as goal
 
 pub rows-init : goal.rows-init
@@ -37,11 +37,18 @@ search-preserved c =
 
 pub rows-preserved : goal.rows-preserved
 rows-preserved c =
-    let met : let a = c.args in c.search-test.auto ≡ lonely a.ranks.now a.nb a.n c.rows.i = let i = c.search.invariant in ⊎_elim (λ w. w.1 ∙ i.0 ∙ i.1 ∙ lonely-kept _ _ _ _ (sym i.3 ∙ some_end _ _ _ w.0.left)) (λ w. w.3 ∙ lonely-met _ _ _ _ (sym i.3 ∙ some-hit _ _ _ w.0.taken (found-one _ _ _ _ i.1 _ w.2.taken))) c.search-test.branch in (
+    let a = c.args in
+    let i = c.search.invariant in
+    let met : c.search-test.kept ≡ lonely a.ranks.now a.nb a.n c.rows.i =
+    elim c.search-test.branch [
+      | else-search-test w ↦ w.kept-is ∙ i.0 ∙ i.1 ∙ lonely-kept _ _ _ _ (sym i.3 ∙ some_end _ _ _ w.search-test.false)
+      | then-search-test+then-ranks-j w ↦
+          w.kept-is ∙ lonely-met _ _ _ _ (sym i.3 ∙ some-hit _ _ _ w.search-test.true (found-one _ _ _ _ i.1 _ w.if-ranks-j.true))
+    ] in (
       omega arith,
       search rules,
-      one-row single _ _ 1 (λ x. refl) _ _ c.rows-test.true (omega (arith, c.requires.3)) c.rows.inv.2
-          (ap single (met)) c.put_row.ensures,
+      one-row single _ _ 1 (λ x. refl) _ _ c.rows-test.true (omega (arith, c.requires.3)) c.rows.invariant.2
+          (ap single met) c.put_row.ensures,
     )
 
 pub returns : goal.returns

@@ -15,14 +15,15 @@ use Rattle.keyed.proofs.Seeking.{found-is}
 use Rattle.keyed.proofs.quick.mark_found.Goals as goal
 
 pub loop-i-init : goal.loop-i-init
-loop-i-init c = (omega arith, refl, no_rows single _ _ c.requires.0.0)
+loop-i-init c = (omega arith, refl, no_rows single _ _ c.requires.found_value.0)
 
 pub seek-s-requires : goal.seek-s-requires
 seek-s-requires c =
-    let p = c.requires.found_value in (
-      (c.loop-i-test.true, others-order _ _ _ c.others-span.ensures p.1, others-end _ _ _ c.others-span.ensures p.1, p.2),
-      c.requires.printed,
-    )
+    let p = c.requires.found_value in
+    record {
+      i_lt_n = (c.loop-i-test.true, others-order _ _ _ c.others-span.ensures p.1, others-end _ _ _ c.others-span.ensures p.1, p.2);
+      printed = c.requires.printed;
+    }
 
 pub returns-then-s-eq2 : goal.returns-then-s-eq2
 returns-then-s-eq2 c = λ y. absurd (true≢false (sym y))

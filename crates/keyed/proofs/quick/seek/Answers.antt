@@ -12,13 +12,13 @@ use Rattle.keyed.proofs.quick.seek.Goals as goal
 
 pub next_like-j-requires : goal.next_like-j-requires
 next_like-j-requires c =
-    let p = c.requires.0 in
+    let p = c.requires.i_lt_n in
     (p.1, omega (arith, p.2, p.3))
 
 pub search-init : goal.search-init
 search-init c =
     let e = c.next_like-j.ensures in
-    (refl, sym (unlike-pass _ _ _ _ _ _ _ _ _ c.requires.0.0 e.0 e.1 c.requires.0.2 c.requires.1 refl e.2))
+    (refl, sym (unlike-pass _ _ _ _ _ _ _ _ _ c.requires.i_lt_n.0 e.0 e.1 c.requires.i_lt_n.2 c.requires.printed refl e.2))
 
 pub returns-then-meets : goal.returns-then-meets
 returns-then-meets c = seeks-met (sym c.search.invariant.1 ∙ some-hit _ _ _ c.search-test.true (sym c.meets.ensures ∙ c.if-meets.true))

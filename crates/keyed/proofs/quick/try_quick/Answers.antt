@@ -20,10 +20,11 @@ pub mark_found-requires : goal.mark_found-requires
 mark_found-requires c =
     let e = c.clear.ensures in
     let d = c.clear-2.ensures in
-    let p = c.requires in (
-      (cleared _ d, p.0, omega (arith, cleared-length e, p.1, c.fill_prints.auto.prints), omega (arith, cleared-length d, p.2)),
-      all-printed _ _ _ _ _ c.fill_prints.ensures,
-    )
+    let p = c.requires in
+    record {
+      found_value = (cleared _ d, p.0, omega (arith, cleared-length e, p.1, c.fill_prints.auto.prints), omega (arith, cleared-length d, p.2));
+      printed = all-printed _ _ _ _ _ c.fill_prints.ensures;
+    }
 
 pub returns-then-not-mark_found : goal.returns-then-not-mark_found
 returns-then-not-mark_found c = record { done = λ y. absurd (true≢false (sym y)); kept = λ y. refl }

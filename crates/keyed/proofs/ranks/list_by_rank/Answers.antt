@@ -25,7 +25,10 @@ sort_missing-requires c =
     let r = room-ranks _ _ _ _ c.has_room.ensures c.if-not-has_room.false in
     let l = room-lost _ _ _ _ c.has_room.ensures c.if-not-has_room.false in
     let n = room-list _ _ _ _ c.has_room.ensures c.if-not-has_room.false in
-    ((omega arith, r, l, n), (cleared _ c.clear.ensures, cleared _ c.clear-2.ensures))
+    record {
+      nb_le_n = (omega arith, r, l, n);
+      ranks_value = (cleared _ c.clear.ensures, cleared _ c.clear-2.ensures);
+    }
 
 pub returns : goal.returns
 returns c =

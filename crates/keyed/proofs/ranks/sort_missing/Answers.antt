@@ -16,7 +16,7 @@ use Rattle.keyed.proofs.ranks.sort_missing.Goals as goal
 pub returns-in_default : goal.returns-in_default
 returns-in_default c =
     let sorted : let a = c.args in Sorts (list a.first.now a.second.now a.keys.now a.n) a.numbers.now c.sort-sorted.new.sorted c.sort-sorted.result = rw c.columns.ensures at c.sort-sorted.ensures in
-    absurd (not_full _ _ _ _ (sorted) c.requires.0.3 c.in_default.is)
+    absurd (not_full _ _ _ _ (sorted) c.requires.nb_le_n.3 c.in_default.is)
 
 pub slice_bounds-number_rows-end : goal.slice_bounds-number_rows-end
 slice_bounds-number_rows-end c =
@@ -36,11 +36,11 @@ number_rows-requires c =
 pub returns : goal.returns
 returns c =
     let sorted : let a = c.args in Sorts (list a.first.now a.second.now a.keys.now a.n) a.numbers.now c.sort-sorted.new.sorted c.sort-sorted.result = rw c.columns.ensures at c.sort-sorted.ensures in
-    let p = c.requires in
+    let p = c.requires.nb_le_n in
     let a = c.args in
-    missing-done a.first.now a.second.now a.keys.now a.nb a.n p.0.0 a.every _ _ p.0.1 p.1.0
+    missing-done a.first.now a.second.now a.keys.now a.nb a.n p.0 a.every _ _ p.1 c.requires.ranks_value.0
     (c.number_rows.ensures
     ∙ ap (λ (l : List ℕ). ranked (same_key a.first.now a.second.now a.keys.now) l a.ranks.now)
-    (list-is _ _ _ _ (sorted) p.0.3 _ c.in-Rows.is))
+    (list-is _ _ _ _ (sorted) p.3 _ c.in-Rows.is))
     c.mark_missing.ensures (rw c.by_rank.ensures at c.sort_others.ensures)
-    (list_length _ _ _ _ (sorted) p.0.3) p.0.3
+    (list_length _ _ _ _ (sorted) p.3) p.3

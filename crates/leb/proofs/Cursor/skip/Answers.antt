@@ -1,5 +1,4 @@
 use mathlib.Core.Path.{refl, ◌∙◌, ap}
-use borrow.Author.Rules.{rules}
 use Rattle.refusal.proofs.Following.{stops, goes}
 use Rattle.leb.specs.Answers.{said_part, why_part}
 use Rattle.leb.specs.Reads.{skip_at}

@@ -1,15 +1,13 @@
 -- `leb::Cursor::sleb128` meets its contract: the loop's invariant is `SReading`, over the bits of the i64, and each need is a lemma of
 -- `proofs/Signed.antt`. Assumes nothing.
-use Prim.Native.Nat.{ℕ, ◌-◌, ◌<◌, ◌*◌, ◌%◌, ◌^◌}
+use Prim.Native.Nat.{ℕ, ◌<◌, ◌^◌}
 use native.Mathlib.Nat.{mod-lt}
 use native.Mathlib.Omega.{arith}
 use mathlib.Core.List.{List}
-use mathlib.Core.Path.{◌≡◌}
-use lib.Bits.{bit_or, or_lt}
+use lib.Bits.{or_lt}
 use mir.Syntax.{w64}
 use mir.Val.{of_z, to_z}
 use Rattle.std.proofs.lemmas.Int.{of_z-to_z}
-use borrow.Author.Rules.{rules}
 use lib.ListN.{get_or}
 use Rattle.bits.proofs.Masks.{low-lt}
 use Rattle.leb.proofs.Answering.{gives, refuses}

@@ -1,14 +1,7 @@
 use mir.Syntax.{w64}
 use mir.Val.{of_z}
-use Prim.Native.Nat.{◌-◌, ◌<◌}
-use native.Mathlib.Omega.{arith}
-use mathlib.Core.Logic.{⊎_elim}
-use borrow.Author.Tests.{eqb-true, eqb-false, not-true, not-false}
-use borrow.Author.Rules.{rules}
-use lib.ListN.{get_or}
-use Rattle.bits.proofs.Masks.{low-lt}
-use Rattle.leb.proofs.Answering.{gives, refuses}
-use Rattle.leb.proofs.Signed.{SReading, begins, at-end, too_long, more, last-minus, last-plus, last-tenth}
+use Prim.Native.Nat.{◌-◌}
+use Rattle.leb.proofs.Signed.{SReading}
 use Rattle.leb.proofs.Cursor.sleb128.Given as goal
 
 abbrev pub invariant-loop-shift : goal.invariant-loop-shift

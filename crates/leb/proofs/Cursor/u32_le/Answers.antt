@@ -1,5 +1,4 @@
 use native.Mathlib.Omega.{arith}
-use borrow.Author.Rules.{rules}
 use Rattle.leb.proofs.Answering.{gives, refuses}
 use Rattle.leb.proofs.Four.{short, joined}
 use Rattle.leb.proofs.Cursor.u32_le.Goals as goal

@@ -1,4 +1,3 @@
-use borrow.Author.Rules.{rules}
 use borrow.Author.Tests.{lt-ltb, le-ltb}
 use Rattle.leb.specs.Answers.{answer_from}
 use Rattle.leb.specs.Reads.{byte_at}

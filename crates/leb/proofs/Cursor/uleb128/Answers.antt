@@ -2,12 +2,11 @@
 -- Assumes nothing.
 use Prim.Native.Nat.{◌-◌, ◌^◌, ◌<◌}
 use native.Mathlib.Omega.{arith}
-use borrow.Author.Rules.{rules}
 use lib.Bits.{bit_and}
 use lib.ListN.{get_or}
 use Rattle.bits.proofs.Masks.{low-lt}
 use Rattle.leb.proofs.Answering.{gives, refuses}
-use Rattle.leb.proofs.Unsigned.{Reading, begins, at-end, too_long, too-big, fits-tenth, fits-before, last, more}
+use Rattle.leb.proofs.Unsigned.{begins, at-end, too_long, too-big, fits-tenth, fits-before, last, more}
 use Rattle.leb.proofs.Cursor.uleb128.Goals as goal
 use Rattle.leb.proofs.Cursor.uleb128.Goals.{else-shift-eq63-via-then-shift-eq63+else-low-gt1, else-shift-eq63-via-else-shift-eq63}
 

@@ -1,13 +1,5 @@
-use Prim.Native.Nat.{◌-◌, ◌^◌, ◌<◌}
-use native.Mathlib.Omega.{arith}
-use mathlib.Core.Logic.{⊎_elim}
-use borrow.Author.Tests.{ltb-true, ltb-false}
-use borrow.Author.Rules.{rules}
-use lib.Bits.{bit_and}
-use lib.ListN.{get_or}
-use Rattle.bits.proofs.Masks.{low-lt}
-use Rattle.leb.proofs.Answering.{gives, refuses}
-use Rattle.leb.proofs.Unsigned.{Reading, begins, at-end, too_long, too-big, fits-tenth, fits-before, last, more}
+use Prim.Native.Nat.{◌-◌}
+use Rattle.leb.proofs.Unsigned.{Reading}
 use Rattle.leb.proofs.Cursor.uleb128.Given as goal
 
 abbrev pub invariant-loop-shift : goal.invariant-loop-shift

@@ -1,5 +1,4 @@
 use mathlib.Core.Path.{◌∙◌, ap}
-use borrow.Author.Rules.{rules}
 use borrow.Author.Tests.{le-leb, lt-leb}
 use Rattle.refusal.proofs.Following.{stops, goes}
 use Rattle.leb.specs.Answers.{said_u64, why_u64}

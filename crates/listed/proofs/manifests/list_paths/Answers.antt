@@ -24,10 +24,11 @@ slice_bounds-lay_manifest-end-in-Rows-all_exports c = sym (length-take-le _ _ (p
 pub lay_manifest-requires : goal.lay_manifest-requires
 lay_manifest-requires c =
     let i = paths-found c.all_imports.ensures refl c.in-Rows.is in
-    let e = paths-found c.all_exports.ensures refl c.in-Rows-all_exports.is in (
-      c.requires,
-      record { imported-few = paths-short i (omega arith); exported-few = paths-short e (omega arith) },
-    )
+    let e = paths-found c.all_exports.ensures refl c.in-Rows-all_exports.is in
+    record {
+      manifest_counted = c.requires;
+      short = record { imported-few = paths-short i (omega arith); exported-few = paths-short e (omega arith) };
+    }
 
 pub returns-in-Refused : goal.returns-in-Refused
 returns-in-Refused c =

@@ -12,11 +12,9 @@ use Rattle.listed.proofs.tokens.count_tokens.Goals as goal
 pub loop-next-init : goal.loop-next-init
 loop-next-init c = (omega arith, omega arith, omega arith)
 
-pub enum_known-next : goal.enum_known-next
-enum_known-next c = c.in-At.in-At-own.keys1
-
 pub returns-in_default : goal.returns-in_default
-returns-in_default c = (omega (arith, ap length (found_none _ _ _ c.first_token.result c.first_token.ensures c.in_default.in_default-own.keys2)), omega arith)
+returns-in_default c =
+    record { value = omega (arith, ap length (found_none _ _ _ c.first_token.result c.first_token.ensures c.in_default.not-At)); upper_bound = omega arith }
 
 pub overflow_add-n : goal.overflow_add-n
 overflow_add-n c =

@@ -16,9 +16,6 @@ use Rattle.listed.proofs.tokens.put_tokens.Goals as goal
 pub loop-part-init : goal.loop-part-init
 loop-part-init c = (omega arith, refl, refl)
 
-pub enum_known-part : goal.enum_known-part
-enum_known-part c = c.in-At.in-At-own.keys1
-
 pub shape_of-out-in_default : goal.shape_of-out-in_default
 shape_of-out-in_default c = c.loop-part.invariant.1
 
@@ -27,7 +24,7 @@ returns-in_default c =
     let l = c.loop-part in
     sym (put_last l.out l.o)
     ∙ ap (λ (xs : List Part). put l.out l.o (tokens_bytes xs))
-    (sym (found_none _ _ _ c.first_token.result c.first_token.ensures c.in_default.in_default-own.keys2))
+    (sym (found_none _ _ _ c.first_token.result c.first_token.ensures c.in_default.not-At))
     ∙ l.invariant.2
 
 pub slice_bounds-put_cells-end : goal.slice_bounds-put_cells-end

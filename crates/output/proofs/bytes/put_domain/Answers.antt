@@ -1,5 +1,4 @@
 -- `writing::put_domain` meets its contract. Assumes nothing.
-use borrow.Author.Rules.{rules}
 use Rattle.output.proofs.Words.{SlugIs, domain-is, domain-none}
 use Rattle.domains.specs.Domain.{slug}
 use Rattle.output.proofs.bytes.put_domain.Goals as goal

@@ -1,8 +1,7 @@
 -- `cells::put_all` meets its contract: the cells that are left, put after those that are there, make the whole. Assumes nothing.
-use Prim.Native.Nat.{ℕ, ◌+◌, ◌-◌, ◌*◌, ◌≤◌, zero-le}
-use native.Mathlib.Nat.{add-zero, le_antisymm}
+use Prim.Native.Nat.{ℕ, ◌+◌, ◌≤◌, zero-le}
 use native.Mathlib.Omega.{arith}
-use mathlib.Core.Path.{◌≡◌, refl, sym, ap, ◌∙◌}
+use mathlib.Core.Path.{refl, sym, ap, ◌∙◌}
 use mathlib.Core.List.{List}
 use lib.ListN.{length, drop, get_or}
 use Rattle.table.specs.Table.{put}
@@ -10,7 +9,6 @@ use Rattle.table.proofs.Laws.{length-put}
 use Rattle.output.specs.Cells.{low_bytes, cell_bytes}
 use Rattle.output.proofs.CellLaws.{length-low}
 use Rattle.output.proofs.Putting.{cell-turn, cells-done}
-use borrow.Author.Rules.{rules}
 use Rattle.output.proofs.cells.put_all.Goals as goal
 
 pub loop-i-init : goal.loop-i-init

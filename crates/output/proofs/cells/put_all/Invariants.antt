@@ -1,15 +1,8 @@
-use Prim.Native.Nat.{ℕ, ◌+◌, ◌-◌, ◌*◌, ◌≤◌, zero-le}
-use native.Mathlib.Nat.{add-zero, le_antisymm}
-use native.Mathlib.Omega.{arith}
-use mathlib.Core.Path.{◌≡◌, refl, sym, ap, ◌∙◌}
-use mathlib.Core.List.{List}
-use lib.ListN.{length, drop, get_or}
+use Prim.Native.Nat.{◌+◌, ◌-◌, ◌*◌, ◌≤◌}
+use mathlib.Core.Path.{◌≡◌}
+use lib.ListN.{length, drop}
 use Rattle.table.specs.Table.{put}
-use Rattle.table.proofs.Laws.{length-put}
-use Rattle.output.specs.Cells.{low_bytes, cell_bytes}
-use Rattle.output.proofs.CellLaws.{length-low}
-use Rattle.output.proofs.Putting.{cell-turn, cells-done}
-use borrow.Author.Rules.{rules}
+use Rattle.output.specs.Cells.{cell_bytes}
 use Rattle.output.proofs.cells.put_all.Given as goal
 
 abbrev pub invariant-loop-i : goal.invariant-loop-i

@@ -1,14 +1,12 @@
 -- `cells::put_cell` meets its contract: the bytes that are left, put after those that are there, make the whole. Assumes nothing.
-use Prim.Native.Nat.{ℕ, ◌+◌, ◌-◌, ◌≤◌, ◌<◌, zero-le}
-use native.Mathlib.Nat.{add-zero, le_antisymm}
+use Prim.Native.Nat.{ℕ, ◌+◌, zero-le}
+use native.Mathlib.Nat.{add-zero}
 use native.Mathlib.Omega.{arith}
-use mathlib.Core.Path.{◌≡◌, refl, sym, ap, ◌∙◌}
-use mathlib.Core.List.{List}
-use lib.ListN.{length, length-set}
+use mathlib.Core.Path.{refl, sym, ap, ◌∙◌}
+use lib.ListN.{length-set}
 use Rattle.table.specs.Table.{put}
 use Rattle.output.specs.Cells.{low_bytes}
 use Rattle.output.proofs.Putting.{low_turn, low-done}
-use borrow.Author.Rules.{rules}
 use Rattle.output.proofs.cells.put_cell.Goals as goal
 
 pub loop-k-init : goal.loop-k-init

@@ -1,13 +1,8 @@
-use Prim.Native.Nat.{ℕ, ◌+◌, ◌-◌, ◌≤◌, ◌<◌, zero-le}
-use native.Mathlib.Nat.{add-zero, le_antisymm}
-use native.Mathlib.Omega.{arith}
-use mathlib.Core.Path.{◌≡◌, refl, sym, ap, ◌∙◌}
-use mathlib.Core.List.{List}
-use lib.ListN.{length, length-set}
+use Prim.Native.Nat.{◌+◌, ◌-◌, ◌≤◌}
+use mathlib.Core.Path.{◌≡◌}
+use lib.ListN.{length}
 use Rattle.table.specs.Table.{put}
 use Rattle.output.specs.Cells.{low_bytes}
-use Rattle.output.proofs.Putting.{low_turn, low-done}
-use borrow.Author.Rules.{rules}
 use Rattle.output.proofs.cells.put_cell.Given as goal
 
 abbrev pub invariant-loop-k : goal.invariant-loop-k

@@ -1,7 +1,6 @@
 -- `cells::put_cells` meets its contract. Assumes nothing.
 use native.Mathlib.Omega.{arith}
 use Rattle.output.proofs.Putting.{puts-all, puts_none, cells_fit, cells-leave}
-use borrow.Author.Rules.{rules}
 use Rattle.output.proofs.cells.put_cells.Goals as goal
 
 pub returns-then-out-at : goal.returns-then-out-at

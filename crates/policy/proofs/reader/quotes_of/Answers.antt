@@ -1,9 +1,5 @@
 -- `quotes_of` meets its contract. Assumes nothing.
-use mathlib.Core.Path.{◌≡◌}
-use Prim.Native.Nat.{◌+◌, ◌-◌, ◌≤◌}
 use native.Mathlib.Omega.{arith}
-use lib.ListN.{length, drop}
-use Rattle.policy.specs.Piece.{quotes}
 use Rattle.policy.proofs.Quotes.{quotes-hit, quotes-stop, quotes-end}
 use Rattle.policy.proofs.reader.quotes_of.Goals as goal
 

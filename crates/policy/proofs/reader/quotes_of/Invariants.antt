@@ -1,9 +1,7 @@
 use mathlib.Core.Path.{◌≡◌}
 use Prim.Native.Nat.{◌+◌, ◌-◌, ◌≤◌}
-use native.Mathlib.Omega.{arith}
 use lib.ListN.{length, drop}
 use Rattle.policy.specs.Piece.{quotes}
-use Rattle.policy.proofs.Quotes.{quotes-hit, quotes-stop, quotes-end}
 use Rattle.policy.proofs.reader.quotes_of.Given as goal
 
 abbrev pub invariant-loop-i : goal.invariant-loop-i

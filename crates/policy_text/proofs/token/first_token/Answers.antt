@@ -3,7 +3,6 @@ use mathlib.Core.Path.{ap, ◌∙◌}
 use Prim.Native.Nat.{ℕ}
 use mathlib.Core.List.{List}
 use native.Mathlib.Omega.{arith}
-use borrow.Author.Rules.{rules}
 use Rattle.refusal.specs.Said.{accepted}
 use Rattle.policy_text.specs.Token.{token_from}
 use Rattle.policy_text.proofs.TokenLaws.{whole-rest}

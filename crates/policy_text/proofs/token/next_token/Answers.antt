@@ -1,6 +1,5 @@
 -- `next_token` meets its contract. Assumes nothing.
 use native.Mathlib.Omega.{arith}
-use borrow.Author.Rules.{rules}
 use Rattle.policy_text.proofs.TokenLaws.{list-fits, token-refused, token-given}
 use Rattle.policy_text.proofs.token.next_token.Goals as goal
 

@@ -1,6 +1,5 @@
 -- `past` meets its contract. Assumes nothing.
 use borrow.Author.Tests.{lt-ltb, le-ltb}
-use borrow.Author.Rules.{rules}
 use Rattle.policy_text.proofs.token.past.Goals as goal
 
 pub returns-then-comma-end : goal.returns-then-comma-end

@@ -1,11 +1,7 @@
 -- `token_at` meets its contract. Assumes nothing.
-use mathlib.Core.Path.{◌≡◌, refl, sym, ap, ◌∙◌}
-use Prim.Native.Nat.{◌+◌, ◌-◌}
+use mathlib.Core.Path.{refl, sym, ap, ◌∙◌}
 use native.Mathlib.Omega.{arith}
-use borrow.Author.Rules.{rules}
 use Rattle.refusal.specs.Said.{accepted}
-use Rattle.text.specs.Piece.{bytes_between}
-use Rattle.policy_text.specs.Token.{token_from}
 use Rattle.policy_text.proofs.TokenLaws.{comma-near, token-near, token-next, token-found, token-none}
 use Rattle.policy_text.proofs.token.token_at.Goals as goal
 

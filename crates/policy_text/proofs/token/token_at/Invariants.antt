@@ -1,11 +1,7 @@
-use mathlib.Core.Path.{◌≡◌, refl, sym, ap, ◌∙◌}
+use mathlib.Core.Path.{◌≡◌}
 use Prim.Native.Nat.{◌+◌, ◌-◌}
-use native.Mathlib.Omega.{arith}
-use borrow.Author.Rules.{rules}
-use Rattle.refusal.specs.Said.{accepted}
 use Rattle.text.specs.Piece.{bytes_between}
 use Rattle.policy_text.specs.Token.{token_from}
-use Rattle.policy_text.proofs.TokenLaws.{comma-near, token-near, token-next, token-found, token-none}
 use Rattle.policy_text.proofs.token.token_at.Given as goal
 
 abbrev pub invariant-loop-i : goal.invariant-loop-i

@@ -1,10 +1,5 @@
 -- `add` meets its contract: what is left of the bytes is yet to be added. Assumes nothing.
-use mathlib.Core.Path.{◌≡◌, refl, sym, ap, ◌∙◌}
-use Prim.Native.Nat.{◌-◌}
-use lib.ListN.{length, drop}
-use borrow.Author.Rules.{rules}
-use Rattle.report.specs.declared.line.Line.{Line}
-use Rattle.report.specs.Line.{added}
+use mathlib.Core.Path.{refl, sym, ◌∙◌}
 use Rattle.report.proofs.Lines.{turn, done}
 use Rattle.report.proofs.line.add.Goals as goal
 

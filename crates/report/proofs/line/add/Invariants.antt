@@ -1,10 +1,7 @@
-use mathlib.Core.Path.{◌≡◌, refl, sym, ap, ◌∙◌}
+use mathlib.Core.Path.{◌≡◌}
 use Prim.Native.Nat.{◌-◌}
 use lib.ListN.{length, drop}
-use borrow.Author.Rules.{rules}
-use Rattle.report.specs.declared.line.Line.{Line}
 use Rattle.report.specs.Line.{added}
-use Rattle.report.proofs.Lines.{turn, done}
 use Rattle.report.proofs.line.add.Given as goal
 
 abbrev pub invariant-loop-i : goal.invariant-loop-i

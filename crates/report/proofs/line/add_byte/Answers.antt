@@ -1,5 +1,4 @@
 -- `add_byte` meets its contract. Assumes nothing.
-use borrow.Author.Rules.{rules}
 use Rattle.report.proofs.Lines.{kept, longer}
 use Rattle.report.proofs.line.add_byte.Goals as goal
 

@@ -1,5 +1,4 @@
 -- `begin` meets its contract. Assumes nothing.
-use borrow.Author.Rules.{rules}
 use Rattle.refusal.specs.Slug.{padded}
 use Rattle.report.specs.Line.{empty}
 use Rattle.report.proofs.line.begin.Goals as goal

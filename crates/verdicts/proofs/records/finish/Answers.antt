@@ -1,5 +1,4 @@
 -- `evaluation::finish` meets its contract. Assumes nothing.
-use borrow.Author.Rules.{rules}
 use Rattle.verdicts.proofs.Walking.{finish-room, finish-row, finish-good}
 use Rattle.verdicts.proofs.records.finish.Goals as goal
 

@@ -1,5 +1,4 @@
 -- `evaluation::start` meets its contract. Assumes nothing.
-use borrow.Author.Rules.{rules}
 use Rattle.verdicts.proofs.Walking.{start_is}
 use Rattle.verdicts.proofs.records.start.Goals as goal
 

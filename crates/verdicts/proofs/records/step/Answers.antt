@@ -1,6 +1,5 @@
 -- `evaluation::step` meets its contract. Assumes nothing.
 use native.Mathlib.Omega.{arith}
-use borrow.Author.Rules.{rules}
 use Rattle.verdicts.proofs.Walking.{step_past, step-late, step-none, counts-yes, step_counts}
 use Rattle.verdicts.proofs.records.step.Goals as goal
 

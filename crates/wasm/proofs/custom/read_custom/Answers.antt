@@ -2,8 +2,6 @@
 use Prim.Native.Nat.{◌+◌, ◌-◌}
 use mathlib.Core.Path.{◌≡◌, sym, ◌∙◌, ap}
 use native.Mathlib.Omega.{arith}
-use borrow.Author.Rules.{rules}
-use borrow.Author.Tests.{not-true, not-false}
 use lib.ListN.{take, drop}
 use Rattle.refusal.specs.Said.{accepted, got}
 use Rattle.table.proofs.Telling.{tell-first}
@@ -13,7 +11,6 @@ use Rattle.leb.proofs.Answering.{hear}
 use Rattle.leb.proofs.Bounds.{name_in}
 use Rattle.wasm.specs.Custom.{custom_at, name_word, said_named}
 use Rattle.wasm.proofs.Customs.{cut, custom-plain, custom-stop, custom-names}
-use Rattle.wasm.proofs.Framing.{inner}
 use Rattle.wasm.proofs.custom.read_custom.Goals as goal
 
 pub returns-in_default : goal.returns-in_default
@@ -46,7 +43,7 @@ returns-then-not-equal c t n h =
     let cutting : let p = c.in-Read.p in let s = c.args.s.now in take (p.from + p.len - p.from) (drop p.from s) ≡ part_bytes s p = let p = c.in-Read.p in cut p.from p.len c.args.s.now in
     custom-plain _ _ _ t _ _ (named) _
     (cutting) _ c.shift-name.ensures
-    (sym c.equal.ensures ∙ not-true _ c.if-not-equal.true-raw) _ _ n h
+    (sym c.equal.ensures ∙ c.if-not-equal.true) _ _ n h
 
 pub returns-in-Refused : goal.returns-in-Refused
 unfolding name_word
@@ -55,7 +52,7 @@ returns-in-Refused c t n h =
     let cutting : let p = c.in-Read.p in let s = c.args.s.now in take (p.from + p.len - p.from) (drop p.from s) ≡ part_bytes s p = let p = c.in-Read.p in cut p.from p.len c.args.s.now in
     custom-stop _ _ _ t _ _ (named) _ (cutting) _
     c.shift-name.ensures
-    (sym c.equal.ensures ∙ not-false _ c.if-not-equal.false-raw) _
+    (sym c.equal.ensures ∙ c.if-not-equal.false) _
     (c.read_subsections.ensures t n h) (ap said_named c.in-Refused.is)
 
 pub returns-in-Read-read_subsections : goal.returns-in-Read-read_subsections
@@ -65,6 +62,6 @@ returns-in-Read-read_subsections c t n h =
     let cutting : let p = c.in-Read.p in let s = c.args.s.now in take (p.from + p.len - p.from) (drop p.from s) ≡ part_bytes s p = let p = c.in-Read.p in cut p.from p.len c.args.s.now in
     custom-names _ _ _ t _ _ (named) _
     (cutting) _ c.shift-name.ensures
-    (sym c.equal.ensures ∙ not-false _ c.if-not-equal.false-raw) _
+    (sym c.equal.ensures ∙ c.if-not-equal.false) _
     (c.read_subsections.ensures t n h)
     (ap said_named c.in-Read-read_subsections.is)

@@ -1,7 +1,6 @@
 -- `wasm::custom::read_label` meets its contract. Assumes nothing.
 use mathlib.Core.Path.{◌∙◌, ap}
 use native.Mathlib.Omega.{arith}
-use borrow.Author.Rules.{rules}
 use Rattle.table.specs.Told.{mapped}
 use Rattle.table.proofs.Telling.{map_first, map_next}
 use Rattle.leb.specs.Answers.{said_part, why_part}

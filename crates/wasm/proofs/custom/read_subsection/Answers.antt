@@ -2,13 +2,12 @@
 use Prim.Native.Nat.{◌+◌, ◌-◌}
 use mathlib.Core.Path.{◌≡◌, ◌∙◌, ap}
 use native.Mathlib.Omega.{arith}
-use borrow.Author.Rules.{rules}
-use lib.ListN.{take, drop, length-take}
+use lib.ListN.{drop, length-take}
 use Rattle.refusal.specs.Said.{accepted, got}
 use Rattle.table.specs.Told.{Passed}
 use Rattle.table.proofs.Telling.{tell-first, tell-next}
 use Rattle.leb.specs.Answers.{said_byte, said_part, why_byte, why_part}
-use Rattle.leb.specs.Reads.{part_bytes, byte_at, counted_at}
+use Rattle.leb.specs.Reads.{byte_at, counted_at}
 use Rattle.leb.proofs.Answering.{hear}
 use Rattle.leb.proofs.Bounds.{byte-in, counted-in}
 use Rattle.wasm.specs.Custom.{subsection_at, said_named}

@@ -1,13 +1,10 @@
 -- `wasm::custom::read_subsections` meets its contract: the invariant is `Going`. Assumes nothing.
-use Prim.Native.Nat.{◌-◌}
-use mathlib.Core.Path.{◌≡◌, refl, ap}
+use mathlib.Core.Path.{refl, ap}
 use native.Mathlib.Omega.{arith}
 use borrow.Author.Rules.{rules}
-use lib.ListN.{length}
-use Rattle.table.specs.Walking.{walk_from}
 use Rattle.table.proofs.Telling.{passed}
-use Rattle.table.proofs.Walking.{Going, going_end, going-off, going_on}
-use Rattle.wasm.specs.Custom.{Names, named_of, NamesHeld, subsection_at, said_named}
+use Rattle.table.proofs.Walking.{going_end, going-off, going_on}
+use Rattle.wasm.specs.Custom.{NamesHeld, subsection_at, said_named}
 use Rattle.wasm.proofs.custom.read_subsections.Goals as goal
 
 pub loop-c-init : goal.loop-c-init

@@ -1,12 +1,9 @@
 use Prim.Native.Nat.{◌-◌}
-use mathlib.Core.Path.{◌≡◌, refl, ap}
-use native.Mathlib.Omega.{arith}
-use borrow.Author.Rules.{rules}
+use mathlib.Core.Path.{◌≡◌}
 use lib.ListN.{length}
 use Rattle.table.specs.Walking.{walk_from}
-use Rattle.table.proofs.Telling.{passed}
-use Rattle.table.proofs.Walking.{Going, going_end, going-off, going_on}
-use Rattle.wasm.specs.Custom.{Names, named_of, NamesHeld, subsection_at, said_named}
+use Rattle.table.proofs.Walking.{Going}
+use Rattle.wasm.specs.Custom.{Names, named_of, NamesHeld, subsection_at}
 use Rattle.wasm.proofs.custom.read_subsections.Given as goal
 
 abbrev pub invariant-loop-c : goal.invariant-loop-c

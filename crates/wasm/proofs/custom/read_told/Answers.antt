@@ -1,6 +1,6 @@
 -- `wasm::custom::read_told` meets its contract. Assumes nothing.
 use mathlib.Core.Path.{refl, ap}
-use borrow.Author.Rules.{rules}
+use native.Mathlib.Omega.{arith}
 use borrow.Author.Tests.{ne_eqb}
 use Rattle.table.specs.Table.{Lies}
 use Rattle.table.proofs.Telling.{tell-got, tell-after, tell-after-stop}
@@ -29,5 +29,4 @@ returns-in-Rows c t n h =
 pub returns-in_default : goal.returns-in_default
 unfolding told_by
 returns-in_default c t n h =
-    let q = c.in_default.in_default-own.rest in
-    simp (ne_eqb _ _ q.0.1, ne_eqb _ _ q.1) (tell-got t 0 refl n h)
+    simp (ne_eqb c.args.id 0 (omega arith), ne_eqb c.args.id 1 (omega arith)) (tell-got t 0 refl n h)

@@ -1,5 +1,5 @@
 -- `wasm::entry::read_desc` meets its contract. Assumes nothing.
-use borrow.Author.Rules.{rules}
+use native.Mathlib.Omega.{arith}
 use borrow.Author.Tests.{ne_eqb}
 use Rattle.wasm.specs.Entry.{desc_at}
 use Rattle.wasm.proofs.entry.read_desc.Goals as goal
@@ -23,5 +23,5 @@ returns-in-3 c = simp c.in-3.is c.read_global.ensures
 pub returns-in_default : goal.returns-in_default
 unfolding desc_at
 returns-in_default c =
-    let q = c.in_default.in_default-own.rest in
-    simp (ne_eqb _ _ q.0.0.0.1, ne_eqb _ _ q.0.0.1, ne_eqb _ _ q.0.1, ne_eqb _ _ q.1)
+    let k = c.args.kind in
+    simp (ne_eqb k 0 (omega arith), ne_eqb k 1 (omega arith), ne_eqb k 2 (omega arith), ne_eqb k 3 (omega arith))

@@ -1,7 +1,6 @@
 -- `wasm::entry::read_export` meets its contract. Assumes nothing.
 use mathlib.Core.Path.{◌∙◌, ap}
 use native.Mathlib.Omega.{arith}
-use borrow.Author.Rules.{rules}
 use Rattle.refusal.proofs.Following.{stops, goes}
 use Rattle.leb.specs.Answers.{said_byte, said_u32, said_part, why_byte, why_u32, why_part}
 use Rattle.leb.proofs.Answering.{hear}

@@ -1,6 +1,5 @@
 -- `wasm::entry::read_func` meets its contract. Assumes nothing.
 use mathlib.Core.Path.{refl, ◌∙◌, ap}
-use borrow.Author.Rules.{rules}
 use Rattle.refusal.proofs.Following.{stops, goes}
 use Rattle.leb.specs.Answers.{said_u32, why_u32}
 use Rattle.leb.proofs.Answering.{hear}

@@ -1,6 +1,5 @@
 -- `wasm::entry::read_global` meets its contract. Assumes nothing.
 use mathlib.Core.Path.{refl, ◌∙◌, ap}
-use borrow.Author.Rules.{rules}
 use Rattle.refusal.proofs.Following.{stops, goes}
 use Rattle.leb.specs.Answers.{said_byte, why_byte}
 use Rattle.leb.proofs.Answering.{hear}

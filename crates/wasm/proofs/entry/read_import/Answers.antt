@@ -1,7 +1,6 @@
 -- `wasm::entry::read_import` meets its contract. Assumes nothing.
 use mathlib.Core.Path.{sym, ◌∙◌, ap}
 use native.Mathlib.Omega.{arith}
-use borrow.Author.Rules.{rules}
 use Rattle.refusal.proofs.Following.{stops, goes}
 use Rattle.leb.specs.Answers.{said_byte, said_part, why_byte, why_part}
 use Rattle.leb.proofs.Answering.{hear}

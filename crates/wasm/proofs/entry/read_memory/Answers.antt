@@ -1,6 +1,5 @@
 -- `wasm::entry::read_memory` meets its contract. Assumes nothing.
 use mathlib.Core.Path.{refl, sym, ◌∙◌, ap}
-use borrow.Author.Rules.{rules}
 use Rattle.refusal.proofs.Following.{stops, goes}
 use Rattle.wasm.specs.Entry.{memory_at}
 use Rattle.wasm.specs.Entry.{said_limits, why_limits}

@@ -1,7 +1,6 @@
 -- `wasm::entry::read_symbol` meets its contract. Assumes nothing.
 use mathlib.Core.Path.{◌∙◌, ap}
 use native.Mathlib.Omega.{arith}
-use borrow.Author.Rules.{rules}
 use Rattle.refusal.proofs.Following.{stops, goes}
 use Rattle.leb.specs.Answers.{said_u32, said_part, why_u32, why_part}
 use Rattle.leb.proofs.Answering.{hear}

@@ -1,6 +1,5 @@
 -- `wasm::rows::desc_cells` meets its contract. Assumes nothing.
 use mathlib.Core.Path.{sym, ◌∙◌, ap}
-use borrow.Author.Rules.{rules}
 use Rattle.wasm.specs.Rows.{desc_cells}
 use Rattle.wasm.proofs.rows.desc_cells.Goals as goal
 

@@ -2,16 +2,14 @@
 -- nothing.
 use Prim.Native.Nat.{◌+◌, ◌*◌, ◌≤◌}
 use mathlib.Core.Path.{◌≡◌, refl, sym, ◌∙◌, ap}
-use mathlib.Core.List.{List}
 use native.Mathlib.Omega.{arith}
 use borrow.Author.Rules.{rules}
 use lib.ListN.{length}
 use Rattle.refusal.specs.Said.{accepted, got}
-use Rattle.table.specs.Table.{laid, cells}
-use Rattle.table.specs.Shape.{width, limit, capacity_in}
-use Rattle.table.specs.Entries.{entries_from}
+use Rattle.table.specs.Table.{cells}
+use Rattle.table.specs.Shape.{width, limit}
 use Rattle.table.proofs.Cells.{room_row, capacity-limit}
-use Rattle.table.proofs.Reading.{Held, held-bad, held-full, held_more, held_whole}
+use Rattle.table.proofs.Reading.{held-bad, held-full, held_more, held_whole}
 use Rattle.wasm.specs.declared.entry.Symbol.{Symbol}
 use Rattle.wasm.specs.Entry.{symbol_at}
 use Rattle.wasm.specs.Entry.{said_symbol}

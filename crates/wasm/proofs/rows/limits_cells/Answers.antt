@@ -1,5 +1,4 @@
 -- `wasm::rows::limits_cells` meets its contract. Assumes nothing.
-use borrow.Author.Rules.{rules}
 use Rattle.wasm.proofs.rows.limits_cells.Goals as goal
 
 pub returns-then-l : goal.returns-then-l

@@ -1,5 +1,4 @@
 -- `wasm::rows::put_import` meets its contract. Assumes nothing.
-use borrow.Author.Rules.{rules}
 use Rattle.wasm.proofs.Asked.{import-put}
 use Rattle.wasm.proofs.rows.put_import.Goals as goal
 

@@ -1,6 +1,5 @@
 -- `wasm::rows::read_symbols` meets its contract. Assumes nothing.
 use mathlib.Core.Path.{◌∙◌, ap}
-use borrow.Author.Rules.{rules}
 use Rattle.table.proofs.Telling.{tell-first, tell-next}
 use Rattle.leb.specs.Answers.{said_u32, why_u32}
 use Rattle.leb.proofs.Answering.{hear}

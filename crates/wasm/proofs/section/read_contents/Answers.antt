@@ -1,6 +1,6 @@
 -- `wasm::section::read_contents` meets its contract: each id has its own reader and table, and the others stay. Assumes nothing.
 use mathlib.Core.Path.{ap}
-use borrow.Author.Rules.{rules}
+use native.Mathlib.Omega.{arith}
 use borrow.Author.Tests.{ne_eqb}
 use Rattle.wasm.specs.Rows.{said_counted}
 use Rattle.wasm.specs.Custom.{said_custom}
@@ -37,5 +37,5 @@ returns-in-Rows-read_exports c z t zi ze zn n h =
 
 pub returns-in_default : goal.returns-in_default
 returns-in_default c z t zi ze zn n h =
-    let q = c.in_default.in_default-own.rest in
-    other-got _ _ _ z t _ _ _ _ (ne_eqb _ _ q.0.0.1) (ne_eqb _ _ q.0.1) (ne_eqb _ _ q.1) n h
+    let i = c.args.id in
+    other-got _ _ _ z t _ _ _ _ (ne_eqb i 0 (omega arith)) (ne_eqb i 2 (omega arith)) (ne_eqb i 7 (omega arith)) n h

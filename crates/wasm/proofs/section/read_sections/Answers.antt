@@ -1,14 +1,10 @@
 -- `wasm::section::read_sections` meets its contract: the invariant is `Going`. Assumes nothing.
-use Prim.Native.Nat.{◌-◌}
 use mathlib.Core.Path.{◌≡◌, refl, ◌∙◌, ap}
 use native.Mathlib.Omega.{arith}
-use borrow.Author.Rules.{rules}
-use lib.ListN.{length}
-use Rattle.table.specs.Walking.{walk_from}
 use Rattle.table.proofs.Telling.{passed}
-use Rattle.table.proofs.Walking.{Going, going_end, going-off, going_on}
+use Rattle.table.proofs.Walking.{going_end, going-off, going_on}
 use Rattle.wasm.specs.Custom.{named_of}
-use Rattle.wasm.specs.Module.{Sizes, lend, sizes, Holds, no_tables, section_at}
+use Rattle.wasm.specs.Module.{sizes, Holds, no_tables, section_at}
 use Rattle.wasm.specs.Module.{counts_of, said_counts}
 use Rattle.wasm.proofs.Framing.{sizes-same}
 use Rattle.wasm.proofs.section.read_sections.Goals as goal
@@ -16,26 +12,6 @@ use Rattle.wasm.proofs.section.read_sections.Goals as goal
 pub loop-c-init : goal.loop-c-init
 unfolding no_tables counts_of named_of
 loop-c-init c = (record { state = no_tables; value = refl; held = c.requires.holds; goes_on = refl }, refl)
-
-pub shape_of-sections-in-Refused : goal.shape_of-sections-in-Refused
-shape_of-sections-in-Refused c =
-    let kept : let l = c.read_section.new in let a = c.args in sizes l.sections l.imports l.exports l.names ≡ sizes a.sections.now a.imports.now a.exports.now a.names.now = let k = c.read_section.auto in sizes-same k.sections k.imports k.exports k.names ∙ c.loop-c.invariant.1 in
-    ap (λ (z : Sizes). z.sections) (kept)
-
-pub shape_of-imports-in-Refused : goal.shape_of-imports-in-Refused
-shape_of-imports-in-Refused c =
-    let kept : let l = c.read_section.new in let a = c.args in sizes l.sections l.imports l.exports l.names ≡ sizes a.sections.now a.imports.now a.exports.now a.names.now = let k = c.read_section.auto in sizes-same k.sections k.imports k.exports k.names ∙ c.loop-c.invariant.1 in
-    ap (λ (z : Sizes). z.imports) (kept)
-
-pub shape_of-exports-in-Refused : goal.shape_of-exports-in-Refused
-shape_of-exports-in-Refused c =
-    let kept : let l = c.read_section.new in let a = c.args in sizes l.sections l.imports l.exports l.names ≡ sizes a.sections.now a.imports.now a.exports.now a.names.now = let k = c.read_section.auto in sizes-same k.sections k.imports k.exports k.names ∙ c.loop-c.invariant.1 in
-    ap (λ (z : Sizes). z.exports) (kept)
-
-pub shape_of-names-in-Refused : goal.shape_of-names-in-Refused
-shape_of-names-in-Refused c =
-    let kept : let l = c.read_section.new in let a = c.args in sizes l.sections l.imports l.exports l.names ≡ sizes a.sections.now a.imports.now a.exports.now a.names.now = let k = c.read_section.auto in sizes-same k.sections k.imports k.exports k.names ∙ c.loop-c.invariant.1 in
-    ap (λ (z : Sizes). z.names) (kept)
 
 pub returns-in-Refused : goal.returns-in-Refused
 returns-in-Refused c =
@@ -59,18 +35,6 @@ loop-c-preserved c =
           (ap said_counts c.in-Read.is) p.0 p.1,
       kept,
     )
-
-pub shape_of-sections : goal.shape_of-sections
-shape_of-sections c = ap (λ (z : Sizes). z.sections) c.loop-c.invariant.1
-
-pub shape_of-imports : goal.shape_of-imports
-shape_of-imports c = ap (λ (z : Sizes). z.imports) c.loop-c.invariant.1
-
-pub shape_of-exports : goal.shape_of-exports
-shape_of-exports c = ap (λ (z : Sizes). z.exports) c.loop-c.invariant.1
-
-pub shape_of-names : goal.shape_of-names
-shape_of-names c = ap (λ (z : Sizes). z.names) c.loop-c.invariant.1
 
 pub returns : goal.returns
 returns c = going_end c.loop-c.invariant.0 c.loop-c-test.false

@@ -1,15 +1,10 @@
 use Prim.Native.Nat.{◌-◌}
-use mathlib.Core.Path.{◌≡◌, refl, ◌∙◌, ap}
-use native.Mathlib.Omega.{arith}
-use borrow.Author.Rules.{rules}
+use mathlib.Core.Path.{◌≡◌}
 use lib.ListN.{length}
 use Rattle.table.specs.Walking.{walk_from}
-use Rattle.table.proofs.Telling.{passed}
-use Rattle.table.proofs.Walking.{Going, going_end, going-off, going_on}
-use Rattle.wasm.specs.Custom.{named_of}
-use Rattle.wasm.specs.Module.{Sizes, lend, sizes, Holds, no_tables, section_at}
-use Rattle.wasm.specs.Module.{counts_of, said_counts}
-use Rattle.wasm.proofs.Framing.{sizes-same}
+use Rattle.table.proofs.Walking.{Going}
+use Rattle.wasm.specs.Module.{lend, sizes, Holds, no_tables, section_at}
+use Rattle.wasm.specs.Module.{counts_of}
 use Rattle.wasm.proofs.section.read_sections.Given as goal
 
 abbrev pub invariant-loop-c : goal.invariant-loop-c

@@ -1,7 +1,6 @@
 -- `wasm::section::take_section` meets its contract. Assumes nothing.
 use mathlib.Core.Path.{refl}
 use native.Mathlib.Omega.{arith}
-use borrow.Author.Rules.{rules}
 use Rattle.wasm.proofs.Framing.{take-full, take_more}
 use Rattle.table.specs.Told.{Ends}
 use Rattle.wasm.proofs.section.take_section.Goals as goal
