@@ -5,7 +5,7 @@ use native.Mathlib.Omega.{arith}
 use mathlib.Core.Path.{◌≡◌, refl, sym, ◌∙◌, ap, subst, subst₂}
 use mathlib.Core.Bool.{Bool, true, false}
 use mathlib.Core.List.{List, [], ◌∷◌, ◌++◌}
-use lib.ListN.{length, get_or, take, drop, length-drop, length-take}
+use lib.ListN.{length, get_or, drop, length-drop}
 use lib.Seq.{get_or-take, get_or-drop}
 use lib.Dec.{ltb, leb, eqb}
 use borrow.Author.Tests.{le-ltb, leb-true, ltb-true, ltb-false, eqb-false}
@@ -13,7 +13,7 @@ use Rattle.refusal.specs.Pick.{pick, within}
 use Rattle.refusal.specs.Sizes.{file_limit}
 use Rattle.refusal.specs.Said.{Said, accepted, refused, Place, offset, spot, kind_at, moved_by, relocated, Got, got, onward}
 use Rattle.refusal.specs.declared.Part.{Part}
-use Rattle.refusal.proofs.Following.{never, relocated-got}
+use Rattle.refusal.proofs.Following.{never}
 use Rattle.text.specs.Utf8.{up_to}
 use Rattle.text.specs.Find.{same}
 use Rattle.table.specs.Shape.{capacity_in}
@@ -22,7 +22,7 @@ use Rattle.table.specs.Walking.{walk_from}
 use Rattle.table.proofs.Walking.{from_end, from-stop, from-go}
 use Rattle.leb.specs.Groups.{Out, value, ends, overlong, oversize, grown, spent, u_n}
 use Rattle.leb.specs.Reads.{part, part_bytes, byte_at, fixed_at, taken_at, told_at, uleb_at, narrowed, u32_at, counted_at, checked, name_at}
-use Rattle.leb.proofs.Bounds.{byte-in, uleb-in, u32-in, take_in, counted-in, name_in}
+use Rattle.leb.proofs.Bounds.{uleb-in, u32-in, take_in, counted-in}
 use Rattle.wasm.specs.Entry.{limits_at, func_at, table_at, memory_at, global_at, desc_at, import_at, export_at, symbol_at}
 use Rattle.wasm.specs.Rows.{imports_of, exports_of, symbols_of}
 use Rattle.wasm.specs.Custom.{Names, label_at, told_by, subsection_at, name_word, custom_at}

@@ -1,15 +1,13 @@
 -- The names of a table's rows are read one after another: together they have no more bytes than the file. Assumes nothing.
-use Prim.Native.Nat.{ℕ, zero, suc, ◌+◌, ◌≤◌, ◌<◌, ◌%◌}
+use Prim.Native.Nat.{ℕ, zero, suc, ◌+◌, ◌≤◌, ◌%◌}
 use native.Mathlib.Omega.{arith}
-use mathlib.Core.Path.{◌≡◌, refl, subst}
-use mathlib.Core.Bool.{Bool, true, false}
+use mathlib.Core.Path.{◌≡◌}
 use mathlib.Core.List.{List, [], ◌∷◌, ◌++◌}
 use lib.ListN.{length}
 use lib.Dec.{ltb, eqb}
-use Rattle.refusal.specs.Pick.{pick}
 use Rattle.refusal.specs.Sizes.{file_limit}
-use Rattle.refusal.specs.Said.{Said, accepted, refused, Got, got, onward, spot, kind_at}
-use Rattle.refusal.proofs.Following.{never, read-on, relocated-got}
+use Rattle.refusal.specs.Said.{Said, Got, got, onward, spot, kind_at}
+use Rattle.refusal.proofs.Following.{relocated-got}
 use Rattle.table.specs.Shape.{capacity_in}
 use Rattle.table.specs.Entries.{entries_from}
 use Rattle.table.specs.Walking.{walk_from}
@@ -22,7 +20,6 @@ use Rattle.wasm.specs.Custom.{custom_at}
 use Rattle.wasm.specs.Module.{Tables, Sizes, Inner, contents_at, add_section, section_at, header_at, no_tables, Parsed, module_at}
 use Rattle.conform.specs.Sound.{total, import_size, export_size, Together, NamesTogether}
 use Rattle.conform.proofs.Parts.{part_length}
-use Rattle.conform.proofs.Walks.{same-got}
 
 -- ---- a read from `at` on goes on, and stays within s
 abbrev Past : List ℕ → ℕ → {T : Type 0} → Got T → Type 0

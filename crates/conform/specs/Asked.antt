@@ -5,7 +5,7 @@ use Rattle.refusal.specs.Said.{Said, accepted, follow}
 use Rattle.table.specs.Table.{cells}
 use Rattle.wasm.specs.Shapes.{Import}
 use Rattle.wasm.specs.Rows.{import_cells}
-use Rattle.wasm.specs.Module.{Parsed, module_at}
+use Rattle.wasm.specs.Module.{module_at}
 use Rattle.conform.specs.Grammar.{ref_byte, val_byte, mut_byte, Lim, least, between, DescOf, ImportOf}
 use Rattle.conform.specs.Claims.{desc_kind, import_said, ImportHere}
 use Rattle.conform.specs.Sound.{ImportOk, limits}

@@ -4,6 +4,7 @@ use native.Mathlib.Nat.{lt_of_lt_of_le}
 use native.Mathlib.Numerals.{add-one}
 use native.Mathlib.Omega.{arith}
 use mathlib.Core.Path.{◌≡◌, refl, ◌∙◌, ap}
+use mathlib.Core.Logic.{◌⊎◌, inl, inr}
 use mathlib.Core.Bool.{Bool, true, false}
 use mathlib.Core.List.{List, ◌∷◌}
 use borrow.Author.Tests.{ltb-true, ltb-false}
@@ -71,11 +72,16 @@ module _ (s : List ℕ) (begin i shift acc : ℕ) (r : Reading s begin i shift a
         rw (r.sofar, drop-cons s i 0 l, e, big (get_or s i 0) (drop (suc i) s) byte g)
 
     -- the group fits what is left
-    pub fits-tenth : shift ≡ 63 → bit_and (get_or s i 0) 127 ≤ 1 → bit_and (get_or s i 0) 127 < 2 ^ (64 - shift)
+    fits-tenth : shift ≡ 63 → bit_and (get_or s i 0) 127 ≤ 1 → bit_and (get_or s i 0) 127 < 2 ^ (64 - shift)
     fits-tenth e g = rw e (omega arith)
 
-    pub fits-before : (shift ≡ 63 → ⊥) → bit_and (get_or s i 0) 127 < 2 ^ (64 - shift)
+    fits-before : (shift ≡ 63 → ⊥) → bit_and (get_or s i 0) 127 < 2 ^ (64 - shift)
     fits-before n = lt_of_lt_of_le (low-lt (get_or s i 0)) (pow_mono {i = 7} (omega (arith, r.bits)))
+
+    -- by whichever way control came
+    pub fits : ((shift ≡ 63) × (bit_and (get_or s i 0) 127 ≤ 1)) ⊎ (shift ≡ 63 → ⊥) → bit_and (get_or s i 0) 127 < 2 ^ (64 - shift)
+    fits (inl w) = fits-tenth w.0 w.1
+    fits (inr w) = fits-before w
 
     module _ (room : bit_and (get_or s i 0) 127 < 2 ^ (64 - shift)) where
       placed : bit_or acc ((bit_and (get_or s i 0) 127 * 2 ^ shift) % 2 ^ 64) ≡ acc + bit_and (get_or s i 0) 127 * 2 ^ shift

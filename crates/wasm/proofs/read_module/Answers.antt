@@ -1,7 +1,7 @@
 -- `wasm::read_module` meets its contract: after a refusal every table is zero again. Assumes nothing.
-use mathlib.Core.Path.{◌≡◌, sym, ◌∙◌, ap, subst}
+use mathlib.Core.Path.{sym, ◌∙◌, ap, subst}
 use native.Mathlib.Omega.{arith}
-use Rattle.wasm.specs.Module.{Sizes, lend, sizes, Holds, no_tables}
+use Rattle.wasm.specs.Module.{Sizes, lend, Holds, no_tables}
 use Rattle.wasm.specs.Module.{said_header, why_header, said_counts}
 use Rattle.wasm.proofs.Framing.{sizes-same}
 use Rattle.wasm.proofs.Answer.{module-long, module-head, module-good, module-stop}
@@ -19,28 +19,29 @@ returns-in_default c =
 
 pub read_sections-requires : goal.read_sections-requires
 read_sections-requires c =
-    let kept : let l = c.clear_all.new in let a = c.args in sizes l.sections l.imports l.exports l.names ≡ sizes a.sections.now a.imports.now a.exports.now a.names.now = let k = c.clear_all.auto in sizes-same k.sections k.imports k.exports k.names in
-    let l = c.clear_all.new in record {
+    let k = c.clear_all.auto in
+    let l = c.clear_all.new in
+    record {
       file_len_bound = omega (arith, c.if-length-gt-MAX_FILE.false);
-      holds = subst (λ (z : Sizes). Holds (lend l.sections l.imports l.exports l.names) z no_tables) (sym (kept)) c.clear_all.ensures;
+      holds = subst (λ (z : Sizes). Holds (lend l.sections l.imports l.exports l.names) z no_tables) (sym (sizes-same k.sections k.imports k.exports k.names)) c.clear_all.ensures;
     }
 
 pub returns-in-Read-read_sections : goal.returns-in-Read-read_sections
 returns-in-Read-read_sections c =
-    let kept : let l = c.clear_all.new in let a = c.args in sizes l.sections l.imports l.exports l.names ≡ sizes a.sections.now a.imports.now a.exports.now a.names.now = let k = c.clear_all.auto in sizes-same k.sections k.imports k.exports k.names in
+    let k = c.clear_all.auto in
     module-good _ _ c.if-length-gt-MAX_FILE.false _ _
     (sym c.read_header-one.ensures ∙ ap said_header c.in-Read.is) _
-    (kept) _
+    (sizes-same k.sections k.imports k.exports k.names) _
     c.read_sections.ensures _ _ _ (ap said_counts c.in-Read-read_sections.is) c.module_of.ensures
 
 pub returns-in-Refused : goal.returns-in-Refused
 returns-in-Refused c =
-    let kept : let l = c.clear_all.new in let a = c.args in sizes l.sections l.imports l.exports l.names ≡ sizes a.sections.now a.imports.now a.exports.now a.names.now = let k = c.clear_all.auto in sizes-same k.sections k.imports k.exports k.names in
-    let kept-through : let l = c.read_sections.new in let a = c.args in sizes l.sections l.imports l.exports l.names ≡ sizes a.sections.now a.imports.now a.exports.now a.names.now = let k = c.read_sections.auto in sizes-same k.sections k.imports k.exports k.names ∙ kept in
+    let k = c.clear_all.auto in
+    let j = c.read_sections.auto in
     let l = c.clear_all-in-Refused.new in
     module-stop _ _ c.if-length-gt-MAX_FILE.false _ _
     (sym c.read_header-one.ensures ∙ ap said_header c.in-Read.is) _
-    (kept) _
+    (sizes-same k.sections k.imports k.exports k.names) _
     c.read_sections.ensures _ _ _ (ap said_counts c.in-Refused.is)
-    (subst (λ (z : Sizes). Holds (lend l.sections l.imports l.exports l.names) z no_tables) (kept-through)
+    (subst (λ (z : Sizes). Holds (lend l.sections l.imports l.exports l.names) z no_tables) (sizes-same j.sections j.imports j.exports j.names ∙ sizes-same k.sections k.imports k.exports k.names)
     c.clear_all-in-Refused.ensures)

@@ -1,14 +1,12 @@
 -- `leb::Cursor::uleb128` meets its contract: the loop's invariant is `Reading`, and each need is a lemma of `proofs/Unsigned.antt`.
 -- Assumes nothing.
-use Prim.Native.Nat.{◌-◌, ◌^◌, ◌<◌}
+use Prim.Native.Nat.{◌<◌}
 use native.Mathlib.Omega.{arith}
-use lib.Bits.{bit_and}
 use lib.ListN.{get_or}
 use Rattle.bits.proofs.Masks.{low-lt}
 use Rattle.leb.proofs.Answering.{gives, refuses}
-use Rattle.leb.proofs.Unsigned.{begins, at-end, too_long, too-big, fits-tenth, fits-before, last, more}
+use Rattle.leb.proofs.Unsigned.{begins, at-end, too_long, too-big, fits, last, more}
 use Rattle.leb.proofs.Cursor.uleb128.Goals as goal
-use Rattle.leb.proofs.Cursor.uleb128.Goals.{else-shift-eq63-via-then-shift-eq63+else-low-gt1, else-shift-eq63-via-else-shift-eq63}
 
 pub loop-shift-init : goal.loop-shift-init
 loop-shift-init c = begins c.args.s.now c.args.self.at
@@ -29,10 +27,10 @@ returns-then-low-gt1 c =
 pub returns-then-b-eq0 : goal.returns-then-b-eq0
 returns-then-b-eq0 c =
     let byte : get_or c.args.s.now c.loop-shift.i 0 < 256 = omega (arith, c.type_inv.s c.loop-shift.i) in
-    let room : bit_and (get_or c.args.s.now c.loop-shift.i 0) 127 < 2 ^ (64 - c.loop-shift.shift) = let inv = c.loop-shift.invariant in let t = c.loop-shift-test.true in let l = c.if-s-i.false in elim c.else-shift-eq63.branch [ else-shift-eq63-via-then-shift-eq63+else-low-gt1 w ↦ fits-tenth _ _ _ _ _ inv t l byte w.if-shift-eq63.true w.if-low-gt1.false | else-shift-eq63-via-else-shift-eq63 w ↦ fits-before _ _ _ _ _ inv t l byte w.if-shift-eq63.false ] in
+    let room = fits _ _ _ _ _ c.loop-shift.invariant c.loop-shift-test.true c.if-s-i.false byte c.else-shift-eq63.either in
     gives _
-    (last _ _ _ _ _ c.loop-shift.invariant c.loop-shift-test.true c.if-s-i.false (byte)
-    (room) c.if-b-eq0.true)
+    (last _ _ _ _ _ c.loop-shift.invariant c.loop-shift-test.true c.if-s-i.false byte room
+    c.if-b-eq0.true)
 
 pub loop-shift-smaller : goal.loop-shift-smaller
 loop-shift-smaller c = omega arith
@@ -40,9 +38,9 @@ loop-shift-smaller c = omega arith
 pub loop-shift-preserved : goal.loop-shift-preserved
 loop-shift-preserved c =
     let byte : get_or c.args.s.now c.loop-shift.i 0 < 256 = omega (arith, c.type_inv.s c.loop-shift.i) in
-    let room : bit_and (get_or c.args.s.now c.loop-shift.i 0) 127 < 2 ^ (64 - c.loop-shift.shift) = let inv = c.loop-shift.invariant in let t = c.loop-shift-test.true in let l = c.if-s-i.false in elim c.else-shift-eq63.branch [ else-shift-eq63-via-then-shift-eq63+else-low-gt1 w ↦ fits-tenth _ _ _ _ _ inv t l byte w.if-shift-eq63.true w.if-low-gt1.false | else-shift-eq63-via-else-shift-eq63 w ↦ fits-before _ _ _ _ _ inv t l byte w.if-shift-eq63.false ] in
-    more _ _ _ _ _ c.loop-shift.invariant c.loop-shift-test.true c.if-s-i.false (byte)
-    (room) c.if-b-eq0.false
+    let room = fits _ _ _ _ _ c.loop-shift.invariant c.loop-shift-test.true c.if-s-i.false byte c.else-shift-eq63.either in
+    more _ _ _ _ _ c.loop-shift.invariant c.loop-shift-test.true c.if-s-i.false byte room
+    c.if-b-eq0.false
 
 pub returns-then-i-s : goal.returns-then-i-s
 returns-then-i-s c = refuses _ (too_long _ _ _ _ _ c.loop-shift.invariant c.loop-shift-test.false c.if-i-s.true)

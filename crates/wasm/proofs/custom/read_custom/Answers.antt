@@ -1,12 +1,10 @@
 -- `wasm::custom::read_custom` meets its contract. Assumes nothing.
-use Prim.Native.Nat.{◌+◌, ◌-◌}
 use mathlib.Core.Path.{◌≡◌, sym, ◌∙◌, ap}
 use native.Mathlib.Omega.{arith}
-use lib.ListN.{take, drop}
 use Rattle.refusal.specs.Said.{accepted, got}
 use Rattle.table.proofs.Telling.{tell-first}
 use Rattle.leb.specs.Answers.{said_part, why_part}
-use Rattle.leb.specs.Reads.{part_bytes, name_at}
+use Rattle.leb.specs.Reads.{name_at}
 use Rattle.leb.proofs.Answering.{hear}
 use Rattle.leb.proofs.Bounds.{name_in}
 use Rattle.wasm.specs.Custom.{custom_at, name_word, said_named}
@@ -40,17 +38,17 @@ pub returns-then-not-equal : goal.returns-then-not-equal
 unfolding name_word
 returns-then-not-equal c t n h =
     let named : name_at c.args.s.now 0 ≡ accepted (got c.in-Read.p c.in-Read.c.at) = hear said_part _ _ c.name-one.ensures c.in-Read.is in
-    let cutting : let p = c.in-Read.p in let s = c.args.s.now in take (p.from + p.len - p.from) (drop p.from s) ≡ part_bytes s p = let p = c.in-Read.p in cut p.from p.len c.args.s.now in
+    let p = c.in-Read.p in
     custom-plain _ _ _ t _ _ (named) _
-    (cutting) _ c.shift-name.ensures
+    (cut p.from p.len c.args.s.now) _ c.shift-name.ensures
     (sym c.equal.ensures ∙ c.if-not-equal.true) _ _ n h
 
 pub returns-in-Refused : goal.returns-in-Refused
 unfolding name_word
 returns-in-Refused c t n h =
     let named : name_at c.args.s.now 0 ≡ accepted (got c.in-Read.p c.in-Read.c.at) = hear said_part _ _ c.name-one.ensures c.in-Read.is in
-    let cutting : let p = c.in-Read.p in let s = c.args.s.now in take (p.from + p.len - p.from) (drop p.from s) ≡ part_bytes s p = let p = c.in-Read.p in cut p.from p.len c.args.s.now in
-    custom-stop _ _ _ t _ _ (named) _ (cutting) _
+    let p = c.in-Read.p in
+    custom-stop _ _ _ t _ _ (named) _ (cut p.from p.len c.args.s.now) _
     c.shift-name.ensures
     (sym c.equal.ensures ∙ c.if-not-equal.false) _
     (c.read_subsections.ensures t n h) (ap said_named c.in-Refused.is)
@@ -59,9 +57,9 @@ pub returns-in-Read-read_subsections : goal.returns-in-Read-read_subsections
 unfolding name_word
 returns-in-Read-read_subsections c t n h =
     let named : name_at c.args.s.now 0 ≡ accepted (got c.in-Read.p c.in-Read.c.at) = hear said_part _ _ c.name-one.ensures c.in-Read.is in
-    let cutting : let p = c.in-Read.p in let s = c.args.s.now in take (p.from + p.len - p.from) (drop p.from s) ≡ part_bytes s p = let p = c.in-Read.p in cut p.from p.len c.args.s.now in
+    let p = c.in-Read.p in
     custom-names _ _ _ t _ _ (named) _
-    (cutting) _ c.shift-name.ensures
+    (cut p.from p.len c.args.s.now) _ c.shift-name.ensures
     (sym c.equal.ensures ∙ c.if-not-equal.false) _
     (c.read_subsections.ensures t n h)
     (ap said_named c.in-Read-read_subsections.is)

@@ -1,10 +1,10 @@
 -- `wasm::section::read_sections` meets its contract: the invariant is `Going`. Assumes nothing.
-use mathlib.Core.Path.{◌≡◌, refl, ◌∙◌, ap}
+use mathlib.Core.Path.{refl, ◌∙◌, ap}
 use native.Mathlib.Omega.{arith}
 use Rattle.table.proofs.Telling.{passed}
 use Rattle.table.proofs.Walking.{going_end, going-off, going_on}
 use Rattle.wasm.specs.Custom.{named_of}
-use Rattle.wasm.specs.Module.{sizes, Holds, no_tables, section_at}
+use Rattle.wasm.specs.Module.{Holds, no_tables, section_at}
 use Rattle.wasm.specs.Module.{counts_of, said_counts}
 use Rattle.wasm.proofs.Framing.{sizes-same}
 use Rattle.wasm.proofs.section.read_sections.Goals as goal
@@ -29,11 +29,11 @@ loop-c-smaller c =
 
 pub loop-c-preserved : goal.loop-c-preserved
 loop-c-preserved c =
-    let kept : let l = c.read_section.new in let a = c.args in sizes l.sections l.imports l.exports l.names ≡ sizes a.sections.now a.imports.now a.exports.now a.names.now = let k = c.read_section.auto in sizes-same k.sections k.imports k.exports k.names ∙ c.loop-c.invariant.1 in
+    let k = c.read_section.auto in
     let p = passed _ _ c.read_section.ensures.0 (ap said_counts c.in-Read.is) in (
       going_on (section_at _) (Holds _) (Holds _) c.loop-c.invariant.0 c.loop-c.invariant.1 c.read_section.ensures.1
           (ap said_counts c.in-Read.is) p.0 p.1,
-      kept,
+      sizes-same k.sections k.imports k.exports k.names ∙ c.loop-c.invariant.1,
     )
 
 pub returns : goal.returns
