@@ -6,7 +6,6 @@ use Prim.Native.Nat.{ℕ, ◌+◌, ◌-◌, ◌≤◌, ◌<◌}
 use native.Mathlib.Omega.{arith}
 use borrow.Author.Tests.{ltb-true, ltb-false}
 use lib.Dec.{eqb, ltb}
-use lib.ListN.{length}
 use Rattle.refusal.specs.Pick.{pick}
 use Rattle.text.specs.Order.{cmp_nat, and_then, cmp_bytes}
 use Rattle.text.specs.declared.order.Order.{Order}
@@ -17,7 +16,7 @@ use Rattle.kinds.specs.Kinds.{kind_of}
 use Rattle.import_rows.specs.Queries.{kind_is}
 use Rattle.differences.specs.View.{ExportKey, Need, export_key_at, need_at, export_rows, row}
 use Rattle.differences.specs.Rank.{rank_of}
-use Rattle.differences.specs.Differences.{Entry, kind_slug, cmp_export, cmp_need, export_order, need_order, changes}
+use Rattle.differences.specs.Differences.{kind_slug, cmp_export, cmp_need, export_order, need_order, changes}
 use Rattle.differences.specs.Numbers.{sided}
 use Rattle.differences.proofs.Ranks.{rank-order}
 use Rattle.differences.proofs.Only.{lawful-export, lawful-exports, lawful-needs}

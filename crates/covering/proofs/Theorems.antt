@@ -1,15 +1,15 @@
 -- The proofs of Covering. Assumes nothing.
-use mathlib.Core.Path.{◌≡◌, refl, sym, ◌∙◌, ap}
+use mathlib.Core.Path.{◌≡◌, refl, sym, ◌∙◌}
 use mathlib.Core.Logic.{◌↔◌}
-use mathlib.Core.Bool.{true, ◌&&◌}
+use mathlib.Core.Bool.{true}
 use mathlib.Core.List.Memᴰ
-use mathlib.Core.List.{List, [], ◌∷◌, map}
+use mathlib.Core.List.{List, [], ◌∷◌}
 use Prim.Native.Nat.{ℕ}
 use Rattle.sorting.specs.Sort.{◌∈◌}
 use Rattle.differences.specs.View.{Need, View}
-use Rattle.differences.specs.Differences.{Entry, need_order, export_diff, need_diff, compatible}
-use Rattle.differences.specs.Compared.{Lists, lists, verdict_on}
-use Rattle.covering.specs.Replacing.{IsChange, IsLowest, Rising, reversed}
+use Rattle.differences.specs.Differences.{Entry, need_diff, compatible}
+use Rattle.differences.specs.Compared.{lists, verdict_on}
+use Rattle.covering.specs.Replacing.{IsChange, IsLowest, Rising}
 use Rattle.covering.specs.Covering.{ViewCovers, ViewChain, last_view, view_pairs, view_domains, exchanged, ViewReplacement, ViewListing}
 use Rattle.covering.proofs.Differ.{mem-map, map-mem}
 use Rattle.covering.proofs.Lowest.{lowest-each}

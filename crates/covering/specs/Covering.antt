@@ -3,7 +3,7 @@
 use Rattle.std.specs.Prelude.{◌≡◌, ◌↔◌, true, List, [], ◌∷◌, map, ℕ}
 use Rattle.sorting.specs.Sort.{◌∈◌, Ascending}
 use Rattle.differences.specs.declared.Change.TheVariants.{Removed, Added}
-use Rattle.differences.specs.View.{ExportKey, Need, Row, View}
+use Rattle.differences.specs.View.{ExportKey, Need, View}
 use Rattle.differences.specs.Differences.{Entry, export_order, need_order, export_diff, need_diff, compatible}
 use Rattle.differences.specs.Compared.{Lists, lists, verdict_on}
 use Rattle.covering.specs.Replacing.{keys, Reports, IsChange, IsLowest, Rising, reversed}

@@ -1,7 +1,7 @@
 -- The lists of small modules, computed. Assumes nothing.
 use mathlib.Core.Path.{◌≡◌, refl}
 use mathlib.Core.Bool.{false}
-use mathlib.Core.List.{List, [], ◌∷◌, map}
+use mathlib.Core.List.{[], ◌∷◌, map}
 use Prim.Native.Nat.{ℕ}
 use Rattle.text.specs.Order.{cmp_bytes}
 use Rattle.table.specs.Table.{cell_of, range_of}

@@ -1,15 +1,13 @@
 -- The rank of a kind goes by the bytes of its slug. Assumes nothing.
 use mathlib.Core.Path.{◌≡◌, refl, sym, ◌∙◌, ap}
 use mathlib.Core.Bool.{Bool, true, false}
-use mathlib.Core.List.{List, [], ◌∷◌}
-use Prim.Native.Nat.{ℕ, zero, suc, ◌+◌, ◌-◌, ◌*◌, ◌/◌, ◌%◌, ◌≤◌, ◌<◌}
+use Prim.Native.Nat.{ℕ, zero, suc, ◌+◌, ◌-◌, ◌/◌, ◌%◌, ◌≤◌, ◌<◌}
 use native.Mathlib.Omega.{arith}
 use borrow.Author.Tests.{ltb-true, ltb-false, ne_eqb}
 use lib.Dec.{ltb, eqb}
 use Rattle.refusal.specs.Pick.{pick}
 use Rattle.text.specs.Order.{cmp_nat, and_then, cmp_bytes}
-use Rattle.text.specs.declared.order.Order.{Order}
-use Rattle.text.specs.declared.order.Order.TheVariants.{Less, Equal, Greater}
+use Rattle.text.specs.declared.order.Order.TheVariants.{Equal}
 use Rattle.text.proofs.OrderLaws.{Tri, below, at, above, tri}
 use Rattle.sorting.proofs.Orders.{nat-less, nat-greater, nat-same}
 use Rattle.kinds.specs.Kinds.{kind_of, kind_word, hex_of}

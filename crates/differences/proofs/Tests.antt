@@ -9,7 +9,7 @@ use lib.Dec.{leb, ltb}
 use lib.ListN.{length}
 use Rattle.refusal.specs.Pick.{pick, both}
 use Rattle.refusal.specs.Sizes.{fits_in}
-use Rattle.refusal.specs.Said.{Said, accepted, refused, spot}
+use Rattle.refusal.specs.Said.{accepted, refused, spot}
 use Rattle.refusal.proofs.Following.{never}
 use Rattle.table.specs.Shape.{width, limit, capacity_in, cell_in}
 use Rattle.table.specs.Testing.{bad, first_from, tested}

@@ -1,5 +1,5 @@
 -- docs/RULES.md, "Differences": what the comparison of two modules answers, and what tables 8 and 9 then hold. Assumes nothing.
-use Rattle.std.specs.Prelude.{◌≡◌, Bool, ◌&&◌, List, [], ◌∷◌, ℕ, ◌+◌, leb, ltb, length}
+use Rattle.std.specs.Prelude.{◌≡◌, Bool, ◌&&◌, List, [], ◌∷◌, ℕ, leb, ltb, length}
 use Rattle.refusal.specs.Pick.{pick, both}
 use Rattle.refusal.specs.Sizes.{file_limit, fits_in}
 use Rattle.refusal.specs.Said.{Said, accepted, refused, follow, spot}

@@ -1,8 +1,8 @@
 -- The rows that selected their marks are the missing ones. Assumes nothing.
-use mathlib.Core.Path.{◌≡◌, refl, sym, ◌∙◌, ap}
+use mathlib.Core.Path.{◌≡◌, refl, ◌∙◌, ap}
 use mathlib.Core.Bool.{Bool, true, false, not}
 use mathlib.Core.List.{List}
-use Prim.Native.Nat.{ℕ, ◌+◌, ◌≤◌, ◌<◌}
+use Prim.Native.Nat.{ℕ, ◌≤◌, ◌<◌}
 use native.Mathlib.Omega.{arith}
 use borrow.Author.Tests.{lt-ltb}
 use lib.Dec.{eqb}
@@ -12,7 +12,7 @@ use Rattle.table.specs.Table.{cell_of}
 use Rattle.sorting.specs.Sort.{◌∈◌, sort, selected, up_from}
 use Rattle.sorting.specs.Keys.{row_order, name_of, file_of, row_marked, sorted_rows}
 use Rattle.sorting.proofs.Rowing.{lawful-rows}
-use Rattle.sorting.proofs.Ranking.{keep-to, up-to}
+use Rattle.sorting.proofs.Ranking.{up-to}
 use Rattle.sorting.proofs.Numbers.{sort-agree}
 use Rattle.sorting.specs.Keys.{Sorts}
 use Rattle.sorting.specs.declared.Keys.{Keys}

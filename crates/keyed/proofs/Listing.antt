@@ -2,19 +2,19 @@
 use mathlib.Core.Path.{◌≡◌, refl, sym, ◌∙◌, ap}
 use mathlib.Core.Bool.{Bool, true, false}
 use mathlib.Core.List.{List, [], ◌∷◌}
-use Prim.Native.Nat.{ℕ, zero, suc, ◌+◌, ◌-◌, ◌≤◌, ◌<◌}
+use Prim.Native.Nat.{ℕ, zero, suc, ◌-◌, ◌≤◌, ◌<◌}
 use native.Mathlib.Omega.{arith}
 use borrow.Author.Tests.{le-leb, leb-true}
 use lib.Dec.{leb}
 use lib.ListN.{length, take, replicate}
 use lib.Seq.{take_at}
 use Rattle.refusal.specs.Pick.{pick, both}
-use Rattle.refusal.specs.Said.{Said, accepted, refused}
+use Rattle.refusal.specs.Said.{accepted}
 use Rattle.refusal.proofs.Following.{never}
 use Rattle.text.specs.declared.order.Order.{Order}
 use Rattle.text.proofs.Laws.{both_one, both-two}
 use Rattle.table.specs.Table.{laid, cells, rows_of}
-use Rattle.table.specs.Entries.{finished, fitting}
+use Rattle.table.specs.Entries.{fitting}
 use Rattle.table.proofs.Laws.{length-laid}
 use Rattle.table.proofs.Reading.{finished-room}
 use Rattle.sorting.specs.Sort.{◌∈◌, sort, selected, up_from}
@@ -23,7 +23,7 @@ use Rattle.sorting.specs.declared.Sorted.{Sorted}
 use Rattle.sorting.specs.declared.Sorted.TheVariants.{Rows, Full}
 use Rattle.sorting.proofs.Sorts.{sort-length}
 use Rattle.keyed.specs.Keying.{columns, by_rank, same_key, lost_key, missing, holds_all, Whole, Lacks, single, ranked, lonely}
-use Rattle.keyed.proofs.Missing.{list, ranks, left, of-list, left-sorted}
+use Rattle.keyed.proofs.Missing.{list, of-list, left-sorted}
 
 -- ---- a list in a table that has room for it
 pub sorts-whole : (l before after : List ℕ) (r : Sorted) → Sorts l before after r → length l ≤ length before → Whole l before after r

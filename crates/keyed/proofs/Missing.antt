@@ -5,7 +5,7 @@ use mathlib.Core.List.Memᴰ
 use mathlib.Core.List.{List, [], ◌∷◌, ◌++◌}
 use Prim.Native.Nat.{ℕ, zero, suc, ◌+◌, ◌≤◌, ◌<◌}
 use native.Mathlib.Omega.{arith}
-use borrow.Author.Tests.{ltb-true, ltb-false, eq-eqb, ne_eqb}
+use borrow.Author.Tests.{ltb-true, ltb-false, ne_eqb}
 use lib.Dec.{eqb, ltb}
 use lib.ListN.{length, get_or, get_or-append}
 use lib.Seq.{get_or-append-add}
@@ -20,7 +20,6 @@ use Rattle.table.proofs.Cells.{cell-beside}
 use Rattle.sorting.specs.Order.{Lawful}
 use Rattle.sorting.specs.Sort.{◌∈◌, sort, selected, up_from}
 use Rattle.sorting.specs.Keys.{row_order, name_of, file_of, row_marked, unmarked, sorted_rows, other_rows}
-use Rattle.sorting.proofs.Orders.{nat-same}
 use Rattle.sorting.proofs.Rowing.{lawful-rows}
 use Rattle.sorting.proofs.Ranking.{keep-to, up-to, sorted-ranked, every-apart}
 use Rattle.sorting.proofs.Numbers.{sort-agree}

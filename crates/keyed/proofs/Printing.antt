@@ -1,7 +1,6 @@
 -- Prints of names. Assumes nothing.
 use mathlib.Core.Path.{◌≡◌, refl, sym, ◌∙◌, ap}
-use mathlib.Core.Bool.{true}
-use mathlib.Core.List.{List, []}
+use mathlib.Core.List.{List}
 use Prim.Native.Nat.{ℕ, ◌+◌, ◌-◌, ◌*◌, ◌%◌, ◌≤◌, ◌<◌}
 use native.Mathlib.Omega.{arith}
 use borrow.Author.Tests.{lt-ltb, le-ltb}
@@ -10,7 +9,7 @@ use Rattle.text.proofs.Laws.{left-next, left-none}
 use Rattle.table.specs.Table.{cell_of, range_of, laid, cells, rows_of}
 use Rattle.table.proofs.Laws.{cell-laid, length-rows}
 use Rattle.table.proofs.Cells.{cell-there}
-use Rattle.keyed.specs.Keying.{single, name_in, same_key}
+use Rattle.keyed.specs.Keying.{single, name_in}
 use Rattle.keyed.proofs.Missing.{row_of}
 use Rattle.keyed.proofs.Sameness.{same_names, same-majors, same-minors}
 use Rattle.keyed.specs.Quick.{mixed_print, and_number, ends_print, print_at, Printed}

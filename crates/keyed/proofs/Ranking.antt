@@ -8,13 +8,13 @@ use Prim.Native.Nat.{ℕ, ◌+◌, ◌≤◌, ◌<◌}
 use native.Mathlib.Omega.{arith}
 use lib.ListN.{length, get_or, set, drop, length-set}
 use lib.Seq.{get_or-set_same, get_or-set_other}
-use Rattle.text.specs.Order.{cmp_nat, and_then, flip}
+use Rattle.text.specs.Order.{cmp_nat, flip}
 use Rattle.text.specs.declared.order.Order.{Order}
 use Rattle.text.specs.declared.order.Order.TheVariants.{Less, Equal, Greater}
 use Rattle.text.proofs.OrderLaws.{Tri, below, at, above, tri}
 use Rattle.text.proofs.Laws.{left-next, left-none}
 use Rattle.sorting.specs.Order.{Joins, Lawful}
-use Rattle.sorting.specs.Sort.{◌∈◌, Before, Ascending}
+use Rattle.sorting.specs.Sort.{◌∈◌, Ascending}
 use Rattle.sorting.proofs.Orders.{nat-less, nat-same, exact-nat, lawful-nat}
 use Rattle.sorting.proofs.Sorts.{tie-self, mem-before}
 use Rattle.differences.specs.Differences.{ties}

@@ -1,12 +1,12 @@
 -- Rows with one key, by what the calls on their cells answer; and room for every row. Assumes nothing.
-use mathlib.Core.Path.{◌≡◌, refl, sym, ◌∙◌, ap}
+use mathlib.Core.Path.{◌≡◌, refl, sym, ◌∙◌}
 use mathlib.Core.Bool.{Bool, true, false}
 use mathlib.Core.List.{List, [], ◌∷◌}
-use Prim.Native.Nat.{ℕ, ◌+◌, ◌-◌, ◌≤◌, ◌<◌}
+use Prim.Native.Nat.{ℕ, ◌+◌, ◌≤◌, ◌<◌}
 use native.Mathlib.Omega.{arith}
 use borrow.Author.Tests.{eq-eqb, ne_eqb, eqb-true, le-leb, lt-leb}
 use lib.Dec.{eqb, leb}
-use Rattle.refusal.specs.Pick.{pick, both}
+use Rattle.refusal.specs.Pick.{both}
 use Rattle.text.specs.Find.{same}
 use Rattle.text.specs.Order.{cmp_nat, and_then, cmp_bytes}
 use Rattle.text.specs.declared.order.Order.{Order}
@@ -17,7 +17,7 @@ use Rattle.text.proofs.FindLaws.{same-is}
 use Rattle.table.specs.Table.{cell_of, range_of}
 use Rattle.sorting.specs.Keys.{row_order, name_of, file_of}
 use Rattle.differences.specs.Differences.{ties}
-use Rattle.keyed.specs.Keying.{columns, name_in, key_order, same_key, rank_after, holds_all}
+use Rattle.keyed.specs.Keying.{name_in, key_order, same_key, rank_after, holds_all}
 
 -- ---- ties
 pub ties-then : (o p : Order) → ties (and_then o p) ≡ both (ties o) (ties p)

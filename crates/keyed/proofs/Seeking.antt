@@ -7,7 +7,7 @@ use native.Mathlib.Omega.{arith}
 use borrow.Author.Tests.{eq-eqb, ne_eqb, eqb-true, eqb-false, ltb-true, ltb-false}
 use lib.Dec.{eqb, ltb}
 use lib.ListN.{get_or}
-use Rattle.refusal.specs.Pick.{pick, both}
+use Rattle.refusal.specs.Pick.{both}
 use Rattle.text.proofs.Laws.{both-no}
 use Rattle.table.specs.Table.{cell_of}
 use Rattle.sorting.specs.Keys.{row_marked}

@@ -1,5 +1,5 @@
 -- Two lists of keys as rows of one table, and the rows of each whose key the other lacks. Assumes nothing.
-use Rattle.std.specs.Prelude.{◌≡◌, Bool, true, false, not, List, [], ◌∷◌, ℕ, zero, suc, ◌+◌, ◌-◌, eqb, leb, ltb, length, get_or, set}
+use Rattle.std.specs.Prelude.{◌≡◌, Bool, false, not, List, [], ◌∷◌, ℕ, ◌+◌, ◌-◌, eqb, leb, ltb, length, get_or, set}
 use Rattle.refusal.specs.Pick.{pick, both}
 use Rattle.text.specs.declared.order.Order.{Order}
 use Rattle.table.specs.Table.{laid}

@@ -8,7 +8,7 @@ use lib.ListN.{length, take, drop}
 use lib.Seq.{take_at, drop_at}
 use Rattle.table.specs.Table.{cells}
 use Rattle.table.proofs.Laws.{length-cells}
-use Rattle.refusal.specs.Each.{Each, each_nil, each-cons}
+use Rattle.refusal.specs.Each.{Each, each-cons}
 use Rattle.output.specs.Cells.{low_bytes, cell_bytes}
 
 example : cell_bytes (624485 ∷ 256 ∷ []) ≡ 0x65 ∷ 0x87 ∷ 0x09 ∷ 0 ∷ 0 ∷ 0 ∷ 0 ∷ 0 ∷ 0 ∷ 1 ∷ 0 ∷ 0 ∷ 0 ∷ 0 ∷ 0 ∷ 0 ∷ []

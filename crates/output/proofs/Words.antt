@@ -2,7 +2,7 @@
 use mathlib.Core.Path.{◌≡◌, refl, sym, ap, ◌∙◌}
 use mathlib.Core.Bool.{Bool, true, false}
 use mathlib.Core.List.{List, [], ◌∷◌}
-use Prim.Native.Nat.{ℕ, zero, suc, ◌≤◌, ◌<◌, min}
+use Prim.Native.Nat.{ℕ, zero, suc, ◌≤◌, min}
 use native.Mathlib.Omega.{arith}
 use borrow.Author.Tests.{ltb-false}
 use lib.Dec.{ltb}
@@ -10,7 +10,7 @@ use lib.ListN.{length, take, get_or-eq_default}
 use Rattle.refusal.specs.Pick.{pick}
 use Rattle.refusal.specs.Slug.{slug_of, padded, word_of}
 use Rattle.refusal.specs.declared.Slug.{Slug}
-use Rattle.domains.specs.Domain.{domain_number, found, numbered, Perhaps, nothing, just, slugs, slug}
+use Rattle.domains.specs.Domain.{domain_number, found, numbered, nothing, just, slugs, slug}
 use Rattle.domains.specs.declared.Domain.{Domain}
 use Rattle.domains.specs.declared.DomainFound.{DomainFound}
 use Rattle.domains.specs.declared.DomainFound.TheVariants as df

@@ -14,7 +14,6 @@ use Rattle.refusal.proofs.Following.{never, followed}
 use Rattle.refusal.specs.declared.Answer.{Answer}
 use Rattle.refusal.specs.declared.Refusal.{Refusal}
 use Rattle.text.specs.Utf8.{up_to}
-use Rattle.text.specs.Piece.{first}
 use Rattle.policy.specs.declared.Slot.{Slot}
 use Rattle.policy.specs.Eight.{no_slot, first_bad, SlotsFit, slot_of, eight, ranges_test, policy_test}
 use Rattle.policy.specs.declared.Policy.{Policy}

@@ -1,14 +1,13 @@
 -- A policy as the reader gave it lies in its text: with that text it is never refused. Assumes nothing.
-use Prim.Native.Nat.{ℕ, zero, suc, ◌+◌, ◌≤◌, ◌<◌}
+use Prim.Native.Nat.{ℕ, zero, suc, ◌+◌, ◌≤◌}
 use native.Mathlib.Omega.{arith}
-use mathlib.Core.Path.{◌≡◌, refl, sym, ap, ◌∙◌}
-use mathlib.Core.Bool.{Bool, true, false}
+use mathlib.Core.Path.{◌≡◌, refl, ap}
+use mathlib.Core.Bool.{true}
 use mathlib.Core.List.{List, [], ◌∷◌, ◌++◌}
 use lib.ListN.{length, set, get_or, replicate, length-append}
-use lib.Dec.{leb, ltb}
+use lib.Dec.{leb}
 use borrow.Author.Tests.{le-leb}
-use Rattle.refusal.specs.Pick.{pick}
-use Rattle.refusal.specs.Said.{Said, accepted, refused, follow}
+use Rattle.refusal.specs.Said.{accepted, follow}
 use Rattle.refusal.proofs.Following.{never, one_value, followed}
 use Rattle.text.specs.Whole.{whole_text}
 use Rattle.text.specs.Piece.{Piece}
@@ -18,7 +17,7 @@ use Rattle.policy.specs.Reader.{slot, stance_of, zero_policy, obey, run, read_wi
 use Rattle.policy.specs.Eight.{no_slot, slot_of, eight, first_bad, ranges_test, policy_test, SlotFits}
 use Rattle.policy.specs.declared.Slot.{Slot}
 use Rattle.policy.specs.declared.Policy.{Policy}
-use Rattle.policy.proofs.Lines.{EachPiece, none, more}
+use Rattle.policy.proofs.Lines.{EachPiece, more}
 use Rattle.policy.proofs.Meaning.{PartOf, Within, w-called, w-listed, directive-in, lines-in}
 
 -- every rule's range, and the name's, within n bytes

@@ -1,12 +1,10 @@
 -- The definitions at small tables: the lines' bytes, and rows that are bad. Assumes nothing.
 use mathlib.Core.Path.{◌≡◌, refl}
 use mathlib.Core.Bool.{true, false}
-use mathlib.Core.List.{List, [], ◌∷◌}
-use Prim.Native.Nat.{ℕ}
+use mathlib.Core.List.{[], ◌∷◌}
 use lib.ListN.{length}
 use Rattle.reasons.specs.Reasons.{export_reason, need_reason, export_diff_fits, need_diff_fits}
-use Rattle.reasons.specs.Reasons.{export_row, need_row}
-use Rattle.refusal.specs.Pick.{pick}
+use Rattle.reasons.specs.Reasons.{export_row}
 use Rattle.table.specs.Table.{cell_of}
 use Rattle.table.specs.Testing.{bad}
 use Rattle.kinds.specs.Kinds.{kind_of}

@@ -5,7 +5,7 @@ use mathlib.Core.List.{List}
 use Prim.Native.Nat.{ℕ, ◌+◌, ◌≤◌, ◌<◌}
 use native.Mathlib.Omega.{arith}
 use borrow.Author.Tests.{ltb-true, eq-eqb}
-use lib.Dec.{eqb, ltb}
+use lib.Dec.{ltb}
 use lib.ListN.{length}
 use Rattle.refusal.specs.Pick.{pick}
 use Rattle.refusal.specs.Sizes.{file_limit}
@@ -18,7 +18,7 @@ use Rattle.refusal.proofs.Following.{followed}
 use Rattle.table.specs.Shape.{width, limit, capacity_in, cell_in}
 use Rattle.table.proofs.Cells.{capacity-limit}
 use Rattle.table.specs.Testing.{bad}
-use Rattle.differences.specs.Compared.{Given, Good}
+use Rattle.differences.specs.Compared.{Given}
 use Rattle.differences.proofs.Tests.{tested-all, never-false, exports-good}
 use Rattle.differences.proofs.Both.{both-good, both-short}
 use Rattle.output.specs.Bytes.{most, room_for, WriterTells, room_from, WriterTellsFrom, FormedFrom}

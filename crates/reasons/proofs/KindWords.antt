@@ -1,6 +1,5 @@
 -- The slug of a kind byte holds its word. Assumes nothing.
 use mathlib.Core.Path.{◌≡◌}
-use mathlib.Core.List.{List}
 use Prim.Native.Nat.{ℕ}
 use Rattle.refusal.specs.Slug.{slug_of}
 use Rattle.refusal.specs.declared.Slug.{Slug}

@@ -6,19 +6,19 @@ use Prim.Native.Nat.{ℕ, zero, suc, ◌+◌, ◌-◌, ◌*◌, ◌≤◌, ◌<�
 use native.Mathlib.Nat.{mul-one}
 use native.Mathlib.Numerals.{add-one}
 use native.Mathlib.Omega.{arith}
-use borrow.Author.Tests.{lt-leb, le-leb, leb-true}
+use borrow.Author.Tests.{lt-leb, leb-true}
 use lib.Dec.{leb}
 use lib.ListN.{length, get_or, replicate, length-map, get_or-append}
 use Rattle.refusal.specs.Pick.{pick}
-use Rattle.refusal.specs.Said.{Said, accepted, refused, follow, spot, Place}
+use Rattle.refusal.specs.Said.{accepted, refused, follow, spot, Place}
 use Rattle.refusal.proofs.Following.{never}
 use Rattle.table.specs.Table.{laid, put_row, range_of, rows_of}
 use Rattle.table.specs.Shape.{width, cell_in}
-use Rattle.table.specs.Entries.{finished, fitting}
+use Rattle.table.specs.Entries.{finished}
 use Rattle.table.specs.Listing.{fitted}
 use Rattle.table.proofs.Cells.{cell-there}
 use Rattle.table.proofs.Laws.{rows_back, length-rows}
-use Rattle.table.proofs.Reading.{full-exactly, finished-full, fitting-room}
+use Rattle.table.proofs.Reading.{full-exactly, fitting-room}
 use Rattle.sorting.specs.Keys.{by_name, sorted_rows, said_sorted, Sorts}
 use Rattle.sorting.specs.declared.Keys.{Keys}
 use Rattle.sorting.specs.declared.Sorted.{Sorted}

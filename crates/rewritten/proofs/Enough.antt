@@ -1,16 +1,15 @@
 -- 98,340 bytes hold all that `rewrite` prints; and the other claims. Assumes nothing.
 use mathlib.Core.Path.{◌≡◌, refl, sym, ap, ◌∙◌, subst}
 use mathlib.Core.Bool.{Bool, true, false}
-use mathlib.Core.List.{List, [], ◌∷◌, ◌++◌}
-use Prim.Native.Nat.{ℕ, zero, suc, ◌+◌, ◌*◌, ◌≤◌, ◌<◌}
+use mathlib.Core.List.{List, [], ◌∷◌}
+use Prim.Native.Nat.{ℕ, zero, suc, ◌+◌, ◌≤◌, ◌<◌}
 use native.Mathlib.Omega.{arith}
 use lib.Dec.{ltb}
 use lib.ListN.{length}
 use borrow.Author.Tests.{lt-ltb, le-ltb, ltb-true, ltb-false}
 use Rattle.refusal.specs.Pick.{pick}
 use Rattle.refusal.specs.Sizes.{text_limit}
-use Rattle.refusal.specs.Said.{Said, accepted, refused, refused_by, follow, offset, spot, Place, number_at, beside_at}
-use Rattle.refusal.specs.declared.Refusal.{Refusal}
+use Rattle.refusal.specs.Said.{Said, accepted, refused, follow, offset, spot, Place, number_at, beside_at}
 use Rattle.refusal.proofs.Following.{never}
 use Rattle.text.specs.Find.{begins}
 use Rattle.text.specs.Utf8.{up_to}

@@ -19,7 +19,7 @@ use Rattle.text.specs.Find.{index_of, begins, same}
 use Rattle.text.specs.Lines.{end_by, cr_before, line_len, line_step}
 use Rattle.text.specs.Trim.{trim_start, trim_end, trim_of}
 use Rattle.text.specs.Utf8.{up_to}
-use Rattle.text.specs.Piece.{Piece, first, beyond, trim, shorn}
+use Rattle.text.specs.Piece.{Piece, beyond, trim, shorn}
 use Rattle.text.specs.Whole.{whole_text}
 use Rattle.text.proofs.FindLaws.{same-is}
 use Rattle.text.proofs.PieceLaws.{trim-bytes, begins-le}

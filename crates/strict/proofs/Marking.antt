@@ -12,7 +12,7 @@ use Rattle.refusal.specs.declared.Part.{Part}
 use Rattle.text.specs.Find.{same}
 use Rattle.text.proofs.Laws.{left-next}
 use Rattle.table.specs.Walking.{walk_from}
-use Rattle.leb.specs.Groups.{Out, value, u_n, grown}
+use Rattle.leb.specs.Groups.{value, u_n, grown}
 use Rattle.leb.specs.Reads.{part_bytes, told_at, narrowed, uleb_at, u32_at, byte_at, counted_at}
 use Rattle.wasm.specs.Custom.{name_word}
 use Rattle.strict.specs.declared.again.Marks.{Marks}

@@ -1,5 +1,5 @@
 -- Laws of lists in a lent table. Assumes nothing.
-use mathlib.Core.Path.{◌≡◌, refl, sym, ◌∙◌, ap}
+use mathlib.Core.Path.{◌≡◌, refl}
 use mathlib.Core.Bool.{Bool, true, false}
 use mathlib.Core.List.{List, []}
 use Prim.Native.Nat.{ℕ}
@@ -9,7 +9,7 @@ use Rattle.refusal.specs.Pick.{pick}
 use Rattle.refusal.specs.Said.{Said, accepted, refused, follow, spot, Place}
 use Rattle.table.specs.Table.{laid}
 use Rattle.table.specs.Entries.{finished, fitting}
-use Rattle.table.specs.Listing.{fitted, rows_in, ListsRows}
+use Rattle.table.specs.Listing.{fitted, ListsRows}
 
 -- a refusal, with the table cleared
 pub lists-stop : {x : Said (List ℕ)} {before after : List ℕ} {n : ℕ} {p : Place} → x ≡ refused n p → after ≡ laid (length before) []

@@ -12,7 +12,7 @@ use lib.Dec.{ltb, eqb}
 use lib.ListN.{length, get_or, take, replicate, length-take, length-map}
 use lib.Seq.{take-suc, take_all, get_or-take, length-take-le}
 use Rattle.refusal.specs.Pick.{pick, both}
-use Rattle.refusal.specs.Said.{Said, accepted, refused, follow, spot}
+use Rattle.refusal.specs.Said.{accepted, refused, follow, spot}
 use Rattle.table.specs.Table.{capacity_of}
 use Rattle.table.specs.Shape.{limit, capacity_in}
 use Rattle.verdicts.specs.Evaluate.{first_past, domains_test, evaluated, outcome, outcome_by, seven_of, verdict_for, EvaluatedAs}

@@ -1,5 +1,4 @@
 -- `checking::check_file` meets its contract. Assumes nothing.
-use borrow.Author.Rules.{rules}
 use Rattle.checking.proofs.Checking.{settled-refused, settled-accepted}
 use Rattle.checking.proofs.check_file.Goals as goal
 

@@ -1,6 +1,5 @@
 -- `checking::check_module` meets its contract. Assumes nothing.
 use mathlib.Core.Path.{sym, ◌∙◌, ap}
-use borrow.Author.Rules.{rules}
 use Rattle.refusal.specs.Said.{said_answer}
 use Rattle.checking.proofs.Checking.{so, too_long, text-bad, text-good}
 use Rattle.checking.proofs.check_module.Goals as goal

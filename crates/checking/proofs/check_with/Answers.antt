@@ -2,7 +2,6 @@
 use native.Mathlib.Omega.{arith}
 use mathlib.Core.Path.{sym}
 use lib.Seq.{length-take-le}
-use borrow.Author.Rules.{rules}
 use Rattle.conform.proofs.Found.{module-found, imports-in}
 use Rattle.checking.proofs.Checking.{so, read-stops, read_goes}
 use Rattle.checking.proofs.check_with.Goals as goal

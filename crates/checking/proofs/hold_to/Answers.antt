@@ -1,6 +1,5 @@
 -- `checking::hold_to` meets its contract. Assumes nothing.
 use mathlib.Core.Path.{refl}
-use borrow.Author.Rules.{rules}
 use Rattle.refusal.proofs.Following.{follow-stops, follow-goes}
 use Rattle.checking.specs.Checking.{held_to}
 use Rattle.checking.proofs.Checking.{so, policy-refused, policy-accepted}

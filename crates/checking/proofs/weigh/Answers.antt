@@ -1,6 +1,5 @@
 -- `checking::weigh` meets its contract. Assumes nothing.
 use mathlib.Core.Path.{refl}
-use borrow.Author.Rules.{rules}
 use Rattle.checking.proofs.Checking.{so, weigh-stops, weigh-goes}
 use Rattle.checking.proofs.weigh.Goals as goal
 

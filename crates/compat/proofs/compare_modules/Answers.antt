@@ -1,6 +1,5 @@
 -- `compat::compare_modules` meets its contract. Assumes nothing.
 use mathlib.Core.Path.{sym, ◌∙◌, ap}
-use borrow.Author.Rules.{rules}
 use Rattle.refusal.specs.Said.{said_answer}
 use Rattle.differences.proofs.Both.{both-good}
 use Rattle.compat.proofs.Answering.{compared-bad, compares-whole, compares-stop, cleared, cleared-length}

@@ -1,9 +1,6 @@
 -- `compat::compare_tables` meets its contract. Assumes nothing.
-use mathlib.Core.Path.{◌≡◌, sym, ◌∙◌}
-use Prim.Native.Nat.{◌*◌, ◌≤◌}
+use mathlib.Core.Path.{sym}
 use native.Mathlib.Omega.{arith}
-use borrow.Author.Rules.{rules}
-use lib.ListN.{length, take}
 use lib.Seq.{length-take-le}
 use Rattle.differences.proofs.Tests.{exports-good, imports-good}
 use Rattle.keyed.proofs.Filling.{zeros-length}

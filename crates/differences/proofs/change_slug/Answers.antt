@@ -1,6 +1,5 @@
 -- `differences::change_slug` meets its contract. Assumes nothing.
 use mathlib.Core.Path.{sym, ◌∙◌, ap}
-use borrow.Author.Rules.{rules}
 use Rattle.refusal.specs.Slug.{slug_of}
 use Rattle.differences.specs.declared.Change.{Change}
 use Rattle.differences.specs.Rank.{change_word}

@@ -1,6 +1,5 @@
 -- `differences::check_both` meets its contract. Assumes nothing.
 use mathlib.Core.Path.{sym, ◌∙◌, ap}
-use borrow.Author.Rules.{rules}
 use Rattle.refusal.specs.Said.{said_answer}
 use Rattle.differences.proofs.Both.{first-long, second-long, first-bad, second-next}
 use Rattle.differences.proofs.check_both.Goals as goal

@@ -1,6 +1,5 @@
 -- `differences::check_tables` meets its contract. Assumes nothing.
 use mathlib.Core.Path.{sym, ◌∙◌, ap}
-use borrow.Author.Rules.{rules}
 use Rattle.refusal.specs.Said.{said_answer}
 use Rattle.differences.proofs.Both.{tables-bad, tables-next}
 use Rattle.differences.proofs.check_tables.Goals as goal

@@ -1,6 +1,4 @@
 -- `differences::export_fits` meets its contract. Assumes nothing.
-use borrow.Author.Rules.{rules}
-use borrow.Author.Tests.{not-true, not-false}
 use Rattle.differences.proofs.Tests.{name_out, name_in}
 use Rattle.differences.proofs.export_fits.Goals as goal
 

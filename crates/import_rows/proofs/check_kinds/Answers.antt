@@ -1,10 +1,5 @@
 -- `import_rows::check_kinds` meets its contract: a walk over rows. Assumes nothing.
-use Prim.Native.Nat.{◌-◌}
-use borrow.Author.Rules.{rules}
-use borrow.Author.Tests.{not-true, not-false}
-use lib.ListN.{length}
-use Rattle.table.specs.Shape.{capacity_in}
-use Rattle.table.proofs.Testing.{Walked, walk-over, walk-starts, walk-stops, walk-goes, walk_ends}
+use Rattle.table.proofs.Testing.{walk-over, walk-starts, walk-stops, walk-goes, walk_ends}
 use Rattle.import_rows.specs.Queries.{kind_fits, kinds_tested}
 use Rattle.import_rows.proofs.check_kinds.Goals as goal
 

@@ -1,10 +1,8 @@
 use Prim.Native.Nat.{◌-◌}
-use borrow.Author.Rules.{rules}
-use borrow.Author.Tests.{not-true, not-false}
 use lib.ListN.{length}
 use Rattle.table.specs.Shape.{capacity_in}
-use Rattle.table.proofs.Testing.{Walked, walk-over, walk-starts, walk-stops, walk-goes, walk_ends}
-use Rattle.import_rows.specs.Queries.{kind_fits, kinds_tested}
+use Rattle.table.proofs.Testing.{Walked}
+use Rattle.import_rows.specs.Queries.{kind_fits}
 use Rattle.import_rows.proofs.check_kinds.Given as goal
 
 abbrev pub invariant-loop-i : goal.invariant-loop-i

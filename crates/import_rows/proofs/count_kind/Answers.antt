@@ -1,9 +1,8 @@
 -- `imports::count_kind` meets its contract. Assumes nothing.
-use Prim.Native.Nat.{ℕ, ◌+◌, ◌-◌, ◌≤◌}
-use mathlib.Core.Path.{◌≡◌, sym, ◌∙◌, ap}
+use Prim.Native.Nat.{ℕ}
+use mathlib.Core.Path.{sym, ◌∙◌, ap}
 use native.Mathlib.Nat.{sub-zero}
 use native.Mathlib.Omega.{arith}
-use borrow.Author.Rules.{rules}
 use Rattle.table.specs.Testing.{count_from}
 use Rattle.import_rows.specs.Queries.{kind_is}
 use Rattle.table.proofs.Testing.{count-hit, count-miss, count-end}
@@ -20,12 +19,12 @@ pub loop-i-preserved : goal.loop-i-preserved
 loop-i-preserved c =
     let l = c.loop-i.invariant.2 in
     elim c.if-cell-kind.branch [
-      then-cell-kind w ↦
-        let h = count-hit (kind_is _ _) _ _ c.loop-i-test.true (kind-hit _ _ c.cell.ensures w.if-cell-kind.true) in
-        (omega arith, omega arith, omega (arith, h, l))
+      | then-cell-kind w ↦
+          let h = count-hit (kind_is _ _) _ _ c.loop-i-test.true (kind-hit _ _ c.cell.ensures w.if-cell-kind.true) in
+          (omega arith, omega arith, omega (arith, h, l))
       | else-cell-kind w ↦
-        let h = count-miss (kind_is _ _) _ _ c.loop-i-test.true (kind-miss _ _ c.cell.ensures w.if-cell-kind.false) in
-        (omega arith, omega arith, omega (arith, h, l))
+          let h = count-miss (kind_is _ _) _ _ c.loop-i-test.true (kind-miss _ _ c.cell.ensures w.if-cell-kind.false) in
+          (omega arith, omega arith, omega (arith, h, l))
     ]
 
 pub returns : goal.returns

@@ -1,9 +1,6 @@
 -- `import_rows::desc_fits` meets its contract: a walk over columns. Assumes nothing.
-use Prim.Native.Nat.{◌-◌, ◌≤◌}
 use native.Mathlib.Omega.{arith}
-use borrow.Author.Rules.{rules}
-use borrow.Author.Tests.{not-true, not-false}
-use Rattle.import_rows.proofs.Asking.{Numbered, mark-out, mark-in, number-out, number_in, numbers-in}
+use Rattle.import_rows.proofs.Asking.{mark-out, mark-in, number-out, number_in, numbers-in}
 use Rattle.import_rows.proofs.desc_fits.Goals as goal
 
 pub returns-then-cell-given : goal.returns-then-cell-given

@@ -1,8 +1,5 @@
 use Prim.Native.Nat.{◌-◌, ◌≤◌}
-use native.Mathlib.Omega.{arith}
-use borrow.Author.Rules.{rules}
-use borrow.Author.Tests.{not-true, not-false}
-use Rattle.import_rows.proofs.Asking.{Numbered, mark-out, mark-in, number-out, number_in, numbers-in}
+use Rattle.import_rows.proofs.Asking.{Numbered}
 use Rattle.import_rows.proofs.desc_fits.Given as goal
 
 abbrev pub invariant-loop-column : goal.invariant-loop-column

@@ -1,6 +1,4 @@
 -- `imports::import_fits` meets its contract. Assumes nothing.
-use borrow.Author.Rules.{rules}
-use borrow.Author.Tests.{not-true, not-false}
 use Rattle.import_rows.proofs.Asking.{first_out, second-out, both-in}
 use Rattle.import_rows.proofs.import_fits.Goals as goal
 

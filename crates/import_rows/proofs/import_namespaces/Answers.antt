@@ -1,6 +1,5 @@
 -- `imports::import_namespaces` meets its contract. Assumes nothing.
 use mathlib.Core.Path.{◌≡◌, sym, ◌∙◌, ap, subst}
-use borrow.Author.Rules.{rules}
 use lib.ListN.{length}
 use Rattle.refusal.specs.Said.{said_answer}
 use Rattle.table.specs.Listing.{ListsRows}

@@ -1,6 +1,5 @@
 -- `imports::imported` meets its contract. Assumes nothing.
 use mathlib.Core.Path.{sym, ◌∙◌, ap}
-use borrow.Author.Rules.{rules}
 use Rattle.refusal.specs.Said.{accepted, said_answer}
 use Rattle.refusal.proofs.Following.{follow-stops, follow-goes}
 use Rattle.import_rows.specs.Queries.{imported_of}

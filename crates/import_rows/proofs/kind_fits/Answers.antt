@@ -1,5 +1,4 @@
 -- `import_rows::kind_fits` meets its contract. Assumes nothing.
-use borrow.Author.Rules.{rules}
 use Rattle.import_rows.proofs.Asking.{kind-out, kind-in}
 use Rattle.import_rows.proofs.kind_fits.Goals as goal
 

@@ -1,5 +1,4 @@
 -- `import_rows::number_fits` meets its contract. Assumes nothing.
-use borrow.Author.Rules.{rules}
 use Rattle.import_rows.proofs.Asking.{number-there, number-absent}
 use Rattle.import_rows.proofs.number_fits.Goals as goal
 

@@ -1,6 +1,5 @@
 -- `keyed::has_room` meets its contract. Assumes nothing.
 use native.Mathlib.Omega.{arith}
-use borrow.Author.Rules.{rules}
 use Rattle.keyed.proofs.Sameness.{no-ranks, no-marks, room-numbers}
 use Rattle.keyed.proofs.has_room.Goals as goal
 

@@ -1,9 +1,7 @@
 -- `keyed::list_in` meets its contract. Assumes nothing.
-use mathlib.Core.Path.{◌≡◌, refl, sym, ◌∙◌}
+use mathlib.Core.Path.{refl, sym, ◌∙◌}
 use Prim.Native.Nat.{◌+◌, ◌<◌}
 use native.Mathlib.Omega.{arith}
-use borrow.Author.Rules.{rules}
-use borrow.Author.Tests.{not-true, not-false}
 use lib.ListN.{length}
 use Rattle.keyed.proofs.Listing.{room_as, room-ranks, room-lost, room-list, lists-none}
 use Rattle.keyed.proofs.Answering.{whole-quick, whole-slow}

@@ -1,8 +1,7 @@
 -- `keyed::list_missing` meets its contract. Assumes nothing.
-use mathlib.Core.Path.{◌≡◌, ◌∙◌, ap}
+use mathlib.Core.Path.{◌∙◌, ap}
 use mathlib.Core.List.{[]}
 use Prim.Native.Nat.{ℕ}
-use borrow.Author.Rules.{rules}
 use Rattle.table.specs.Table.{laid}
 use Rattle.keyed.proofs.list_missing.Goals as goal
 

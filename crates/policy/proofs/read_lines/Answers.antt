@@ -1,12 +1,9 @@
 -- `read_lines` meets its contract. Assumes nothing.
-use mathlib.Core.Path.{◌≡◌, refl, sym, ap, ◌∙◌}
-use Prim.Native.Nat.{◌+◌, ◌-◌, ◌≤◌}
+use mathlib.Core.Path.{refl, sym, ap, ◌∙◌}
 use native.Mathlib.Omega.{arith}
-use lib.ListN.{length, drop}
-use borrow.Author.Rules.{rules}
 use Rattle.text.proofs.LineLaws.{line-bounds}
 use Rattle.policy.specs.Piece.{lines_from, lines_of}
-use Rattle.policy.specs.Reader.{run, obey, zero_policy}
+use Rattle.policy.specs.Reader.{run, obey}
 use Rattle.policy.proofs.LoopLaws.{run_end, turn_small, turn-fault, turn-stop, turn_on}
 use Rattle.policy.proofs.read_lines.Goals as goal
 

@@ -1,12 +1,8 @@
-use mathlib.Core.Path.{◌≡◌, refl, sym, ap, ◌∙◌}
+use mathlib.Core.Path.{◌≡◌}
 use Prim.Native.Nat.{◌+◌, ◌-◌, ◌≤◌}
-use native.Mathlib.Omega.{arith}
 use lib.ListN.{length, drop}
-use borrow.Author.Rules.{rules}
-use Rattle.text.proofs.LineLaws.{line-bounds}
 use Rattle.policy.specs.Piece.{lines_from, lines_of}
 use Rattle.policy.specs.Reader.{run, obey, zero_policy}
-use Rattle.policy.proofs.LoopLaws.{run_end, turn_small, turn-fault, turn-stop, turn_on}
 use Rattle.policy.proofs.read_lines.Given as goal
 
 abbrev pub invariant-loop-at : goal.invariant-loop-at

@@ -1,5 +1,4 @@
 -- `read_policy` meets its contract. Assumes nothing.
-use borrow.Author.Rules.{rules}
 use Rattle.policy.proofs.LoopLaws.{read-good, read-bad}
 use Rattle.policy.proofs.read_policy.Goals as goal
 

@@ -1,5 +1,4 @@
 -- `reasons::breaking_reasons` meets its contract. Assumes nothing.
-use borrow.Author.Rules.{rules}
 use Rattle.reasons.proofs.Fine.{reasons-first}
 use Rattle.reasons.proofs.breaking_reasons.Goals as goal
 

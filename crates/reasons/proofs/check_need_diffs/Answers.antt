@@ -1,10 +1,5 @@
 -- `reasons::check_need_diffs` meets its contract: a walk over rows. Assumes nothing.
-use Prim.Native.Nat.{◌-◌}
-use borrow.Author.Rules.{rules}
-use borrow.Author.Tests.{not-true, not-false}
-use lib.ListN.{length}
-use Rattle.table.specs.Shape.{capacity_in}
-use Rattle.table.proofs.Testing.{Walked, walk-over, walk-starts, walk-stops, walk-goes, walk_ends}
+use Rattle.table.proofs.Testing.{walk-over, walk-starts, walk-stops, walk-goes, walk_ends}
 use Rattle.reasons.specs.Reasons.{need_diff_fits, need_diffs_tested}
 use Rattle.reasons.proofs.check_need_diffs.Goals as goal
 

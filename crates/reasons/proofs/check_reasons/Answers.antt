@@ -1,6 +1,5 @@
 -- `reasons::check_reasons` meets its contract. Assumes nothing.
 use mathlib.Core.Path.{sym, ◌∙◌, ap}
-use borrow.Author.Rules.{rules}
 use Rattle.refusal.specs.Said.{said_answer}
 use Rattle.refusal.proofs.Following.{follow-stops, follow-goes}
 use Rattle.reasons.specs.Reasons.{reasons_tested}

@@ -1,5 +1,4 @@
 -- `reasons::export_diff_fits` meets its contract. Assumes nothing.
-use borrow.Author.Rules.{rules}
 use Rattle.reasons.proofs.Testing.{export-fits}
 use Rattle.reasons.proofs.export_diff_fits.Goals as goal
 

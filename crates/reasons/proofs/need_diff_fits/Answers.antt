@@ -1,5 +1,4 @@
 -- `reasons::need_diff_fits` meets its contract. Assumes nothing.
-use borrow.Author.Rules.{rules}
 use Rattle.reasons.proofs.Testing.{need-over, need-fits}
 use Rattle.reasons.proofs.need_diff_fits.Goals as goal
 

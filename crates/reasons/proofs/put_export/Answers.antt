@@ -1,5 +1,4 @@
 -- `reasons::put_export` meets its contract. Assumes nothing.
-use borrow.Author.Rules.{rules}
 use Rattle.output.proofs.ByteLaws.{wrote-put, wrote_then}
 use Rattle.reasons.proofs.Lines.{export-line}
 use Rattle.reasons.proofs.put_export.Goals as goal

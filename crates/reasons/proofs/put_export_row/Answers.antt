@@ -1,6 +1,5 @@
 -- `reasons::put_export_row` meets its contract. Assumes nothing.
 use native.Mathlib.Omega.{arith}
-use borrow.Author.Rules.{rules}
 use Rattle.output.proofs.ByteLaws.{wrote_none}
 use Rattle.reasons.proofs.Lines.{export-none, export-some, row-kind}
 use Rattle.reasons.proofs.put_export_row.Goals as goal

@@ -1,5 +1,4 @@
 -- `reasons::put_kind` meets its contract. Assumes nothing.
-use borrow.Author.Rules.{rules}
 use Rattle.kinds.specs.Kinds.{kind_of, kind_word}
 use Rattle.output.proofs.Words.{SlugIs}
 use Rattle.output.proofs.ByteLaws.{wrote-put}

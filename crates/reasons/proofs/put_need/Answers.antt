@@ -1,5 +1,4 @@
 -- `reasons::put_need` meets its contract. Assumes nothing.
-use borrow.Author.Rules.{rules}
 use Rattle.output.proofs.ByteLaws.{wrote-put, wrote_then}
 use Rattle.reasons.proofs.Lines.{need-line}
 use Rattle.reasons.proofs.put_need.Goals as goal

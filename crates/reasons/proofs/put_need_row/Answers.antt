@@ -1,6 +1,5 @@
 -- `reasons::put_need_row` meets its contract. Assumes nothing.
 use native.Mathlib.Omega.{arith}
-use borrow.Author.Rules.{rules}
 use Rattle.output.proofs.ByteLaws.{wrote_none}
 use Rattle.reasons.proofs.Lines.{need-none, need-some}
 use Rattle.reasons.proofs.put_need_row.Goals as goal

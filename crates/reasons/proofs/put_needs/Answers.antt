@@ -1,9 +1,5 @@
 -- `reasons::put_needs` meets its contract. Assumes nothing.
-use Prim.Native.Nat.{◌-◌, ◌≤◌}
 use native.Mathlib.Omega.{arith}
-use borrow.Author.Rules.{rules}
-use Rattle.output.specs.Bytes.{Wrote}
-use Rattle.reasons.specs.Reasons.{need_reasons}
 use Rattle.reasons.proofs.Lines.{lines-first, lines_next, lines-all}
 use Rattle.reasons.proofs.put_needs.Goals as goal
 

@@ -1,5 +1,4 @@
 -- `reasons::put_reasons` meets its contract. Assumes nothing.
-use borrow.Author.Rules.{rules}
 use Rattle.output.proofs.ByteLaws.{wrote_then}
 use Rattle.reasons.proofs.put_reasons.Goals as goal
 

@@ -1,7 +1,6 @@
 -- `reasons::write_reasons` meets its contract. Assumes nothing.
 use Prim.Native.Nat.{◌+◌, ◌≤◌}
 use native.Mathlib.Omega.{arith}
-use borrow.Author.Rules.{rules}
 use mathlib.Core.List.{◌++◌}
 use lib.ListN.{length}
 use Rattle.output.specs.Bytes.{most}
@@ -10,18 +9,16 @@ use Rattle.reasons.specs.Reasons.{export_reasons, need_reasons}
 use Rattle.reasons.proofs.Lines.{reasons-few}
 use Rattle.reasons.proofs.write_reasons.Goals as goal
 
-pub put_reasons-needed-requires : goal.put_reasons-needed-requires
-put_reasons-needed-requires c = c.requires.0
-
 pub returns-then-out-needed : goal.returns-then-out-needed
 returns-then-out-needed c =
-    let few : c.args.at + length (export_reasons c.args.baseline.now c.args.be.now c.args.xd.now c.args.nxd ++ need_reasons c.args.candidate.now c.args.ci.now c.args.cd.now c.args.ncd) ≤ most = let p = c.requires.1 in reasons-few _ _ _ _ _ _ _ _ p.0 p.1 p.2 p.3 (omega arith) in
+    let p = c.requires.baseline_len_bound in
+    let few : c.args.at + length (export_reasons c.args.baseline.now c.args.be.now c.args.xd.now c.args.nxd ++ need_reasons c.args.candidate.now c.args.ci.now c.args.cd.now c.args.ncd) ≤ most =
+    reasons-few _ _ _ _ _ _ _ _ p.0 p.1 p.2 p.3 (omega arith) in
     form-full _ _ _ c.put_reasons-needed.ensures (few) (omega (arith, c.put_reasons-needed.ensures.long))
-
-pub put_reasons-end-requires : goal.put_reasons-end-requires
-put_reasons-end-requires c = c.requires.0
 
 pub returns : goal.returns
 returns c =
-    let few : c.args.at + length (export_reasons c.args.baseline.now c.args.be.now c.args.xd.now c.args.nxd ++ need_reasons c.args.candidate.now c.args.ci.now c.args.cd.now c.args.ncd) ≤ most = let p = c.requires.1 in reasons-few _ _ _ _ _ _ _ _ p.0 p.1 p.2 p.3 (omega arith) in
+    let p = c.requires.baseline_len_bound in
+    let few : c.args.at + length (export_reasons c.args.baseline.now c.args.be.now c.args.xd.now c.args.nxd ++ need_reasons c.args.candidate.now c.args.ci.now c.args.cd.now c.args.ncd) ≤ most =
+    reasons-few _ _ _ _ _ _ _ _ p.0 p.1 p.2 p.3 (omega arith) in
     form-done _ _ _ c.put_reasons-needed.ensures (few) (omega (arith, c.put_reasons-needed.ensures.long)) c.put_reasons-end.ensures

@@ -1,6 +1,5 @@
 -- `references::list_paths` meets its contract. Assumes nothing.
 use mathlib.Core.Path.{◌≡◌, sym, ◌∙◌, ap}
-use borrow.Author.Rules.{rules}
 use lib.ListN.{length}
 use Rattle.refusal.specs.Said.{said_answer}
 use Rattle.table.specs.Listing.{ListsRows}

@@ -1,5 +1,4 @@
 -- `reference_rows::range_fits` meets its contract. Assumes nothing.
-use borrow.Author.Rules.{rules}
 use Rattle.reference_rows.specs.Queries.{range_fits}
 use Rattle.reference_rows.proofs.range_fits.Goals as goal
 

@@ -1,6 +1,4 @@
 -- `references::reference_fits` meets its contract. Assumes nothing.
-use borrow.Author.Rules.{rules}
-use borrow.Author.Tests.{not-true, not-false}
 use Rattle.reference_rows.proofs.Asking.{world-out, path-out, path-in}
 use Rattle.reference_rows.proofs.reference_fits.Goals as goal
 

@@ -1,5 +1,4 @@
 -- `references::sort_paths` meets its contract. Assumes nothing.
-use borrow.Author.Rules.{rules}
 use Rattle.reference_rows.proofs.Asking.{sorts-exports, sorts-imports}
 use Rattle.reference_rows.proofs.sort_paths.Goals as goal
 

@@ -1,5 +1,4 @@
 -- `put_policy` meets its contract. Assumes nothing.
-use borrow.Author.Rules.{rules}
 use Rattle.rewritten.proofs.Telling.{line-told, bytes-told}
 use Rattle.rewritten.proofs.put_policy.Goals as goal
 

@@ -3,7 +3,6 @@ use mathlib.Core.Path.{◌≡◌, sym, ◌∙◌}
 use Prim.Native.Nat.{◌≤◌}
 use native.Mathlib.Omega.{arith}
 use lib.ListN.{length}
-use borrow.Author.Rules.{rules}
 use Rattle.refusal.specs.Said.{number_of, place_of}
 use Rattle.report.specs.Texts.{refused_text}
 use Rattle.report.proofs.Telling.{line-text}

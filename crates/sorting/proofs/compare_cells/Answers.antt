@@ -1,6 +1,5 @@
 -- `sorting::compare_cells` meets its contract. Assumes nothing.
 use mathlib.Core.Path.{◌∙◌}
-use borrow.Author.Rules.{rules}
 use Rattle.sorting.proofs.compare_cells.Goals as goal
 
 pub returns : goal.returns

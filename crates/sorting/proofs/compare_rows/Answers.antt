@@ -1,12 +1,10 @@
 -- `sorting::compare_rows` meets its contract: the first answer that is no tie decides. Assumes nothing.
 use mathlib.Core.Path.{◌≡◌, refl, sym, ◌∙◌}
 use Prim.Native.Nat.{ℕ}
-use native.Mathlib.Omega.{arith}
 use Rattle.text.specs.Order.{and_then}
 use Rattle.text.specs.declared.order.Order.{Order}
 use Rattle.text.specs.declared.order.Order.TheVariants.{Less, Equal, Greater}
 use Rattle.sorting.proofs.Rowing.{by_cell, by_bytes, order-major, order-bytes, order-minor, order_row}
-use borrow.Author.Rules.{rules}
 use Rattle.sorting.proofs.compare_rows.Goals as goal
 
 -- an answer that is no tie stands

@@ -1,15 +1,10 @@
 -- `sorting::find_place` meets its contract: x comes after each row below lo, and before the row at hi. Assumes nothing.
 use mathlib.Core.Path.{◌≡◌, sym, ◌∙◌}
-use Prim.Native.Nat.{ℕ, ◌+◌, ◌-◌, ◌/◌, ◌≤◌, ◌<◌}
+use Prim.Native.Nat.{◌+◌, ◌-◌, ◌/◌, ◌<◌}
 use native.Mathlib.Nat.{not-suc-le-zero}
 use native.Mathlib.Omega.{arith}
-use lib.ListN.{get_or}
-use Rattle.text.specs.declared.order.Order.{Order}
-use Rattle.text.specs.declared.order.Order.TheVariants.{Less, Greater}
-use Rattle.sorting.specs.Keys.{row_order}
 use Rattle.sorting.proofs.Rowing.{lawful-rows}
 use Rattle.sorting.proofs.Placing.{placed-before, placed-over, after-up-to, tied_below}
-use borrow.Author.Rules.{rules}
 use Rattle.sorting.proofs.find_place.Goals as goal
 
 pub loop-lo-init : goal.loop-lo-init

@@ -1,14 +1,8 @@
-use mathlib.Core.Path.{◌≡◌, sym, ◌∙◌}
-use Prim.Native.Nat.{ℕ, ◌+◌, ◌-◌, ◌/◌, ◌≤◌, ◌<◌}
-use native.Mathlib.Nat.{not-suc-le-zero}
-use native.Mathlib.Omega.{arith}
+use mathlib.Core.Path.{◌≡◌}
+use Prim.Native.Nat.{ℕ, ◌-◌, ◌≤◌, ◌<◌}
 use lib.ListN.{get_or}
-use Rattle.text.specs.declared.order.Order.{Order}
 use Rattle.text.specs.declared.order.Order.TheVariants.{Less, Greater}
 use Rattle.sorting.specs.Keys.{row_order}
-use Rattle.sorting.proofs.Rowing.{lawful-rows}
-use Rattle.sorting.proofs.Placing.{placed-before, placed-over, after-up-to, tied_below}
-use borrow.Author.Rules.{rules}
 use Rattle.sorting.proofs.find_place.Given as goal
 
 abbrev pub invariant-loop-lo : goal.invariant-loop-lo

@@ -1,13 +1,11 @@
 -- `sorting::insert` meets its contract. Assumes nothing.
-use mathlib.Core.Path.{◌≡◌, subst}
-use Prim.Native.Nat.{ℕ, ◌≤◌, ◌<◌}
+use mathlib.Core.Path.{subst}
+use Prim.Native.Nat.{◌≤◌, ◌<◌}
 use native.Mathlib.Omega.{arith}
 use lib.ListN.{take}
 use lib.Seq.{length-take-le}
 use Rattle.sorting.specs.Keys.{row_order}
 use Rattle.sorting.specs.Filling.{Placed}
-use Rattle.sorting.specs.declared.Place.{Place}
-use Rattle.sorting.specs.declared.Place.TheVariants.{Before, Over}
 use Rattle.sorting.proofs.Listing.{placed-full, filled-before, filled-over}
 use borrow.Author.Rules.{rules}
 use Rattle.sorting.proofs.insert.Goals as goal

@@ -1,11 +1,10 @@
 -- `sorting::insert_at` meets its contract: from j on, up to k, the elements are moved up by one. Assumes nothing.
 use mathlib.Core.Path.{◌≡◌, refl, ap, ◌∙◌}
 use mathlib.Core.List.{List}
-use Prim.Native.Nat.{ℕ, ◌-◌, ◌≤◌}
+use Prim.Native.Nat.{ℕ, ◌-◌}
 use native.Mathlib.Omega.{arith}
-use lib.ListN.{length, set, get_or, length-set}
+use lib.ListN.{set, get_or, length-set}
 use Rattle.sorting.proofs.Places.{shifted, shift-start, shift-step, shift-set}
-use borrow.Author.Rules.{rules}
 use Rattle.sorting.proofs.insert_at.Goals as goal
 
 pub loop-j-init : goal.loop-j-init

@@ -1,10 +1,7 @@
-use mathlib.Core.Path.{◌≡◌, refl, ap, ◌∙◌}
-use mathlib.Core.List.{List}
-use Prim.Native.Nat.{ℕ, ◌-◌, ◌≤◌}
-use native.Mathlib.Omega.{arith}
-use lib.ListN.{length, set, get_or, length-set}
-use Rattle.sorting.proofs.Places.{shifted, shift-start, shift-step, shift-set}
-use borrow.Author.Rules.{rules}
+use mathlib.Core.Path.{◌≡◌}
+use Prim.Native.Nat.{◌≤◌}
+use lib.ListN.{length}
+use Rattle.sorting.proofs.Places.{shifted}
 use Rattle.sorting.proofs.insert_at.Given as goal
 
 abbrev pub invariant-loop-j : goal.invariant-loop-j

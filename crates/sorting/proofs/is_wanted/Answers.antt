@@ -1,5 +1,4 @@
 -- `sorting::is_wanted` meets its contract. Assumes nothing.
-use borrow.Author.Rules.{rules}
 use Rattle.sorting.proofs.Rowing.{wanted-yes, wanted-no}
 use Rattle.sorting.proofs.is_wanted.Goals as goal
 

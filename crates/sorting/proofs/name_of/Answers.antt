@@ -1,7 +1,6 @@
 -- `sorting::name_of` meets its contract. Assumes nothing.
 use mathlib.Core.Path.{◌∙◌}
 use Rattle.sorting.proofs.Rowing.{name-first, name-second}
-use borrow.Author.Rules.{rules}
 use Rattle.sorting.proofs.name_of.Goals as goal
 
 pub returns-then-cell-eq0 : goal.returns-then-cell-eq0

@@ -1,5 +1,4 @@
 -- `sorting::sort` meets its contract. Assumes nothing.
-use borrow.Author.Rules.{rules}
 use Rattle.sorting.specs.Keys.{wanted, wanted_rows, sorted_rows}
 use Rattle.sorting.proofs.sort.Goals as goal
 

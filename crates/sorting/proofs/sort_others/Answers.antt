@@ -1,5 +1,4 @@
 -- `sorting::sort_others` meets its contract. Assumes nothing.
-use borrow.Author.Rules.{rules}
 use Rattle.sorting.specs.Keys.{wanted, wanted_rows, other_rows}
 use Rattle.sorting.proofs.sort_others.Goals as goal
 

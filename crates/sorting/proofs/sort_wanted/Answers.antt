@@ -2,18 +2,17 @@
 use mathlib.Core.Path.{◌≡◌, refl, ap, sym, ◌∙◌}
 use mathlib.Core.List.{List, [], ◌∷◌}
 use mathlib.Core.Bool.{Bool}
-use Prim.Native.Nat.{ℕ, ◌+◌, ◌-◌, ◌≤◌}
+use Prim.Native.Nat.{ℕ, ◌+◌, ◌-◌}
 use native.Mathlib.Omega.{arith}
 use lib.ListN.{length}
 use Rattle.text.specs.declared.order.Order.{Order}
 use Rattle.table.specs.Table.{laid}
 use Rattle.sorting.specs.Sort.{sort}
 use Rattle.sorting.specs.Keys.{wanted, row_order, wanted_rows}
-use Rattle.sorting.specs.Filling.{Ordered, Filled}
+use Rattle.sorting.specs.Filling.{Ordered}
 use Rattle.sorting.proofs.Rowing.{lawful-rows}
 use Rattle.sorting.proofs.Listing.{filled-ordered, filled-step, full-step, filled-as}
 use Rattle.sorting.proofs.Listing.{kept_from, kept-none, kept-yes, kept-no, kept-all, kept-grows, sorts-rows, sorts-full}
-use borrow.Author.Rules.{rules}
 use Rattle.sorting.proofs.sort_wanted.Goals as goal
 
 pub loop-passed-init : goal.loop-passed-init

@@ -1,7 +1,6 @@
 -- `strict::clear` meets its contract. Assumes nothing.
 use Rattle.table.specs.Table.{cells}
 use Rattle.wasm.specs.Module.{no_tables}
-use borrow.Author.Rules.{rules}
 use Rattle.strict.proofs.clear.Goals as goal
 
 pub returns : goal.returns

@@ -3,7 +3,6 @@ use mathlib.Core.Path.{sym, ◌∙◌, ap}
 use Rattle.refusal.proofs.Following.{never}
 use Rattle.strict.proofs.Judging.{judged-got}
 use Rattle.strict.specs.Again.{said_marked}
-use borrow.Author.Rules.{rules}
 use Rattle.strict.proofs.judge.Goals as goal
 
 pub lowest-requires : goal.lowest-requires

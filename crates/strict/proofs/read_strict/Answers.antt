@@ -3,7 +3,6 @@ use mathlib.Core.Path.{◌∙◌, subst}
 use Rattle.strict.proofs.Judging.{strict-stops, strict-good, strict-bad, few-counted}
 use Rattle.wasm.proofs.Framing.{sizes-same}
 use Rattle.wasm.specs.Module.{no_tables, Sizes, lend, Holds}
-use borrow.Author.Rules.{rules}
 use Rattle.strict.proofs.read_strict.Goals as goal
 
 pub shape_of-sections-in_default : goal.shape_of-sections-in_default

@@ -1,6 +1,5 @@
 -- `strict::test_strict` meets its contract. Assumes nothing.
 use Rattle.strict.proofs.Room.{settled-refused, settled-accepted}
-use borrow.Author.Rules.{rules}
 use Rattle.strict.proofs.test_strict.Goals as goal
 
 pub returns-then-number-eq13 : goal.returns-then-number-eq13

@@ -1,6 +1,5 @@
 -- `strict::test_with` meets its contract. Assumes nothing.
 use Rattle.strict.proofs.Room.{tested-good, tested-bad}
-use borrow.Author.Rules.{rules}
 use Rattle.strict.proofs.test_with.Goals as goal
 
 pub returns-in-Module : goal.returns-in-Module

@@ -4,7 +4,6 @@ use Prim.Native.Nat.{◌*◌, ◌≤◌}
 use native.Mathlib.Omega.{arith}
 use lib.ListN.{length}
 use Rattle.table.proofs.Cells.{row-past, row-starts, cell-there, cell-beside, cell-past}
-use borrow.Author.Rules.{rules}
 use Rattle.table.proofs.cell.Goals as goal
 
 pub returns-then-width-column : goal.returns-then-width-column

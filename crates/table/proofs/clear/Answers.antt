@@ -1,14 +1,13 @@
 -- `table::clear` meets its contract: the first i cells are 0, the others as they were. Assumes nothing.
 use mathlib.Core.Path.{◌≡◌, refl, ap, sym, ◌∙◌}
 use mathlib.Core.List.{List, ◌++◌, append-nil}
-use Prim.Native.Nat.{ℕ, ◌-◌, ◌≤◌, zero-le}
+use Prim.Native.Nat.{ℕ, zero-le}
 use native.Mathlib.Nat.{le_antisymm, le_refl}
 use native.Mathlib.Numerals.{add-one-le}
 use native.Mathlib.Omega.{arith}
 use lib.ListN.{length, set, drop, replicate, length-set, drop_of_length-le}
 use borrow.Author.Fill.{fill_more}
 use Rattle.table.proofs.Laws.{laid_nil}
-use borrow.Author.Rules.{rules}
 use Rattle.table.proofs.clear.Goals as goal
 
 pub loop-i-init : goal.loop-i-init

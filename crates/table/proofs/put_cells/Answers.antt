@@ -1,14 +1,13 @@
 -- `table::put_cells` meets its contract: the first j cells of the row are in place. Assumes nothing.
-use mathlib.Core.Path.{◌≡◌, refl, ap, sym, ◌∙◌}
+use mathlib.Core.Path.{refl, ap, sym, ◌∙◌}
 use mathlib.Core.List.{List, ◌++◌}
-use Prim.Native.Nat.{ℕ, ◌+◌, ◌-◌, ◌≤◌, zero-le}
+use Prim.Native.Nat.{ℕ, ◌+◌, zero-le}
 use native.Mathlib.Nat.{le_antisymm}
 use native.Mathlib.Numerals.{add-one}
 use native.Mathlib.Omega.{arith}
 use lib.ListN.{length, set, drop, take, get_or, length-set}
 use lib.Seq.{paste, paste-zero, paste-suc, take-length}
 use Rattle.table.specs.Table.{put}
-use borrow.Author.Rules.{rules}
 use Rattle.table.proofs.put_cells.Goals as goal
 
 pub loop-j-init : goal.loop-j-init

@@ -5,7 +5,6 @@ use native.Mathlib.Omega.{arith}
 use lib.ListN.{length}
 use Rattle.table.proofs.Laws.{put-row-room, put-row-none, put-nothing}
 use Rattle.table.proofs.Cells.{row_fits, row-leaves}
-use borrow.Author.Rules.{rules}
 use Rattle.table.proofs.put_row.Goals as goal
 
 pub returns-then-width-eq0 : goal.returns-then-width-eq0

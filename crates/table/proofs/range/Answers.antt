@@ -4,8 +4,6 @@ use Prim.Native.Nat.{◌+◌, ◌≤◌}
 use native.Mathlib.Nat.{add-sub_cancel_left}
 use native.Mathlib.Omega.{arith}
 use lib.ListN.{length}
-use borrow.Author.Rules.{rules}
-use borrow.Author.Tests.{not-true, not-false}
 use Rattle.refusal.proofs.Ranges.{said_in, said-out}
 use Rattle.table.proofs.Cells.{range-in, range-out, start-in, start-out}
 use Rattle.table.proofs.range.Goals as goal

@@ -1,6 +1,5 @@
 -- `compat::keys::export_at` meets its contract. Assumes nothing.
 use mathlib.Core.Path.{sym, ◌∙◌}
-use borrow.Author.Rules.{rules}
 use Rattle.differences.proofs.Numbered.{sided-first, sided-second}
 use Rattle.compat.proofs.keys.export_at.Goals as goal
 

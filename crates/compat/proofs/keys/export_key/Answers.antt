@@ -1,5 +1,4 @@
 -- `compat::keys::export_key` meets its contract. Assumes nothing.
-use borrow.Author.Rules.{rules}
 use Rattle.compat.proofs.Making.{export-key-is}
 use Rattle.compat.proofs.keys.export_key.Goals as goal
 

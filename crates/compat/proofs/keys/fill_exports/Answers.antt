@@ -1,10 +1,8 @@
 -- `compat::keys::fill_exports` meets its contract: the rows below i are there. Assumes nothing.
-use Prim.Native.Nat.{◌-◌, ◌≤◌}
-use mathlib.Core.Path.{◌≡◌, refl, sym, ◌∙◌, ap}
+use mathlib.Core.Path.{◌≡◌, refl, ◌∙◌, ap}
 use native.Mathlib.Omega.{arith}
 use borrow.Author.Rules.{rules}
-use lib.ListN.{length}
-use Rattle.compat.specs.Keying.{key_cells, export_keys, table_of}
+use Rattle.compat.specs.Keying.{key_cells, table_of}
 use Rattle.keyed.proofs.Filling.{no_rows, one-row}
 use Rattle.compat.proofs.Filling.{key-wide}
 use Rattle.compat.proofs.keys.fill_exports.Goals as goal

@@ -1,11 +1,7 @@
 use Prim.Native.Nat.{◌-◌, ◌≤◌}
-use mathlib.Core.Path.{◌≡◌, refl, sym, ◌∙◌, ap}
-use native.Mathlib.Omega.{arith}
-use borrow.Author.Rules.{rules}
+use mathlib.Core.Path.{◌≡◌}
 use lib.ListN.{length}
-use Rattle.compat.specs.Keying.{key_cells, export_keys, table_of}
-use Rattle.keyed.proofs.Filling.{no_rows, one-row}
-use Rattle.compat.proofs.Filling.{key-wide}
+use Rattle.compat.specs.Keying.{export_keys, table_of}
 use Rattle.compat.proofs.keys.fill_exports.Given as goal
 
 abbrev pub invariant-loop-i : goal.invariant-loop-i

@@ -1,6 +1,5 @@
 -- `compat::keys::need_key` meets its contract. Assumes nothing.
 use mathlib.Core.Path.{◌∙◌}
-use borrow.Author.Rules.{rules}
 use Rattle.compat.proofs.Making.{need-key-is}
 use Rattle.compat.proofs.keys.need_key.Goals as goal
 

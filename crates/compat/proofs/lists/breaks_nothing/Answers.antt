@@ -1,5 +1,4 @@
 -- `compat::lists::breaks_nothing` meets its contract. Assumes nothing.
-use borrow.Author.Rules.{rules}
 use Rattle.compat.proofs.Laying.{first-breaks, second-breaks}
 use Rattle.compat.proofs.lists.breaks_nothing.Goals as goal
 

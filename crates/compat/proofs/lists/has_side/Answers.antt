@@ -1,10 +1,6 @@
 -- `compat::lists::has_side` meets its contract: what is left answers for the whole. Assumes nothing.
-use mathlib.Core.Path.{◌≡◌, refl, sym, ◌∙◌}
-use Prim.Native.Nat.{◌-◌, ◌≤◌}
+use mathlib.Core.Path.{refl, sym, ◌∙◌}
 use native.Mathlib.Omega.{arith}
-use borrow.Author.Rules.{rules}
-use lib.ListN.{length, drop}
-use Rattle.compat.specs.Listing.{has_side}
 use Rattle.compat.proofs.Laying.{side-hit, side-miss, side-end}
 use Rattle.compat.proofs.lists.has_side.Goals as goal
 

@@ -1,10 +1,7 @@
-use mathlib.Core.Path.{◌≡◌, refl, sym, ◌∙◌}
+use mathlib.Core.Path.{◌≡◌}
 use Prim.Native.Nat.{◌-◌, ◌≤◌}
-use native.Mathlib.Omega.{arith}
-use borrow.Author.Rules.{rules}
 use lib.ListN.{length, drop}
 use Rattle.compat.specs.Listing.{has_side}
-use Rattle.compat.proofs.Laying.{side-hit, side-miss, side-end}
 use Rattle.compat.proofs.lists.has_side.Given as goal
 
 abbrev pub invariant-loop-j : goal.invariant-loop-j

@@ -1,11 +1,8 @@
 -- `compat::lists::lay_exports` meets its contract: the rows below j are there. Assumes nothing.
-use mathlib.Core.Path.{◌≡◌, refl, sym, ◌∙◌, ap}
-use mathlib.Core.List.{List, [], ◌∷◌}
-use Prim.Native.Nat.{ℕ, ◌-◌, ◌≤◌}
+use mathlib.Core.Path.{refl, ap}
+use mathlib.Core.List.{[], ◌∷◌}
 use native.Mathlib.Omega.{arith}
 use borrow.Author.Rules.{rules}
-use lib.ListN.{length, get_or}
-use Rattle.table.specs.Table.{laid, cells, rows_of}
 use Rattle.table.specs.Shape.{width}
 use Rattle.compat.specs.declared.lists.Place.{Place}
 use Rattle.compat.specs.Listing.{place_cells}

@@ -1,11 +1,10 @@
 -- `compat::lists::lay_needs` meets its contract: the rows below j are there. Assumes nothing.
-use mathlib.Core.Path.{◌≡◌, refl, sym, ◌∙◌, ap}
+use mathlib.Core.Path.{refl, ◌∙◌, ap}
 use mathlib.Core.List.{List}
-use Prim.Native.Nat.{ℕ, ◌-◌, ◌≤◌, ◌<◌}
+use Prim.Native.Nat.{ℕ, ◌<◌}
 use native.Mathlib.Omega.{arith}
 use borrow.Author.Rules.{rules}
-use lib.ListN.{length, get_or}
-use Rattle.table.specs.Table.{laid, cells, rows_of}
+use lib.ListN.{length}
 use Rattle.table.specs.Shape.{width}
 use Rattle.compat.specs.declared.keys.Key.{Key}
 use Rattle.compat.specs.Listing.{need_cells_at}

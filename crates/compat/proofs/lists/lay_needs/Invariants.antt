@@ -1,16 +1,8 @@
-use mathlib.Core.Path.{◌≡◌, refl, sym, ◌∙◌, ap}
-use mathlib.Core.List.{List}
-use Prim.Native.Nat.{ℕ, ◌-◌, ◌≤◌, ◌<◌}
-use native.Mathlib.Omega.{arith}
-use borrow.Author.Rules.{rules}
+use mathlib.Core.Path.{◌≡◌}
+use Prim.Native.Nat.{◌-◌, ◌≤◌}
 use lib.ListN.{length, get_or}
 use Rattle.table.specs.Table.{laid, cells, rows_of}
-use Rattle.table.specs.Shape.{width}
-use Rattle.compat.specs.declared.keys.Key.{Key}
 use Rattle.compat.specs.Listing.{need_cells_at}
-use Rattle.keyed.proofs.Filling.{no_rows, one-row, filled-all}
-use Rattle.compat.proofs.Laying.{need-cells}
-use Rattle.compat.proofs.Instances.{need-major}
 use Rattle.compat.proofs.lists.lay_needs.Given as goal
 
 abbrev pub invariant-loop-j : goal.invariant-loop-j

@@ -1,6 +1,5 @@
 -- `compat::lists::list_exports` meets its contract. Assumes nothing.
 use native.Mathlib.Omega.{arith}
-use borrow.Author.Rules.{rules}
 use Rattle.keyed.proofs.Filling.{zeros-laid, zeros-length}
 use Rattle.compat.proofs.lists.list_exports.Goals as goal
 

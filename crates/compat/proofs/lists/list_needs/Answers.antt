@@ -1,6 +1,5 @@
 -- `compat::lists::list_needs` meets its contract. Assumes nothing.
 use native.Mathlib.Omega.{arith}
-use borrow.Author.Rules.{rules}
 use Rattle.keyed.proofs.Filling.{zeros-laid, zeros-length}
 use Rattle.compat.proofs.lists.list_needs.Goals as goal
 

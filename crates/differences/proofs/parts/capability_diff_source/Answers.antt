@@ -1,5 +1,4 @@
 -- `parts::capability_diff_source` meets its contract. Assumes nothing.
-use borrow.Author.Rules.{rules}
 use Rattle.differences.proofs.Places.{removed-part, added-part}
 use Rattle.differences.proofs.parts.capability_diff_source.Goals as goal
 

@@ -1,5 +1,4 @@
 -- `parts::export_diff_name` meets its contract. Assumes nothing.
-use borrow.Author.Rules.{rules}
 use Rattle.differences.proofs.Places.{removed-part, added-part}
 use Rattle.differences.proofs.parts.export_diff_name.Goals as goal
 

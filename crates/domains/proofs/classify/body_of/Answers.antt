@@ -3,7 +3,6 @@ use mathlib.Core.Path.{sym, ap, ◌∙◌}
 use native.Mathlib.Omega.{arith}
 use lib.ListN.{take}
 use lib.Seq.{length-take-le}
-use borrow.Author.Rules.{rules}
 use Rattle.text.proofs.FindLaws.{index-le}
 use Rattle.domains.specs.Classify.{classed_by, heads, head_of, up_to_byte}
 use Rattle.domains.proofs.classify.body_of.Goals as goal

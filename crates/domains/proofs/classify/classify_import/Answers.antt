@@ -3,7 +3,6 @@ use mathlib.Core.Path.{◌≡◌, sym, ◌∙◌}
 use mathlib.Core.Bool.{true, false}
 use mathlib.Core.List.{List}
 use Prim.Native.Nat.{ℕ}
-use borrow.Author.Rules.{rules}
 use Rattle.text.specs.Find.{begins, same}
 use Rattle.domains.specs.Classify.{passes, preview1, unstable, wasi, import_domain}
 use Rattle.domains.proofs.classify.classify_import.Goals as goal

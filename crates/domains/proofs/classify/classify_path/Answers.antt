@@ -1,7 +1,6 @@
 -- `classify_path` meets its contract. Assumes nothing.
 use mathlib.Core.Path.{sym, ap, ◌∙◌}
 use native.Mathlib.Omega.{arith}
-use borrow.Author.Rules.{rules}
 use Rattle.text.proofs.Laws.{left-part}
 use Rattle.domains.specs.Classify.{classed_by, heads, head_of, wasi, path_domain}
 use Rattle.text.proofs.PieceLaws.{begins-le}

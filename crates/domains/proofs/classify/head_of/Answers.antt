@@ -2,7 +2,6 @@
 use mathlib.Core.Path.{◌≡◌, sym, ◌∙◌}
 use mathlib.Core.List.{List}
 use Prim.Native.Nat.{ℕ}
-use borrow.Author.Rules.{rules}
 use lib.ListN.{drop}
 use Rattle.domains.specs.Classify.{classed_by, passes, heads}
 use Rattle.domains.proofs.DomainLaws.{picked, passed}

@@ -1,5 +1,4 @@
 -- `passes` meets its contract. Assumes nothing.
-use borrow.Author.Rules.{rules}
 use Rattle.domains.specs.Classify.{passes}
 use Rattle.domains.proofs.classify.passes.Goals as goal
 

@@ -3,7 +3,6 @@ use mathlib.Core.Path.{sym, ap, ◌∙◌}
 use native.Mathlib.Omega.{arith}
 use lib.ListN.{take}
 use lib.Seq.{length-take-le}
-use borrow.Author.Rules.{rules}
 use Rattle.text.proofs.FindLaws.{index-le}
 use Rattle.domains.specs.Classify.{classed_by, heads}
 use Rattle.domains.proofs.classify.versioned.Goals as goal

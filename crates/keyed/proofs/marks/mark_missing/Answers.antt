@@ -1,16 +1,14 @@
 -- `keyed::marks::mark_missing` meets its contract: the rows below i are there, and what is left of the search answers for all of it.
 -- Assumes nothing.
 use mathlib.Core.Path.{◌≡◌, refl, sym, ◌∙◌, ap}
-use mathlib.Core.List.{List}
-use Prim.Native.Nat.{ℕ, ◌-◌, ◌≤◌}
+use Prim.Native.Nat.{ℕ}
 use native.Mathlib.Omega.{arith}
 use borrow.Author.Rules.{rules}
-use lib.ListN.{length, get_or}
+use lib.ListN.{length}
 use Rattle.table.specs.Table.{laid, cells, rows_of}
-use Rattle.differences.specs.Numbers.{some_from}
-use Rattle.keyed.specs.Keying.{single, some_other, lonely}
+use Rattle.keyed.specs.Keying.{single, lonely}
 use Rattle.keyed.proofs.Filling.{no_rows, one-row}
-use Rattle.keyed.proofs.Searching.{some-hit, some-miss, some_end, others-end, like, sought-is, found-one, passed-one}
+use Rattle.keyed.proofs.Searching.{some-hit, some-miss, some_end, others-end, sought-is, found-one, passed-one}
 use Rattle.keyed.proofs.Searching.{lonely-met, lonely-kept}
 use Rattle.keyed.proofs.marks.mark_missing.Goals.{else-search-test, then-search-test+then-ranks-j}
 use Rattle.keyed.proofs.marks.mark_missing.Goals as goal

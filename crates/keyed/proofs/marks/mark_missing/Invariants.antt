@@ -1,16 +1,10 @@
-use mathlib.Core.Path.{◌≡◌, refl, sym, ◌∙◌, ap}
-use mathlib.Core.Logic.{⊎_elim}
-use mathlib.Core.List.{List}
-use Prim.Native.Nat.{ℕ, ◌-◌, ◌≤◌}
-use native.Mathlib.Omega.{arith}
-use borrow.Author.Rules.{rules}
+use mathlib.Core.Path.{◌≡◌}
+use Prim.Native.Nat.{◌-◌, ◌≤◌}
 use lib.ListN.{length, get_or}
 use Rattle.table.specs.Table.{laid, cells, rows_of}
 use Rattle.differences.specs.Numbers.{some_from}
 use Rattle.keyed.specs.Keying.{single, some_other, lonely}
-use Rattle.keyed.proofs.Filling.{no_rows, one-row}
-use Rattle.keyed.proofs.Searching.{some-hit, some-miss, some_end, others-end, like, sought-is, found-one, passed-one}
-use Rattle.keyed.proofs.Searching.{lonely-met, lonely-kept}
+use Rattle.keyed.proofs.Searching.{like}
 use Rattle.keyed.proofs.marks.mark_missing.Given as goal
 
 abbrev pub invariant-search : goal.invariant-search

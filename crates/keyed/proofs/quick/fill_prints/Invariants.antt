@@ -1,11 +1,8 @@
-use mathlib.Core.Path.{◌≡◌, refl, sym, ◌∙◌, ap}
-use Prim.Native.Nat.{ℕ, ◌-◌, ◌≤◌}
-use native.Mathlib.Omega.{arith}
-use borrow.Author.Rules.{rules}
+use mathlib.Core.Path.{◌≡◌}
+use Prim.Native.Nat.{◌-◌, ◌≤◌}
 use lib.ListN.{length}
 use Rattle.table.specs.Table.{laid, cells, rows_of}
 use Rattle.keyed.specs.Keying.{single}
-use Rattle.keyed.proofs.Filling.{no_rows, one-row}
 use Rattle.keyed.specs.Quick.{print_at}
 use Rattle.keyed.proofs.quick.fill_prints.Given as goal
 

@@ -1,16 +1,9 @@
-use mathlib.Core.Path.{◌≡◌, refl, sym, ◌∙◌, ap}
-use mathlib.Core.Bool.{true, false, true≢false}
-use mathlib.Core.List.{List}
-use Prim.Native.Nat.{ℕ, ◌-◌, ◌≤◌}
-use native.Mathlib.Omega.{arith}
-use borrow.Author.Rules.{rules}
+use mathlib.Core.Path.{◌≡◌}
+use Prim.Native.Nat.{◌-◌, ◌≤◌}
 use lib.ListN.{length}
 use Rattle.table.specs.Table.{laid, cells, rows_of}
 use Rattle.keyed.specs.Keying.{single}
-use Rattle.keyed.proofs.Filling.{no_rows, one-row}
-use Rattle.keyed.proofs.Searching.{others-order, others-end}
 use Rattle.keyed.specs.Quick.{found_mark}
-use Rattle.keyed.proofs.Seeking.{found-is}
 use Rattle.keyed.proofs.quick.mark_found.Given as goal
 
 abbrev pub invariant-loop-i : goal.invariant-loop-i

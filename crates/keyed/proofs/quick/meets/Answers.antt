@@ -1,5 +1,4 @@
 -- `keyed::quick::meets` meets its contract. Assumes nothing.
-use borrow.Author.Rules.{rules}
 use Rattle.keyed.proofs.Seeking.{not-wanted, key-decides}
 use Rattle.keyed.proofs.quick.meets.Goals as goal
 

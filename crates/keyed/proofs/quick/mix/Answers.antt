@@ -1,9 +1,6 @@
 -- `keyed::quick::mix` meets its contract: what is left of the bytes makes the whole print. Assumes nothing.
-use mathlib.Core.Path.{◌≡◌, refl, sym, ◌∙◌}
-use Prim.Native.Nat.{◌-◌, ◌≤◌, ◌<◌}
+use mathlib.Core.Path.{refl, sym, ◌∙◌}
 use native.Mathlib.Omega.{arith}
-use lib.ListN.{length, drop}
-use Rattle.keyed.specs.Quick.{mixed_print}
 use Rattle.keyed.proofs.Printing.{mix_next, mix-end}
 use Rattle.keyed.proofs.quick.mix.Goals as goal
 

@@ -1,9 +1,7 @@
-use mathlib.Core.Path.{◌≡◌, refl, sym, ◌∙◌}
+use mathlib.Core.Path.{◌≡◌}
 use Prim.Native.Nat.{◌-◌, ◌≤◌, ◌<◌}
-use native.Mathlib.Omega.{arith}
 use lib.ListN.{length, drop}
 use Rattle.keyed.specs.Quick.{mixed_print}
-use Rattle.keyed.proofs.Printing.{mix_next, mix-end}
 use Rattle.keyed.proofs.quick.mix.Given as goal
 
 abbrev pub invariant-loop-i : goal.invariant-loop-i

@@ -1,6 +1,4 @@
 -- `keyed::quick::name_print` meets its contract. Assumes nothing.
-use native.Mathlib.Omega.{arith}
-use borrow.Author.Rules.{rules}
 use Rattle.keyed.proofs.Printing.{print-short, print-long}
 use Rattle.keyed.proofs.quick.name_print.Goals as goal
 

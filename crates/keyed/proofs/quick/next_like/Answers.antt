@@ -1,7 +1,6 @@
 -- `keyed::quick::next_like` meets its contract: the rows passed have other prints. Assumes nothing.
-use Prim.Native.Nat.{◌+◌, ◌-◌, ◌≤◌}
+use Prim.Native.Nat.{◌+◌}
 use native.Mathlib.Omega.{arith}
-use Rattle.keyed.specs.Quick.{Unlike}
 use Rattle.keyed.proofs.Seeking.{unlike-one}
 use Rattle.keyed.proofs.quick.next_like.Goals as goal
 

@@ -1,7 +1,5 @@
-use Prim.Native.Nat.{◌+◌, ◌-◌, ◌≤◌}
-use native.Mathlib.Omega.{arith}
+use Prim.Native.Nat.{◌-◌, ◌≤◌}
 use Rattle.keyed.specs.Quick.{Unlike}
-use Rattle.keyed.proofs.Seeking.{unlike-one}
 use Rattle.keyed.proofs.quick.next_like.Given as goal
 
 abbrev pub invariant-loop-j : goal.invariant-loop-j

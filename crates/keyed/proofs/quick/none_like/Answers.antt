@@ -1,10 +1,9 @@
 -- `keyed::quick::none_like` meets its contract: no print passed is the one, unless it was told. Assumes nothing.
-use mathlib.Core.Path.{◌≡◌, sym, ◌∙◌}
-use mathlib.Core.Bool.{false, false≢true}
-use Prim.Native.Nat.{◌+◌, ◌-◌, ◌≤◌}
+use mathlib.Core.Path.{sym, ◌∙◌}
+use mathlib.Core.Bool.{false≢true}
+use Prim.Native.Nat.{◌+◌}
 use native.Mathlib.Omega.{arith}
 use borrow.Author.Tests.{not-true}
-use Rattle.keyed.specs.Quick.{Unlike}
 use Rattle.keyed.proofs.Seeking.{unlike-one}
 use Rattle.keyed.proofs.quick.none_like.Goals.{then-prints-at, else-prints-at}
 use Rattle.keyed.proofs.quick.none_like.Goals as goal

@@ -1,11 +1,7 @@
-use mathlib.Core.Path.{◌≡◌, sym, ◌∙◌}
-use mathlib.Core.Bool.{false, false≢true}
-use mathlib.Core.Logic.{⊎_elim}
+use mathlib.Core.Path.{◌≡◌}
+use mathlib.Core.Bool.{false}
 use Prim.Native.Nat.{◌+◌, ◌-◌, ◌≤◌}
-use native.Mathlib.Omega.{arith}
-use borrow.Author.Tests.{not-true}
 use Rattle.keyed.specs.Quick.{Unlike}
-use Rattle.keyed.proofs.Seeking.{unlike-one}
 use Rattle.keyed.proofs.quick.none_like.Given as goal
 
 abbrev pub invariant-loop-i : goal.invariant-loop-i

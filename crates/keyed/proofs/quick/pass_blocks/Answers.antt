@@ -1,9 +1,6 @@
 -- `keyed::quick::pass_blocks` meets its contract: the rows passed have other prints. Assumes nothing.
-use Prim.Native.Nat.{◌+◌, ◌-◌, ◌≤◌}
+use Prim.Native.Nat.{◌+◌}
 use native.Mathlib.Omega.{arith}
-use borrow.Author.Tests.{not-false}
-use lib.ListN.{length}
-use Rattle.keyed.specs.Quick.{Unlike}
 use Rattle.keyed.proofs.Seeking.{unlike-join}
 use Rattle.keyed.proofs.quick.pass_blocks.Goals as goal
 

@@ -1,9 +1,5 @@
-use Prim.Native.Nat.{◌+◌, ◌-◌, ◌≤◌}
-use native.Mathlib.Omega.{arith}
-use borrow.Author.Tests.{not-false}
-use lib.ListN.{length}
+use Prim.Native.Nat.{◌-◌, ◌≤◌}
 use Rattle.keyed.specs.Quick.{Unlike}
-use Rattle.keyed.proofs.Seeking.{unlike-join}
 use Rattle.keyed.proofs.quick.pass_blocks.Given as goal
 
 abbrev pub invariant-loop-j : goal.invariant-loop-j

@@ -1,5 +1,4 @@
 -- `keyed::quick::print_at` meets its contract. Assumes nothing.
-use borrow.Author.Rules.{rules}
 use Rattle.keyed.proofs.Printing.{print-at-is}
 use Rattle.keyed.proofs.quick.print_at.Goals as goal
 

@@ -1,12 +1,7 @@
 -- `keyed::quick::seek` meets its contract: what is left of the search answers for all of it. Assumes nothing.
-use mathlib.Core.Path.{◌≡◌, refl, sym, ◌∙◌}
-use Prim.Native.Nat.{◌-◌}
+use mathlib.Core.Path.{refl, sym, ◌∙◌}
 use native.Mathlib.Omega.{arith}
-use borrow.Author.Rules.{rules}
-use lib.ListN.{get_or}
-use Rattle.differences.specs.Numbers.{some_from}
 use Rattle.keyed.proofs.Searching.{some-hit, some-miss, some_end}
-use Rattle.keyed.specs.Quick.{meets_key}
 use Rattle.keyed.proofs.Seeking.{unlike-pass, seeks-met, seeks-none, seeks-dear}
 use Rattle.keyed.proofs.quick.seek.Goals as goal
 

@@ -1,12 +1,8 @@
-use mathlib.Core.Path.{◌≡◌, refl, sym, ◌∙◌}
+use mathlib.Core.Path.{◌≡◌}
 use Prim.Native.Nat.{◌-◌}
-use native.Mathlib.Omega.{arith}
-use borrow.Author.Rules.{rules}
 use lib.ListN.{get_or}
 use Rattle.differences.specs.Numbers.{some_from}
-use Rattle.keyed.proofs.Searching.{some-hit, some-miss, some_end}
 use Rattle.keyed.specs.Quick.{meets_key}
-use Rattle.keyed.proofs.Seeking.{unlike-pass, seeks-met, seeks-none, seeks-dear}
 use Rattle.keyed.proofs.quick.seek.Given as goal
 
 abbrev pub invariant-search : goal.invariant-search

@@ -1,6 +1,5 @@
 -- `keyed::quick::stir` meets its contract. Assumes nothing.
 use native.Mathlib.Omega.{arith}
-use borrow.Author.Rules.{rules}
 use Rattle.keyed.proofs.Printing.{stir-is}
 use Rattle.keyed.proofs.quick.stir.Goals as goal
 

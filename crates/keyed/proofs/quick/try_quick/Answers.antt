@@ -1,10 +1,7 @@
 -- `keyed::quick::try_quick` meets its contract. Assumes nothing.
-use mathlib.Core.Path.{◌≡◌, refl, sym, ◌∙◌}
-use mathlib.Core.Bool.{true, false, true≢false}
+use mathlib.Core.Path.{refl, sym}
+use mathlib.Core.Bool.{true≢false}
 use native.Mathlib.Omega.{arith}
-use borrow.Author.Rules.{rules}
-use borrow.Author.Tests.{not-false}
-use lib.ListN.{length}
 use Rattle.keyed.proofs.Listing.{cleared-length, cleared}
 use Rattle.keyed.specs.Quick.{found_mark}
 use Rattle.keyed.proofs.Printing.{number_at, all-printed}

@@ -1,8 +1,5 @@
 -- `keyed::quick::unmark` meets its contract: the rows below i have lost their marks. Assumes nothing.
-use Prim.Native.Nat.{◌-◌, ◌≤◌}
 use native.Mathlib.Omega.{arith}
-use borrow.Author.Rules.{rules}
-use Rattle.keyed.specs.Quick.{Unmarked}
 use Rattle.keyed.proofs.Unmarking.{none_yet, one_kept, one-taken, all-taken}
 use Rattle.keyed.proofs.quick.unmark.Goals as goal
 

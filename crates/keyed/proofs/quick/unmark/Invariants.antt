@@ -1,8 +1,5 @@
 use Prim.Native.Nat.{◌-◌, ◌≤◌}
-use native.Mathlib.Omega.{arith}
-use borrow.Author.Rules.{rules}
 use Rattle.keyed.specs.Quick.{Unmarked}
-use Rattle.keyed.proofs.Unmarking.{none_yet, one_kept, one-taken, all-taken}
 use Rattle.keyed.proofs.quick.unmark.Given as goal
 
 abbrev pub invariant-rows : goal.invariant-rows

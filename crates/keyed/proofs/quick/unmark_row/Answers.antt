@@ -1,5 +1,4 @@
 -- `keyed::quick::unmark_row` meets its contract. Assumes nothing.
-use borrow.Author.Rules.{rules}
 use Rattle.keyed.proofs.Unmarking.{row_out}
 use Rattle.keyed.proofs.quick.unmark_row.Goals as goal
 

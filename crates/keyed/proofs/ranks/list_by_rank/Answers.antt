@@ -2,8 +2,6 @@
 use mathlib.Core.Path.{◌≡◌, sym, ◌∙◌}
 use Prim.Native.Nat.{◌+◌, ◌<◌}
 use native.Mathlib.Omega.{arith}
-use borrow.Author.Rules.{rules}
-use borrow.Author.Tests.{not-true, not-false}
 use lib.ListN.{length}
 use Rattle.keyed.specs.Keying.{holds_all}
 use Rattle.keyed.proofs.Listing.{room_as, room-ranks, room-lost, room-list, lists-whole, lists-none, cleared-length, cleared}

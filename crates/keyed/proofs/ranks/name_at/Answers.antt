@@ -1,6 +1,5 @@
 -- `keyed::ranks::name_at` meets its contract. Assumes nothing.
 use mathlib.Core.Path.{◌∙◌}
-use borrow.Author.Rules.{rules}
 use Rattle.keyed.proofs.Sameness.{name-first, name-second}
 use Rattle.keyed.proofs.ranks.name_at.Goals as goal
 

@@ -1,5 +1,4 @@
 -- `keyed::ranks::next_rank` meets its contract. Assumes nothing.
-use borrow.Author.Rules.{rules}
 use Rattle.keyed.proofs.Sameness.{rank-kept, rank-next}
 use Rattle.keyed.proofs.ranks.next_rank.Goals as goal
 

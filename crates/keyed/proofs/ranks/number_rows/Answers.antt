@@ -1,11 +1,9 @@
 -- `keyed::ranks::number_rows` meets its contract: what is left of the list, ranked, is all of it. Assumes nothing.
-use mathlib.Core.Path.{◌≡◌, refl, sym, ◌∙◌, ap}
-use Prim.Native.Nat.{ℕ, ◌+◌, ◌-◌, ◌≤◌, ◌<◌}
+use mathlib.Core.Path.{refl, sym, ◌∙◌}
+use Prim.Native.Nat.{◌<◌}
 use native.Mathlib.Omega.{arith}
-use borrow.Author.Rules.{rules}
-use lib.ListN.{length, get_or, drop, length-set}
+use lib.ListN.{length, get_or, length-set}
 use Rattle.sorting.proofs.Sorts.{get_d-mem}
-use Rattle.keyed.specs.Keying.{same_key, ranked_from, ranked}
 use Rattle.keyed.proofs.Ranking.{ranked-none, ranked-start, ranked-step, ranked-end, rank_most}
 use Rattle.keyed.proofs.ranks.number_rows.Goals as goal
 

@@ -1,11 +1,7 @@
-use mathlib.Core.Path.{◌≡◌, refl, sym, ◌∙◌, ap}
-use Prim.Native.Nat.{ℕ, ◌+◌, ◌-◌, ◌≤◌, ◌<◌}
-use native.Mathlib.Omega.{arith}
-use borrow.Author.Rules.{rules}
-use lib.ListN.{length, get_or, drop, length-set}
-use Rattle.sorting.proofs.Sorts.{get_d-mem}
+use mathlib.Core.Path.{◌≡◌}
+use Prim.Native.Nat.{◌+◌, ◌-◌, ◌≤◌}
+use lib.ListN.{length, drop}
 use Rattle.keyed.specs.Keying.{same_key, ranked_from, ranked}
-use Rattle.keyed.proofs.Ranking.{ranked-none, ranked-start, ranked-step, ranked-end, rank_most}
 use Rattle.keyed.proofs.ranks.number_rows.Given as goal
 
 abbrev pub invariant-loop-k : goal.invariant-loop-k

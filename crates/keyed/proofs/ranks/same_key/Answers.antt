@@ -1,5 +1,4 @@
 -- `keyed::ranks::same_key` meets its contract. Assumes nothing.
-use borrow.Author.Rules.{rules}
 use Rattle.keyed.proofs.Sameness.{before-differ, after-differ, names-decide}
 use Rattle.keyed.proofs.ranks.same_key.Goals as goal
 

@@ -1,14 +1,10 @@
 -- `keyed::ranks::sort_missing` meets its contract: the ranks of all wanted rows say which are missing, and in which order. Assumes nothing.
-use mathlib.Core.Path.{◌≡◌, sym, ◌∙◌, ap}
+use mathlib.Core.Path.{sym, ◌∙◌, ap}
 use mathlib.Core.List.{List}
 use Prim.Native.Nat.{ℕ}
-use native.Mathlib.Omega.{arith}
-use borrow.Author.Rules.{rules}
-use lib.ListN.{length}
 use lib.Seq.{length-take-le}
-use Rattle.sorting.specs.Keys.{sorted_rows, Sorts}
-use Rattle.sorting.specs.declared.Keys.{Keys}
-use Rattle.keyed.specs.Keying.{columns, same_key, ranked}
+use Rattle.sorting.specs.Keys.{Sorts}
+use Rattle.keyed.specs.Keying.{same_key, ranked}
 use Rattle.keyed.proofs.Missing.{list}
 use Rattle.keyed.proofs.Listing.{not_full, list_count, list-is, list_length, list-fits, missing-done}
 use Rattle.keyed.proofs.ranks.sort_missing.Goals as goal

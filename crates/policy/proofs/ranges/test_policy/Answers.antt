@@ -1,5 +1,4 @@
 -- `test_policy` meets its contract. Assumes nothing.
-use borrow.Author.Rules.{rules}
 use Rattle.policy.proofs.EightLaws.{test-text, test-range, test_good}
 use Rattle.policy.proofs.ranges.test_policy.Goals as goal
 

@@ -1,6 +1,5 @@
 -- `called_at` meets its contract. Assumes nothing.
 use native.Mathlib.Omega.{arith}
-use borrow.Author.Rules.{rules}
 use Rattle.text.specs.Piece.{bytes_between}
 use Rattle.text.proofs.PieceLaws.{piece-long, trim-to}
 use Rattle.policy.proofs.Quotes.{quotes-le}

@@ -1,7 +1,6 @@
 -- `domain_at` meets its contract. Assumes nothing.
 use mathlib.Core.Path.{sym, ap, ◌∙◌}
 use native.Mathlib.Omega.{arith}
-use borrow.Author.Rules.{rules}
 use Rattle.text.proofs.PieceLaws.{trim-to}
 use Rattle.domains.specs.Domain.{domain_of}
 use Rattle.policy.proofs.HeardLaws.{trim-is-bytes}

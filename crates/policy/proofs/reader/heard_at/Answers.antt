@@ -2,7 +2,6 @@
 use mathlib.Core.Path.{sym, ap, ◌∙◌}
 use Prim.Native.Nat.{◌+◌}
 use native.Mathlib.Omega.{arith}
-use borrow.Author.Rules.{rules}
 use Rattle.text.proofs.FindLaws.{index-le}
 use Rattle.policy.specs.Heard.{ranged}
 use Rattle.text.specs.Piece.{bytes_between, TrimTo}

@@ -1,7 +1,6 @@
 -- `preset_at` meets its contract. Assumes nothing.
 use mathlib.Core.Path.{sym, ◌∙◌}
 use native.Mathlib.Omega.{arith}
-use borrow.Author.Rules.{rules}
 use Rattle.text.proofs.PieceLaws.{trim-to}
 use Rattle.policy.proofs.HeardLaws.{preset-allow, preset-deny, preset-bad}
 use Rattle.policy.proofs.reader.preset_at.Goals as goal

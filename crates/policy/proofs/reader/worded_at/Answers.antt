@@ -1,10 +1,9 @@
 -- `worded_at` meets its contract. Assumes nothing.
 use mathlib.Core.Path.{◌≡◌, sym, ◌∙◌}
-use mathlib.Core.Bool.{Bool, true, false}
+use mathlib.Core.Bool.{Bool, false}
 use mathlib.Core.List.{List}
 use Prim.Native.Nat.{ℕ}
 use native.Mathlib.Omega.{arith}
-use borrow.Author.Rules.{rules}
 use Rattle.text.specs.Find.{begins}
 use Rattle.text.specs.Piece.{bytes_between}
 use Rattle.policy.specs.Directive.{policy_w, default_w, allow_w, deny_w}

@@ -1,6 +1,5 @@
 -- `interfaces::domain_at` meets its contract. Assumes nothing.
 use mathlib.Core.Path.{◌∙◌}
-use borrow.Author.Rules.{rules}
 use Rattle.requirements.proofs.Asking.{row-domain}
 use Rattle.requirements.proofs.manifest.domain_at.Goals as goal
 

@@ -1,14 +1,11 @@
 -- `interfaces::list_domains` meets its contract. Assumes nothing.
-use Prim.Native.Nat.{ℕ, ◌-◌, ◌≤◌}
+use Prim.Native.Nat.{ℕ}
 use native.Mathlib.Omega.{arith}
 use mathlib.Core.Path.{sym, ◌∙◌, ap}
 use mathlib.Core.List.{[]}
-use borrow.Author.Rules.{rules}
-use lib.ListN.{length}
 use Rattle.table.specs.Table.{laid, rows_of}
-use Rattle.requirements.specs.Filling.{Column}
 use Rattle.requirements.proofs.Filling.{column-none}
-use Rattle.requirements.specs.Interfaces.{reference_domain, domain_of_cell}
+use Rattle.requirements.specs.Interfaces.{reference_domain}
 use Rattle.requirements.proofs.Asking.{column-turn, column-end}
 use Rattle.requirements.proofs.manifest.list_domains.Goals as goal
 

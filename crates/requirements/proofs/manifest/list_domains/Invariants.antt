@@ -1,14 +1,8 @@
-use Prim.Native.Nat.{ℕ, ◌-◌, ◌≤◌}
-use native.Mathlib.Omega.{arith}
-use mathlib.Core.Path.{sym, ◌∙◌, ap}
-use mathlib.Core.List.{[]}
-use borrow.Author.Rules.{rules}
+use Prim.Native.Nat.{◌-◌, ◌≤◌}
 use lib.ListN.{length}
-use Rattle.table.specs.Table.{laid, rows_of}
+use Rattle.table.specs.Table.{rows_of}
 use Rattle.requirements.specs.Filling.{Column}
-use Rattle.requirements.proofs.Filling.{column-none}
-use Rattle.requirements.specs.Interfaces.{reference_domain, domain_of_cell}
-use Rattle.requirements.proofs.Asking.{column-turn, column-end}
+use Rattle.requirements.specs.Interfaces.{domain_of_cell}
 use Rattle.requirements.proofs.manifest.list_domains.Given as goal
 
 abbrev pub invariant-loop-i : goal.invariant-loop-i

@@ -1,6 +1,5 @@
 -- `requirements::domain_at` meets its contract. Assumes nothing.
 use mathlib.Core.Path.{◌∙◌}
-use borrow.Author.Rules.{rules}
 use Rattle.requirements.proofs.Filling.{row-domain}
 use Rattle.requirements.proofs.module.domain_at.Goals as goal
 

@@ -1,15 +1,11 @@
 -- `requirements::list_functions` meets its contract. Assumes nothing.
-use Prim.Native.Nat.{ℕ, ◌-◌, ◌≤◌}
+use Prim.Native.Nat.{ℕ}
 use native.Mathlib.Omega.{arith}
-use mathlib.Core.Path.{◌≡◌, sym, ◌∙◌, ap}
-use mathlib.Core.List.{[], ◌∷◌}
-use borrow.Author.Rules.{rules}
-use lib.ListN.{length}
-use Rattle.table.specs.Table.{laid, put_row}
-use Rattle.import_rows.specs.Queries.{kind_is}
+use mathlib.Core.Path.{sym, ◌∙◌, ap}
+use mathlib.Core.List.{[]}
+use Rattle.table.specs.Table.{laid}
 use Rattle.import_rows.proofs.Asking.{kind-hit, kind-miss}
-use Rattle.requirements.specs.Requirements.{row_domain}
-use Rattle.requirements.proofs.Filling.{Filling, fill-begin, fill-hit, fill-miss, fill_end}
+use Rattle.requirements.proofs.Filling.{fill-begin, fill-hit, fill-miss, fill_end}
 use Rattle.requirements.proofs.module.list_functions.Goals.{then-cell-eq0, else-cell-eq0}
 use Rattle.requirements.proofs.module.list_functions.Goals as goal
 
@@ -28,7 +24,7 @@ loop-i-preserved c =
     let l = c.loop-i in (
       omega arith,
       elim c.if-cell-eq0.branch [
-        then-cell-eq0 w ↦ fill-hit l.invariant.1 c.loop-i-test.true (kind-hit _ _ c.cell.ensures w.if-cell-eq0.true) (cc) (cc) w.found-is
+        | then-cell-eq0 w ↦ fill-hit l.invariant.1 c.loop-i-test.true (kind-hit _ _ c.cell.ensures w.if-cell-eq0.true) (cc) (cc) w.found-is
         | else-cell-eq0 w ↦ fill-miss l.invariant.1 c.loop-i-test.true (kind-miss _ _ c.cell.ensures w.if-cell-eq0.false) w.domains-is w.rows-is w.found-is
       ],
     )

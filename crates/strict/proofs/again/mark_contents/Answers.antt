@@ -1,6 +1,5 @@
 -- `strict::again::mark_contents` meets its contract. Assumes nothing.
 use Rattle.strict.specs.Again.{contents_marks}
-use borrow.Author.Rules.{rules}
 use borrow.Author.Tests.{ne_eqb}
 use Rattle.strict.proofs.again.mark_contents.Goals as goal
 

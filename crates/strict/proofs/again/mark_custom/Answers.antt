@@ -11,7 +11,6 @@ use Rattle.strict.proofs.Marking.{custom-other, custom-named}
 use Rattle.strict.specs.Again.{custom_marks}
 use Rattle.wasm.proofs.Customs.{cut}
 use Rattle.wasm.specs.Custom.{name_word}
-use borrow.Author.Rules.{rules}
 use borrow.Author.Tests.{not-true, not-false}
 use lib.ListN.{take, drop}
 use native.Mathlib.Omega.{arith}

@@ -1,6 +1,5 @@
 -- `strict::again::mark_desc` meets its contract. Assumes nothing.
 use Rattle.strict.specs.Again.{desc_marks}
-use borrow.Author.Rules.{rules}
 use borrow.Author.Tests.{ne_eqb}
 use Rattle.strict.proofs.again.mark_desc.Goals as goal
 

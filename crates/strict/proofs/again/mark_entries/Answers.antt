@@ -1,8 +1,7 @@
 -- `strict::again::mark_entries` meets its contract: what is left answers as the whole does. Assumes nothing.
-use mathlib.Core.Path.{◌≡◌, refl, sym, ◌∙◌, ap}
+use mathlib.Core.Path.{refl, sym, ◌∙◌, ap}
 use Rattle.strict.proofs.Marking.{run_end, run-stop, run_on}
-use Rattle.strict.specs.Again.{said_marked, entry_marks, run_from}
-use borrow.Author.Rules.{rules}
+use Rattle.strict.specs.Again.{said_marked, entry_marks}
 use Rattle.strict.proofs.again.mark_entries.Goals as goal
 
 pub loop-left-init : goal.loop-left-init

@@ -1,7 +1,5 @@
-use mathlib.Core.Path.{◌≡◌, refl, sym, ◌∙◌, ap}
-use Rattle.strict.proofs.Marking.{run_end, run-stop, run_on}
-use Rattle.strict.specs.Again.{said_marked, entry_marks, run_from}
-use borrow.Author.Rules.{rules}
+use mathlib.Core.Path.{◌≡◌}
+use Rattle.strict.specs.Again.{entry_marks, run_from}
 use Rattle.strict.proofs.again.mark_entries.Given as goal
 
 abbrev pub invariant-loop-left : goal.invariant-loop-left

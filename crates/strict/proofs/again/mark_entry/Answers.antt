@@ -1,6 +1,5 @@
 -- `strict::again::mark_entry` meets its contract. Assumes nothing.
 use Rattle.strict.specs.Again.{entry_marks}
-use borrow.Author.Rules.{rules}
 use borrow.Author.Tests.{ne_eqb}
 use Rattle.strict.proofs.again.mark_entry.Goals as goal
 

@@ -4,7 +4,6 @@ use Rattle.leb.proofs.Answering.{hear}
 use Rattle.leb.specs.Answers.{said_byte, why_byte}
 use Rattle.refusal.proofs.Following.{stops, goes}
 use Rattle.strict.specs.Again.{global_marks}
-use borrow.Author.Rules.{rules}
 use Rattle.strict.proofs.again.mark_global.Goals as goal
 
 pub returns-in_default : goal.returns-in_default

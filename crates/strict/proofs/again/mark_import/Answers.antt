@@ -4,7 +4,6 @@ use Rattle.leb.proofs.Answering.{hear}
 use Rattle.leb.specs.Answers.{said_byte, why_byte}
 use Rattle.refusal.proofs.Following.{stops, goes}
 use Rattle.strict.specs.Again.{said_marked, why_marked, import_marks}
-use borrow.Author.Rules.{rules}
 use Rattle.strict.proofs.again.mark_import.Goals as goal
 
 pub returns-in_default : goal.returns-in_default

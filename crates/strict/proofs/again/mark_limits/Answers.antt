@@ -5,7 +5,6 @@ use Rattle.leb.specs.Answers.{said_byte, why_byte}
 use Rattle.refusal.proofs.Following.{stops, goes}
 use Rattle.strict.specs.Again.{said_marked, why_marked, number_marks, limits_marks}
 use Rattle.wasm.proofs.Flag.{even, odd}
-use borrow.Author.Rules.{rules}
 use Rattle.strict.proofs.again.mark_limits.Goals as goal
 
 pub returns-in_default : goal.returns-in_default

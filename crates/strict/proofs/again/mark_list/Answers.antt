@@ -2,7 +2,6 @@
 use mathlib.Core.Path.{sym, ◌∙◌, ap}
 use Rattle.refusal.proofs.Following.{stops, goes}
 use Rattle.strict.specs.Again.{said_marked, why_marked, list_marks}
-use borrow.Author.Rules.{rules}
 use Rattle.strict.proofs.again.mark_list.Goals as goal
 
 pub returns-in_default : goal.returns-in_default

@@ -5,7 +5,6 @@ use Rattle.leb.proofs.Bounds.{u32-in}
 use Rattle.leb.specs.Answers.{said_u32, why_u32}
 use Rattle.refusal.proofs.Following.{stops, goes}
 use Rattle.strict.specs.Again.{number_marks}
-use borrow.Author.Rules.{rules}
 use native.Mathlib.Omega.{arith}
 use Rattle.strict.proofs.again.mark_number.Goals as goal
 

@@ -5,7 +5,6 @@ use Rattle.leb.proofs.Bounds.{counted-in}
 use Rattle.leb.specs.Answers.{said_part, why_part}
 use Rattle.refusal.proofs.Following.{stops, goes}
 use Rattle.strict.specs.Again.{part_marks}
-use borrow.Author.Rules.{rules}
 use native.Mathlib.Omega.{arith}
 use Rattle.strict.proofs.again.mark_part.Goals as goal
 

@@ -4,7 +4,6 @@ use Rattle.leb.proofs.Answering.{hear}
 use Rattle.leb.specs.Answers.{said_u32, why_u32}
 use Rattle.refusal.proofs.Following.{stops, goes}
 use Rattle.strict.specs.Again.{run_from, run_marks}
-use borrow.Author.Rules.{rules}
 use Rattle.strict.proofs.again.mark_run.Goals as goal
 
 pub returns-in_default : goal.returns-in_default

@@ -11,7 +11,6 @@ use Rattle.strict.proofs.Marking.{framed-stop, framed-got}
 use Rattle.strict.specs.Again.{said_marked, framed_marks, contents_marks, section_marks}
 use Rattle.table.specs.Told.{Passed}
 use Rattle.wasm.proofs.Customs.{cut}
-use borrow.Author.Rules.{rules}
 use lib.ListN.{take, drop}
 use native.Mathlib.Omega.{arith}
 use Rattle.strict.proofs.again.mark_section.Goals as goal

@@ -1,12 +1,8 @@
 -- `strict::again::mark_subsections` meets its contract: what is left answers as the whole does. Assumes nothing.
-use Prim.Native.Nat.{◌-◌}
-use mathlib.Core.Path.{◌≡◌, refl, sym, ◌∙◌, ap}
+use mathlib.Core.Path.{refl, sym, ◌∙◌, ap}
 use Rattle.strict.specs.Again.{said_marked, subsection_marks}
 use Rattle.table.proofs.Telling.{passed}
 use Rattle.table.proofs.Walking.{from_end, from-stop, from-go}
-use Rattle.table.specs.Walking.{walk_from}
-use borrow.Author.Rules.{rules}
-use lib.ListN.{length}
 use native.Mathlib.Omega.{arith}
 use Rattle.strict.proofs.again.mark_subsections.Goals as goal
 

@@ -1,6 +1,5 @@
 -- `strict::again::mark_told` meets its contract. Assumes nothing.
 use Rattle.strict.specs.Again.{told_marks}
-use borrow.Author.Rules.{rules}
 use borrow.Author.Tests.{ne_eqb}
 use Rattle.strict.proofs.again.mark_told.Goals as goal
 

@@ -1,7 +1,6 @@
 -- `strict::again::read_number` meets its contract. Assumes nothing.
 use Rattle.leb.proofs.Answering.{gives}
 use Rattle.strict.proofs.Marking.{one_byte, two_bytes}
-use borrow.Author.Rules.{rules}
 use native.Mathlib.Omega.{arith}
 use Rattle.strict.proofs.again.read_number.Goals as goal
 

@@ -1,6 +1,5 @@
 -- `strict::again::read_part` meets its contract. Assumes nothing.
 use mathlib.Core.Path.{sym, ◌∙◌, ap}
-use borrow.Author.Rules.{rules}
 use Rattle.refusal.proofs.Following.{hands, stops, goes}
 use Rattle.leb.specs.Answers.{said_part, said_u32, why_part, why_u32}
 use Rattle.leb.specs.Reads.{counted_at}

@@ -1,7 +1,6 @@
 -- `strict::again::read_size` meets its contract. Assumes nothing.
 use Rattle.leb.proofs.Answering.{gives}
 use Rattle.strict.proofs.Marking.{four_bytes}
-use borrow.Author.Rules.{rules}
 use borrow.Author.Tests.{leb-true, ltb-true}
 use native.Mathlib.Omega.{arith}
 use Rattle.strict.proofs.again.read_size.Goals as goal

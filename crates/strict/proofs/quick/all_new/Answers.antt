@@ -1,10 +1,8 @@
 -- `strict::quick::all_new` meets its contract: the names from row i on are different, and their prints are marked. Assumes nothing.
 use mathlib.Core.Bool.{false≢true}
-use mathlib.Core.Path.{◌≡◌, refl, ◌∙◌}
-use lib.ListN.{length}
+use mathlib.Core.Path.{refl}
 use borrow.Author.Tests.{not-false}
-use Rattle.strict.proofs.Newness.{Looked, row_named, look-start, look-on, look-end}
-use borrow.Author.Rules.{rules}
+use Rattle.strict.proofs.Newness.{row_named, look-start, look-on, look-end}
 use native.Mathlib.Omega.{arith}
 use Rattle.strict.proofs.quick.all_new.Goals as goal
 

@@ -1,10 +1,6 @@
-use mathlib.Core.Bool.{false≢true}
-use mathlib.Core.Path.{◌≡◌, refl, ◌∙◌}
+use mathlib.Core.Path.{◌≡◌}
 use lib.ListN.{length}
-use borrow.Author.Tests.{not-false}
-use Rattle.strict.proofs.Newness.{Looked, row_named, look-start, look-on, look-end}
-use borrow.Author.Rules.{rules}
-use native.Mathlib.Omega.{arith}
+use Rattle.strict.proofs.Newness.{Looked}
 use Rattle.strict.proofs.quick.all_new.Given as goal
 
 abbrev pub invariant-loop-i : goal.invariant-loop-i

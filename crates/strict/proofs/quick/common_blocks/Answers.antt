@@ -1,8 +1,5 @@
 -- `strict::quick::common_blocks` ends. Assumes nothing.
-use Prim.Native.Nat.{◌-◌, ◌≤◌}
 use native.Mathlib.Omega.{arith}
-use lib.ListN.{length}
-use borrow.Author.Rules.{rules}
 use Rattle.strict.proofs.quick.common_blocks.Goals as goal
 
 pub loop-i-init : goal.loop-i-init

@@ -2,7 +2,6 @@
 use Rattle.leb.specs.Answers.{said_u32}
 use Rattle.leb.proofs.Answering.{hear}
 use Rattle.strict.proofs.Newness.{half-found, half-none}
-use borrow.Author.Rules.{rules}
 use Rattle.strict.proofs.quick.half.Goals as goal
 
 pub returns-in-Read : goal.returns-in-Read

@@ -1,7 +1,6 @@
 -- `strict::quick::is_new` meets its contract. Assumes nothing.
 use mathlib.Core.Bool.{false≢true}
 use Rattle.strict.proofs.Newness.{place-1, place-2, place-3}
-use borrow.Author.Rules.{rules}
 use Rattle.strict.proofs.quick.is_new.Goals as goal
 
 pub bounds-marks-a : goal.bounds-marks-a

@@ -1,9 +1,6 @@
 -- `strict::quick::mix` meets its contract: what is left of the bytes makes the whole print. Assumes nothing.
-use mathlib.Core.Path.{◌≡◌, refl, sym, ◌∙◌}
-use Prim.Native.Nat.{◌-◌, ◌≤◌, ◌<◌}
+use mathlib.Core.Path.{refl, sym, ◌∙◌}
 use native.Mathlib.Omega.{arith}
-use lib.ListN.{length, drop}
-use Rattle.strict.specs.Quick.{mixed}
 use Rattle.strict.proofs.Newness.{mix_next, mix-end}
 use Rattle.strict.proofs.quick.mix.Goals as goal
 

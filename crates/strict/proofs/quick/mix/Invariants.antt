@@ -1,9 +1,7 @@
-use mathlib.Core.Path.{◌≡◌, refl, sym, ◌∙◌}
+use mathlib.Core.Path.{◌≡◌}
 use Prim.Native.Nat.{◌-◌, ◌≤◌, ◌<◌}
-use native.Mathlib.Omega.{arith}
 use lib.ListN.{length, drop}
 use Rattle.strict.specs.Quick.{mixed}
-use Rattle.strict.proofs.Newness.{mix_next, mix-end}
 use Rattle.strict.proofs.quick.mix.Given as goal
 
 abbrev pub invariant-loop-i : goal.invariant-loop-i

@@ -1,5 +1,4 @@
 -- `strict::quick::note` meets its contract. Assumes nothing.
-use borrow.Author.Rules.{rules}
 use lib.ListN.{length-set}
 use Rattle.strict.proofs.Newness.{place-1, place-2, place-3, notes}
 use Rattle.strict.proofs.quick.note.Goals as goal

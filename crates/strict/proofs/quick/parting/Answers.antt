@@ -1,8 +1,5 @@
 -- `strict::quick::parting` ends. Assumes nothing.
-use Prim.Native.Nat.{◌-◌, ◌≤◌}
 use native.Mathlib.Omega.{arith}
-use lib.ListN.{length}
-use borrow.Author.Rules.{rules}
 use Rattle.strict.proofs.quick.parting.Goals as goal
 
 pub loop-i-init : goal.loop-i-init

@@ -1,6 +1,5 @@
 -- `strict::quick::print_of` meets its contract. Assumes nothing.
 use Rattle.strict.proofs.Newness.{print-short, print-long}
-use borrow.Author.Rules.{rules}
 use Rattle.strict.proofs.quick.print_of.Goals as goal
 
 pub returns-then-n-lt-WORD : goal.returns-then-n-lt-WORD

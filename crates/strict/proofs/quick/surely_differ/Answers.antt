@@ -1,5 +1,4 @@
 -- `strict::quick::surely_differ` meets its contract. Assumes nothing.
-use borrow.Author.Rules.{rules}
 use Rattle.strict.proofs.quick.surely_differ.Goals as goal
 
 pub returns-then-n-le-FEW : goal.returns-then-n-le-FEW

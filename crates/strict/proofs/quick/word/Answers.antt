@@ -1,6 +1,5 @@
 -- `strict::quick::word` meets its contract. Assumes nothing.
 use Rattle.strict.proofs.Newness.{word-is}
-use borrow.Author.Rules.{rules}
 use Rattle.strict.proofs.quick.word.Goals as goal
 
 pub returns : goal.returns

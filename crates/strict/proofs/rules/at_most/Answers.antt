@@ -1,10 +1,8 @@
 -- `strict::rules::at_most` meets its contract. Assumes nothing.
 use mathlib.Core.Path.{◌≡◌, refl, ◌∙◌}
-use Prim.Native.Nat.{◌-◌, ◌≤◌}
 use Rattle.strict.proofs.Ruling.{none-next, none_over}
 use Rattle.strict.specs.Rules.{none_above, column_of}
 use Rattle.table.specs.Table.{rows_of}
-use borrow.Author.Rules.{rules}
 use native.Mathlib.Omega.{arith}
 use Rattle.strict.proofs.rules.at_most.Goals as goal
 use Rattle.strict.proofs.rules.at_most.Goals.{then-last-cell, else-last-cell}

@@ -1,11 +1,6 @@
-use mathlib.Core.Logic.{⊎_elim}
-use mathlib.Core.Path.{◌≡◌, refl, ◌∙◌}
+use mathlib.Core.Path.{◌≡◌}
 use Prim.Native.Nat.{◌-◌, ◌≤◌}
-use Rattle.strict.proofs.Ruling.{none-next, none_over}
 use Rattle.strict.specs.Rules.{none_above, column_of}
-use Rattle.table.specs.Table.{rows_of}
-use borrow.Author.Rules.{rules}
-use native.Mathlib.Omega.{arith}
 use Rattle.strict.proofs.rules.at_most.Given as goal
 
 abbrev pub invariant-loop-i : goal.invariant-loop-i

@@ -1,10 +1,6 @@
 -- `strict::rules::in_order` meets its contract. Assumes nothing.
 use mathlib.Core.Path.{◌≡◌}
-use Prim.Native.Nat.{◌-◌, ◌≤◌}
-use Rattle.strict.proofs.Ruling.{Placing, placing-turn, placing-none}
-use Rattle.strict.specs.Rules.{column_of}
-use Rattle.table.specs.Shape.{width}
-use borrow.Author.Rules.{rules}
+use Rattle.strict.proofs.Ruling.{placing-turn, placing-none}
 use native.Mathlib.Omega.{arith}
 use Rattle.strict.proofs.rules.in_order.Goals as goal
 

@@ -1,10 +1,7 @@
-use mathlib.Core.Path.{◌≡◌}
 use Prim.Native.Nat.{◌-◌, ◌≤◌}
-use Rattle.strict.proofs.Ruling.{Placing, placing-turn, placing-none}
+use Rattle.strict.proofs.Ruling.{Placing}
 use Rattle.strict.specs.Rules.{column_of}
 use Rattle.table.specs.Shape.{width}
-use borrow.Author.Rules.{rules}
-use native.Mathlib.Omega.{arith}
 use Rattle.strict.proofs.rules.in_order.Given as goal
 
 abbrev pub invariant-loop-i : goal.invariant-loop-i

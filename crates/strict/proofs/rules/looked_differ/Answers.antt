@@ -1,6 +1,5 @@
 -- `strict::rules::looked_differ` meets its contract. Assumes nothing.
 use mathlib.Core.Path.{sym}
-use borrow.Author.Rules.{rules}
 use Rattle.strict.proofs.rules.looked_differ.Goals as goal
 
 pub returns-then-surely_differ : goal.returns-then-surely_differ

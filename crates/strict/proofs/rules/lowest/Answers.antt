@@ -1,7 +1,6 @@
 -- `strict::rules::lowest` meets its contract. Assumes nothing.
 use mathlib.Core.Path.{sym, ◌∙◌}
 use Rattle.strict.proofs.Judging.{lowest-1, lowest-2, lowest-3, lowest-4, lowest-5, lowest-6, lowest-7, lowest-8, lowest-none}
-use borrow.Author.Rules.{rules}
 use borrow.Author.Tests.{ne_eqb, eq-eqb, not-true, not-false}
 use Rattle.strict.proofs.rules.lowest.Goals as goal
 

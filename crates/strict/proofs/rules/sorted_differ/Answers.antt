@@ -1,7 +1,6 @@
 -- `strict::rules::sorted_differ` meets its contract. Assumes nothing.
 use mathlib.Core.Path.{refl}
 use Rattle.strict.proofs.Differing.{differ-count, differ-room}
-use borrow.Author.Rules.{rules}
 use Rattle.strict.proofs.rules.sorted_differ.Goals as goal
 
 pub returns-in-Rows : goal.returns-in-Rows

@@ -2,7 +2,6 @@
 use mathlib.Core.Path.{sym, ◌∙◌}
 use Rattle.strict.proofs.Ruling.{passed_on, passed-off}
 use Rattle.strict.specs.Rules.{passed}
-use borrow.Author.Rules.{rules}
 use borrow.Author.Tests.{eq-eqb}
 use Rattle.strict.proofs.rules.Rank.pass.Goals as goal
 
