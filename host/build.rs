@@ -1,4 +1,4 @@
-//! Links the archive of crate capi: `rt staticlib capi`, in the folder that VISCROMBAL_ARCHIVE names, else ../target/staticlib. The command
+//! Links the archive of crate capi: `tools/archive capi`, in the folder that VISCROMBAL_ARCHIVE names, else ../target/staticlib. The command
 //! is told the archive's sum, and the identity of the kit that proved it: that of the file SUMS beside it, which must list that sum.
 
 use std::path::{Path, PathBuf};
@@ -18,7 +18,7 @@ fn main() {
         println!("cargo:rerun-if-changed={}", sums.display());
     }
     let Ok(bytes) = fs::read(&archive) else {
-        eprintln!("no archive {}: run 'rt staticlib capi', or name its folder by VISCROMBAL_ARCHIVE, as ../proved", archive.display());
+        eprintln!("no archive {}: run 'tools/archive capi', or name its folder by VISCROMBAL_ARCHIVE, as ../proved", archive.display());
         process::exit(1);
     };
     let sum = sha256::sum(&bytes);

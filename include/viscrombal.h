@@ -1,4 +1,4 @@
-/* The C interface of Viscrombal: crate capi, `rt staticlib capi`, x86-64.
+/* The C interface of Viscrombal: crate capi, whose symbols capi_c exports (`tools/archive capi`), x86-64.
  * Every call answers every input. A byte slice is a pointer and a length; a slice of no bytes may have any pointer but NULL. So the room
  * that a call needs is asked for by lending none: a room of 0 at any byte of the caller's. It is refused, 16 at the bytes needed, or needs
  * none.

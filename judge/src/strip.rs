@@ -1,22 +1,17 @@
 //! Rattle's sources without their contracts are Rust: for runs of an unproved copy only (tools/teeth).
-//! Ghost lines and clauses go, and every struct and enum gets the Copy that Rattle gives it.
+//! Ghost lines, clauses and what tells the prover how to search go.
 
-const COPY: &str = "#[derive(Clone, Copy)]\n";
+/// How a line begins that is no Rust.
+const FOR_THE_PROVER: [&str; 4] = ["ghost use ", "#![tactic(", "#[tactic(", "#[cycle("];
 
 /// The source of a file of Rattle as Rust; of Rust, itself.
 pub fn stripped(source: &str) -> String {
     let mut out = String::new();
     for line in without_clauses(source).lines() {
-        let word = line.trim_start();
-        if word.starts_with("ghost use ") {
-            continue;
+        if !FOR_THE_PROVER.iter().any(|word| line.trim_start().starts_with(word)) {
+            out += line;
+            out.push('\n');
         }
-        let item = word.strip_prefix("pub(crate) ").or(word.strip_prefix("pub ")).unwrap_or(word);
-        if line == word && (item.starts_with("struct ") || item.starts_with("enum ")) && !out.ends_with(COPY) {
-            out += COPY;
-        }
-        out += line;
-        out.push('\n');
     }
     out
 }

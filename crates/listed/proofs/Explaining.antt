@@ -20,7 +20,6 @@ use Rattle.output.specs.Bytes.{room_for, Formed, overlaid, room_from, written_co
 use Rattle.reasons.specs.Reasons.{Diffs, diffs, reasons_tested, reasons_of, reasoned_from, ReasonsFrom}
 use Rattle.reasons.proofs.Fine.{reasons-long}
 use Rattle.listed.specs.declared.comparison.ComparisonTold.{ComparisonTold}
-use Rattle.listed.specs.Delivered.{Lays}
 use Rattle.listed.specs.Comparisons.{no_comparison, comparison_by, verdict, taken_bytes, explained_bytes, Explains, ComparisonCounted}
 
 -- the bytes of the counted rows

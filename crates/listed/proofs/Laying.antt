@@ -1,23 +1,22 @@
 -- Lists of cells that are put into a buffer one after another, and what is told of it. Assumes nothing.
-use Prim.Native.Nat.{ℕ, zero, ◌+◌, ◌*◌, ◌≤◌, ◌<◌}
-use native.Mathlib.Nat.{zero-add, zero-mul}
+use Prim.Native.Nat.{ℕ, ◌+◌, ◌*◌, ◌≤◌, ◌<◌}
+use native.Mathlib.Nat.{zero-add}
 use native.Mathlib.Omega.{arith}
-use mathlib.Core.Path.{◌≡◌, refl, sym, ap, ◌∙◌, subst}
+use mathlib.Core.Path.{◌≡◌, refl, sym, ap, ◌∙◌}
 use mathlib.Core.Bool.{Bool, true, false}
-use mathlib.Core.List.{List, [], ◌∷◌, ◌++◌}
+use mathlib.Core.List.{List, [], ◌++◌}
 use lib.Dec.{leb, ltb}
 use lib.ListN.{length, drop, length-append}
 use borrow.Author.Tests.{le-leb, lt-ltb, le-ltb}
-use Rattle.refusal.specs.Pick.{pick}
 use Rattle.refusal.specs.Said.{Said, accepted, refused, follow, said_written, spot, Place}
 use Rattle.refusal.specs.declared.Refusal.TheVariants.{NoRoom}
 use Rattle.refusal.specs.declared.Written.{Written}
 use Rattle.table.specs.Table.{cells, put}
 use Rattle.table.proofs.Laws.{length-put}
-use Rattle.output.specs.Cells.{low_bytes, cell_bytes, room_at, Puts}
+use Rattle.output.specs.Cells.{cell_bytes, Puts}
 use Rattle.output.proofs.CellLaws.{length-bytes, bytes-append}
 use Rattle.output.proofs.Putting.{put-none, put-append}
-use Rattle.output.specs.Bytes.{room_for, written_count, left, WriterTells, Formed}
+use Rattle.output.specs.Bytes.{room_for, WriterTells, Formed}
 use Rattle.listed.specs.Delivered.{housed, Delivers, Lays}
 
 -- the buffer d is y: the bytes of the cells l at its start, and r is the place after them

@@ -3,12 +3,10 @@ use Prim.Native.Nat.{ℕ, ◌+◌, ◌*◌, ◌≤◌, ◌<◌}
 use native.Mathlib.Omega.{arith}
 use mathlib.Core.Path.{◌≡◌, refl, sym, ap, ◌∙◌, subst}
 use mathlib.Core.Bool.{true}
-use mathlib.Core.Logic.{◌⊎◌, inl, inr}
 use mathlib.Core.List.{List, [], ◌∷◌, ◌++◌}
 use lib.ListN.{length}
 use lib.Dec.{leb}
 use borrow.Author.Tests.{le-leb}
-use denote.Enum.Declared.{tag_of, declared}
 use Rattle.refusal.specs.Said.{Said, accepted, refused_by, said_answer, spot}
 use Rattle.refusal.specs.declared.Answer.{Answer}
 use Rattle.refusal.specs.declared.Part.{Part}
@@ -37,7 +35,6 @@ use Rattle.policy_text.specs.declared.token.Token.{Token}
 use Rattle.policy_text.proofs.Asking.{no-domain, a-domain, read-stops, read_goes}
 use Rattle.policy_text.proofs.TokenLaws.{list-fits}
 use Rattle.policy_text.proofs.TokenLists.{More, tokens-done, tokens-more}
-use Rattle.policy_text.specs.contracts.token.Token.{enum}
 use Rattle.listed.specs.declared.tokens.TokensTold.{TokensTold}
 use Rattle.listed.specs.Delivered.{Lays, Delivers}
 use Rattle.listed.specs.Tokens.{no_tokens, tokens_by, token_cells, tokens_bytes, tokens_told, tokens_asked, tokens_read}

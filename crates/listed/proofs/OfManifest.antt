@@ -5,7 +5,7 @@ use mathlib.Core.Path.{◌≡◌, refl, sym, ap, ◌∙◌, subst}
 use mathlib.Core.Bool.{true, false}
 use mathlib.Core.List.{List}
 use lib.ListN.{length, take, length-take}
-use Rattle.refusal.specs.Said.{Said, accepted, refused, refused_by, follow, said_count, Place}
+use Rattle.refusal.specs.Said.{Said, accepted, refused, refused_by, said_count, Place}
 use Rattle.refusal.specs.declared.Count.{Count}
 use Rattle.refusal.specs.declared.Part.{Part}
 use Rattle.refusal.specs.declared.Refusal.{Refusal}

@@ -1,13 +1,12 @@
 -- A module that was read, with tables of any sizes, and its rows; tables for few rows first. Assumes nothing.
-use Prim.Native.Nat.{ℕ, ◌≤◌}
+use Prim.Native.Nat.{ℕ}
 use native.Mathlib.Omega.{arith}
 use mathlib.Core.Path.{◌≡◌, refl, sym, ap, ◌∙◌, subst}
 use mathlib.Core.List.{List}
 use lib.ListN.{length}
 use Rattle.refusal.specs.Said.{Said, accepted, refused, follow, Place}
-use Rattle.refusal.proofs.Following.{follow-stops}
 use Rattle.table.proofs.Larger.{Sure, same, spare, Full}
-use Rattle.wasm.specs.Module.{Sizes, Parsed, module_at, module_of, Lent}
+use Rattle.wasm.specs.Module.{Sizes, Parsed, module_at, Lent}
 use Rattle.wasm.specs.declared.Module.{Module}
 use Rattle.conform.specs.Sound.{few, limits}
 use Rattle.conform.proofs.Found.{Found, sections-in, imports-in, exports-in, names_in}

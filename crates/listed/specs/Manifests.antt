@@ -4,7 +4,7 @@ use Rattle.refusal.specs.Said.{Said, accepted, refused, follow, Place, number_at
 use Rattle.table.specs.Table.{laid, cells}
 use Rattle.table.specs.Shape.{width, limit, full_cells}
 use Rattle.output.specs.Cells.{cell_bytes}
-use Rattle.wit.specs.Manifest.{State, ManifestSizes, manifest_at, manifest_of, world_cells, reference_cells}
+use Rattle.wit.specs.Manifest.{ManifestSizes, manifest_at, manifest_of, world_cells, reference_cells}
 use Rattle.wit.specs.declared.Manifest.{Manifest}
 use Rattle.reference_rows.specs.Queries.{paths_of}
 use Rattle.listed.specs.declared.manifests.ManifestTold.{ManifestTold}

@@ -3,7 +3,6 @@ use native.Mathlib.Omega.{arith}
 use mathlib.Core.Path.{refl, sym}
 use lib.ListN.{length-take}
 use lib.Seq.{length-take-le}
-use borrow.Author.Rules.{rules}
 use Rattle.listed.proofs.Explaining.{explains-none, explains, rows_before, rows_long}
 use Rattle.listed.proofs.comparison.lay_comparison.Goals as goal
 

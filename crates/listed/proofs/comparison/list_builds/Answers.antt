@@ -1,5 +1,4 @@
 -- `list_builds` meets its contract. Assumes nothing.
-use borrow.Author.Rules.{rules}
 use Rattle.listed.specs.Comparisons.{comparison_bytes, comparison_told}
 use Rattle.listed.proofs.Laying.{delivers-none}
 use Rattle.conform.proofs.Found.{module-refused, module-found}

@@ -1,6 +1,5 @@
 -- `list_comparison` meets its contract. Assumes nothing.
 use native.Mathlib.Omega.{arith}
-use borrow.Author.Rules.{rules}
 use Rattle.listed.specs.Comparisons.{comparison_bytes, comparison_told}
 use Rattle.listed.proofs.Laying.{delivers-none}
 use Rattle.listed.proofs.OfComparison.{baseline-long, candidate-long, builds-read}

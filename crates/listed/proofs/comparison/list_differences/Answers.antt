@@ -1,7 +1,6 @@
 -- `list_differences` meets its contract. Assumes nothing.
 use native.Mathlib.Omega.{arith}
 use mathlib.Core.Path.{refl}
-use borrow.Author.Rules.{rules}
 use Rattle.listed.specs.Comparisons.{comparison_bytes, comparison_told}
 use Rattle.listed.proofs.Laying.{delivers-none}
 use Rattle.listed.proofs.OfComparison.{explained-none, lists-refused, lists-found, lists-counted, lists-delivered}

@@ -1,5 +1,4 @@
 -- `no_comparison` meets its contract. Assumes nothing.
-use borrow.Author.Rules.{rules}
 use Rattle.listed.proofs.comparison.no_comparison.Goals as goal
 
 pub returns : goal.returns

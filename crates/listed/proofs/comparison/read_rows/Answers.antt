@@ -1,5 +1,4 @@
 -- `read_rows` meets its contract. Assumes nothing.
-use borrow.Author.Rules.{rules}
 use Rattle.listed.proofs.comparison.read_rows.Goals as goal
 
 pub returns : goal.returns

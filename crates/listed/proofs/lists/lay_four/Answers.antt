@@ -1,6 +1,5 @@
 -- `lay_four` meets its contract. Assumes nothing.
 use mathlib.Core.Path.{refl}
-use borrow.Author.Rules.{rules}
 use Rattle.listed.proofs.Laying.{four-full, four}
 use Rattle.listed.proofs.lists.lay_four.Goals as goal
 

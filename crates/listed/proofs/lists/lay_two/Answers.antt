@@ -1,6 +1,5 @@
 -- `lay_two` meets its contract. Assumes nothing.
 use mathlib.Core.Path.{refl}
-use borrow.Author.Rules.{rules}
 use Rattle.listed.proofs.Laying.{two-full, two}
 use Rattle.listed.proofs.lists.lay_two.Goals as goal
 

@@ -3,7 +3,6 @@ use native.Mathlib.Omega.{arith}
 use mathlib.Core.Path.{sym}
 use lib.ListN.{length-take}
 use lib.Seq.{length-take-le}
-use borrow.Author.Rules.{rules}
 use Rattle.listed.specs.Manifests.{manifest_by}
 use Rattle.listed.proofs.Laying.{lays}
 use Rattle.listed.proofs.manifests.lay_manifest.Goals as goal

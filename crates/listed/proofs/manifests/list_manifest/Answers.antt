@@ -1,6 +1,5 @@
 -- `list_manifest` meets its contract. Assumes nothing.
 use native.Mathlib.Omega.{arith}
-use borrow.Author.Rules.{rules}
 use Rattle.listed.specs.Manifests.{manifest_bytes, manifest_told}
 use Rattle.listed.proofs.Laying.{delivers-none}
 use Rattle.listed.proofs.OfManifest.{manifest-refused, manifest-found, manifest-counted, manifest-delivered}

@@ -2,7 +2,6 @@
 use native.Mathlib.Omega.{arith}
 use mathlib.Core.Path.{refl, sym}
 use lib.Seq.{length-take-le}
-use borrow.Author.Rules.{rules}
 use Rattle.listed.specs.Manifests.{manifest_bytes, manifest_told}
 use Rattle.listed.proofs.Laying.{delivers-none}
 use Rattle.listed.proofs.OfManifest.{paths-refused, paths-found, paths-inside, paths-short}

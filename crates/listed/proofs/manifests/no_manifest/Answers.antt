@@ -1,5 +1,4 @@
 -- `no_manifest` meets its contract. Assumes nothing.
-use borrow.Author.Rules.{rules}
 use Rattle.listed.proofs.manifests.no_manifest.Goals as goal
 
 pub returns : goal.returns

@@ -1,5 +1,4 @@
 -- `list_more` meets its contract. Assumes nothing.
-use borrow.Author.Rules.{rules}
 use Rattle.listed.proofs.OfModule.{few-settles, few-full}
 use Rattle.listed.proofs.modules.list_more.Goals as goal
 

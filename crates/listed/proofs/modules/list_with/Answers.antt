@@ -1,6 +1,5 @@
 -- `list_with` meets its contract. Assumes nothing.
 use native.Mathlib.Omega.{arith}
-use borrow.Author.Rules.{rules}
 use Rattle.conform.proofs.Found.{module-refused, module-found}
 use Rattle.listed.specs.Modules.{module_bytes, module_told}
 use Rattle.listed.proofs.Laying.{delivers-none}

@@ -1,5 +1,4 @@
 -- `module_of` meets its contract. Assumes nothing.
-use borrow.Author.Rules.{rules}
 use Rattle.listed.proofs.modules.module_of.Goals as goal
 
 pub returns-in-Bytes : goal.returns-in-Bytes

@@ -1,5 +1,4 @@
 -- `no_module` meets its contract. Assumes nothing.
-use borrow.Author.Rules.{rules}
 use Rattle.listed.proofs.modules.no_module.Goals as goal
 
 pub returns : goal.returns

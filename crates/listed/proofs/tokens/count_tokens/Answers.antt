@@ -1,10 +1,7 @@
 -- `count_tokens` meets its contract: those that are counted and those that are left make the whole. Assumes nothing.
-use Prim.Native.Nat.{◌+◌, ◌-◌, ◌≤◌}
 use native.Mathlib.Omega.{arith}
-use mathlib.Core.Path.{◌≡◌, ap}
+use mathlib.Core.Path.{ap}
 use lib.ListN.{length}
-use borrow.Author.Rules.{rules}
-use Rattle.policy_text.specs.Token.{tokens_in}
 use Rattle.policy_text.proofs.TokenLists.{More}
 use Rattle.listed.proofs.Listing.{found-more, found_none}
 use Rattle.listed.proofs.tokens.count_tokens.Goals as goal

@@ -1,11 +1,7 @@
 use Prim.Native.Nat.{◌+◌, ◌-◌, ◌≤◌}
-use native.Mathlib.Omega.{arith}
-use mathlib.Core.Path.{◌≡◌, ap}
+use mathlib.Core.Path.{◌≡◌}
 use lib.ListN.{length}
-use borrow.Author.Rules.{rules}
 use Rattle.policy_text.specs.Token.{tokens_in}
-use Rattle.policy_text.proofs.TokenLists.{More}
-use Rattle.listed.proofs.Listing.{found-more, found_none}
 use Rattle.listed.proofs.tokens.count_tokens.Given as goal
 
 abbrev pub invariant-loop-next : goal.invariant-loop-next

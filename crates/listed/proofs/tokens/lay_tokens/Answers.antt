@@ -1,7 +1,6 @@
 -- `lay_tokens` meets its contract. Assumes nothing.
 use native.Mathlib.Omega.{arith}
 use mathlib.Core.Path.{refl}
-use borrow.Author.Rules.{rules}
 use Rattle.listed.proofs.Listing.{tokens-full, tokens-laid}
 use Rattle.listed.proofs.tokens.lay_tokens.Goals as goal
 

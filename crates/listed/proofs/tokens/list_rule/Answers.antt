@@ -1,6 +1,5 @@
 -- `list_rule` meets its contract. Assumes nothing.
 use native.Mathlib.Omega.{arith}
-use borrow.Author.Rules.{rules}
 use Rattle.listed.specs.Tokens.{tokens_bytes, tokens_told}
 use Rattle.listed.proofs.Laying.{delivers-none}
 use Rattle.listed.proofs.Listing.{rule-refused, rule-short, rule-listed, tokens-delivered}

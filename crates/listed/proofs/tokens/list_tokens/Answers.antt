@@ -2,7 +2,6 @@
 use native.Mathlib.Omega.{arith}
 use mathlib.Core.Path.{refl, sym, ap, ◌∙◌}
 use mathlib.Core.List.{[]}
-use borrow.Author.Rules.{rules}
 use Rattle.domains.specs.Domain.{found}
 use Rattle.listed.specs.Tokens.{tokens_bytes, tokens_told}
 use Rattle.listed.proofs.Laying.{delivers-none}

@@ -1,5 +1,4 @@
 -- `no_tokens` meets its contract. Assumes nothing.
-use borrow.Author.Rules.{rules}
 use Rattle.listed.proofs.tokens.no_tokens.Goals as goal
 
 pub returns : goal.returns

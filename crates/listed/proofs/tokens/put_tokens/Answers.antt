@@ -1,10 +1,8 @@
 -- `put_tokens` meets its contract: the ranges that are left, put after those that are there, make the whole. Assumes nothing.
-use Prim.Native.Nat.{◌+◌, ◌*◌, ◌-◌, ◌≤◌}
 use native.Mathlib.Omega.{arith}
-use mathlib.Core.Path.{◌≡◌, refl, sym, ap, ◌∙◌}
+use mathlib.Core.Path.{refl, sym, ap, ◌∙◌}
 use mathlib.Core.List.{List}
 use lib.ListN.{length}
-use borrow.Author.Rules.{rules}
 use Rattle.refusal.specs.declared.Part.{Part}
 use Rattle.table.specs.Table.{put}
 use Rattle.policy_text.specs.Token.{tokens_in}
