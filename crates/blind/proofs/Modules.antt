@@ -1,8 +1,8 @@
 -- Two modules, each with another table 2 that passes 15 and has the same names and kinds: what the calls on both answer. Assumes nothing.
-use mathlib.Core.Path.{◌≡◌, refl, sym, ◌∙◌, ap}
+use mathlib.Core.Path.{◌≡◌, refl, ◌∙◌, ap}
 use mathlib.Core.Bool.{Bool, true, false}
 use mathlib.Core.List.{List, [], ◌++◌}
-use Prim.Native.Nat.{ℕ, ◌+◌, ◌<◌}
+use Prim.Native.Nat.{ℕ, ◌+◌}
 use native.Mathlib.Omega.{arith}
 use lib.Dec.{ltb, eqb, leb}
 use lib.ListN.{length, take, drop}
@@ -11,20 +11,19 @@ use Rattle.refusal.specs.Pick.{pick, both}
 use Rattle.refusal.specs.Sizes.{file_limit}
 use Rattle.refusal.specs.Said.{Said, accepted, refused, follow, spot}
 use Rattle.refusal.proofs.Following.{followed}
-use Rattle.table.specs.Table.{cell_of, inside}
+use Rattle.table.specs.Table.{inside}
 use Rattle.table.specs.Shape.{width, limit, capacity_in, cell_in}
 use Rattle.table.specs.Testing.{bad}
 use Rattle.sorting.specs.Keys.{row_name}
 use Rattle.differences.specs.declared.Change.{Change}
 use Rattle.differences.specs.declared.Change.TheVariants.{Removed, Added}
-use Rattle.differences.specs.View.{View}
 use Rattle.differences.specs.Compared.{Given, viewed, lists, tables_tested, both_tested, roomed, compared}
 use Rattle.differences.specs.Part.{there, diff_bytes_at, block_at, offset_at, diff_bytes, diff_block, diff_offset}
 use Rattle.differences.proofs.Tests.{never-false, tested-all}
 use Rattle.reasons.specs.Reasons.{Diffs, need_reason, need_row, reasons_of, need_diff_fits, need_diffs_tested, diffs_tested, reasons_tested}
 use Rattle.reasons.specs.Reasons.{reasoned, reasoned_from, export_reasons, need_reasons}
 use Rattle.output.specs.Bytes.{room_for, room_from}
-use Rattle.blind.specs.Claims.{AlikeNames, Unseen, over, Pairs, SamePairs, SameRoom, Sources, SameSources}
+use Rattle.blind.specs.Claims.{AlikeNames, Unseen, over, SamePairs, SameRoom, SameSources}
 use Rattle.blind.proofs.Lists.{lines-agree, follow-agree}
 use Rattle.blind.proofs.Tables.{source-same, same_rows}
 

@@ -15,7 +15,7 @@ use Rattle.sorting.proofs.Rowing.{lawful-rows}
 use Rattle.import_rows.specs.Queries.{kind_is}
 use Rattle.domains.specs.Classify.{import_domain}
 use Rattle.requirements.specs.Requirements.{function_rows, row_domain}
-use Rattle.differences.specs.View.{Need, Row, row, need_at, view_of, export_rows}
+use Rattle.differences.specs.View.{Need, Row, row, need_at, export_rows}
 use Rattle.blind.specs.Claims.{AlikeNames, SameRows}
 use Rattle.blind.proofs.Lists.{keep-agree, map-agree}
 

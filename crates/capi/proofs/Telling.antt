@@ -8,7 +8,6 @@ use Rattle.policy.specs.Reader.{PolicyReadAs}
 use Rattle.policy.specs.declared.Policy.{Policy}
 use Rattle.policy.specs.declared.PolicyRead.{PolicyRead}
 use Rattle.output.specs.Bytes.{WriterTells, written_count, left}
-use Rattle.policy_text.specs.Writer.{written}
 use Rattle.told.specs.declared.policies.WrittenTold.{WrittenTold}
 use Rattle.told.specs.Policies.{number_in, place_in, written_told, WriteTells}
 use Rattle.capi.specs.Policies.{policy_shown, policy_told}

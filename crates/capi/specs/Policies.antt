@@ -7,7 +7,7 @@ use Rattle.policy.specs.declared.Stance.{Stance}
 use Rattle.policy.specs.declared.Stance.TheVariants.{None, Allow, Deny}
 use Rattle.policy.specs.declared.Slot.{Slot}
 use Rattle.policy.specs.declared.Policy.{Policy}
-use Rattle.policy_text.specs.Token.{Found, nothing, token}
+use Rattle.policy_text.specs.Token.{Found}
 use Rattle.policy_text.specs.Writer.{written}
 use Rattle.told.specs.Policies.{token_asked}
 use Rattle.capi.specs.declared.policies.RuleTold.{RuleTold}

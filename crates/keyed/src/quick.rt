@@ -3,7 +3,8 @@ ghost use Rattle.std.specs.Prelude.{◌≡◌, true, [], ◌+◌, ◌-◌, ◌*�
 ghost use Rattle.table.specs.Table.{laid, cells, rows_of};
 ghost use Rattle.differences.specs.Numbers.{some_from};
 ghost use Rattle.keyed.specs.Keying.{single};
-ghost use Rattle.keyed.specs.Quick.{mixed_print, and_number, ends_print, print_at, Printed, Unlike, meets_key, Seeks, found_mark, Unmarked, Tried};
+ghost use Rattle.keyed.specs.Quick.{mixed_print, and_number, ends_print, print_at, Printed, Unlike, meets_key};
+ghost use Rattle.keyed.specs.Quick.{Seeks, found_mark, Unmarked, Tried};
 
 use crate::marks::others;
 use crate::ranks::{name_at, same_key};

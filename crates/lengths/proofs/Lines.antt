@@ -1,5 +1,4 @@
 -- How long a line of a report can be, by the names and numbers in it. Assumes nothing.
-use mathlib.Core.Path.{◌≡◌, refl}
 use mathlib.Core.Bool.{Bool, true, false}
 use mathlib.Core.List.{List, [], ◌∷◌, ◌++◌}
 use Prim.Native.Nat.{ℕ, ◌+◌, ◌*◌, ◌≤◌}
@@ -14,17 +13,16 @@ use Rattle.kinds.specs.declared.ExternalKind.TheVariants.{Func, Table, Memory, G
 use Rattle.domains.specs.Domain.{slug}
 use Rattle.verdicts.specs.Evaluate.{violates}
 use Rattle.verdicts.specs.declared.Verdict.{Verdict}
-use Rattle.differences.specs.Differences.{kind_slug}
 use Rattle.output.specs.Bytes.{most}
 use Rattle.output.proofs.Words.{slug-long}
 use Rattle.reasons.specs.Reasons.{via, reason_lines}
 use Rattle.report.specs.Decimal.{decimal_of}
-use Rattle.report.specs.Words.{refused_w, at_w}
+use Rattle.report.specs.Words.{at_w}
 use Rattle.report.specs.Texts.{lf, refused_text}
 use Rattle.report.proofs.Short.{decimal-short, refused-short}
 use Rattle.reviewed.specs.Escape.{escaped, quoted}
-use Rattle.reviewed.specs.Words.{default_allow_w, default_deny_w, sections_w, imports_w, exports_w, not_w, required_w, allowed_w, violation_w}
-use Rattle.reviewed.specs.Words.{compliant_w, not_compliant_w, not_allowed_w, from_w, offset_w}
+use Rattle.reviewed.specs.Words.{sections_w, imports_w, exports_w, not_w, required_w, allowed_w}
+use Rattle.reviewed.specs.Words.{not_allowed_w, from_w, offset_w}
 use Rattle.reviewed.specs.Texts.{path_text, name_text, default_text, counts_text, words_of, beside_text, reason_text, nth, whether, mark_text}
 use Rattle.reviewed.specs.Texts.{domain_text, domains_text, violated_text, violated_texts, compliance_text, violation_text, stand_text, kind_text}
 use Rattle.reviewed.specs.Texts.{removed_text, added_text, verdict_text, none_text}

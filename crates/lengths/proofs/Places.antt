@@ -1,28 +1,28 @@
 -- Where a policy, a module and a comparison are refused: numbers of at most twenty digits. Assumes nothing.
-use mathlib.Core.Path.{◌≡◌, refl, sym, ◌∙◌, subst₂}
+use mathlib.Core.Path.{◌≡◌, refl, sym, subst₂}
 use mathlib.Core.Bool.{Bool, true, false}
 use mathlib.Core.List.{List}
-use Prim.Native.Nat.{ℕ, zero, suc, ◌+◌, ◌≤◌, ◌<◌}
+use Prim.Native.Nat.{ℕ, zero, suc, ◌+◌, ◌≤◌}
 use native.Mathlib.Omega.{arith}
 use lib.Dec.{leb, ltb, eqb}
 use lib.ListN.{length}
 use borrow.Author.Tests.{leb-true, ltb-false, eqb-true}
-use Rattle.refusal.specs.Pick.{pick, both, within}
+use Rattle.refusal.specs.Pick.{pick, within}
 use Rattle.refusal.specs.Sizes.{file_limit, text_limit}
 use Rattle.refusal.specs.Said.{Said, accepted, refused, follow, Place, offset, spot, kind_at}
 use Rattle.refusal.proofs.Following.{never}
 use Rattle.text.proofs.Laws.{both-two}
 use Rattle.table.specs.Shape.{capacity_in, limit, width}
-use Rattle.table.specs.Testing.{bad, first_from, tested}
+use Rattle.table.specs.Testing.{first_from, tested}
 use Rattle.table.specs.Entries.{finished}
 use Rattle.table.proofs.Cells.{capacity-limit}
-use Rattle.import_rows.specs.Queries.{import_fits, imports_tested}
+use Rattle.import_rows.specs.Queries.{imports_tested}
 use Rattle.wasm.specs.Module.{Parsed, module_at}
 use Rattle.conform.specs.Claims.{Bytes}
 use Rattle.conform.specs.Places.{with_offset}
 use Rattle.conform.proofs.Places.{places-in-file, kind-there, only-offsets, tables-few}
 use Rattle.policy.specs.Reader.{read_policy}
-use Rattle.differences.specs.Compared.{Given, Lists, lists, viewed, export_fits, exports_tested, tables_tested, roomed, compared}
+use Rattle.differences.specs.Compared.{Given, lists, viewed, exports_tested, tables_tested, roomed, compared}
 use Rattle.rewritten.proofs.Enough.{read-placed}
 use Rattle.reviewed.specs.Review.{lent, read_build}
 use Rattle.lengths.proofs.Lines.{Short}

@@ -1,11 +1,11 @@
 -- The lines for the rows of a table: together a line's own bytes for each row, and four for each byte of the file. Assumes nothing.
 use mathlib.Core.Path.{◌≡◌, refl}
-use mathlib.Core.Bool.{Bool, true, false, not}
+use mathlib.Core.Bool.{not}
 use mathlib.Core.List.{List, [], ◌∷◌, ◌++◌, map}
-use Prim.Native.Nat.{ℕ, zero, suc, ◌+◌, ◌*◌, ◌≤◌, ◌<◌}
+use Prim.Native.Nat.{ℕ, ◌+◌, ◌*◌, ◌≤◌, ◌<◌}
 use native.Mathlib.Omega.{arith}
 use lib.Dec.{eqb}
-use lib.ListN.{length, get_or, take, drop, length-take}
+use lib.ListN.{length, get_or, drop, length-take}
 use Rattle.refusal.specs.Pick.{pick, both}
 use Rattle.text.specs.declared.order.Order.{Order}
 use Rattle.table.specs.Table.{laid, cells, inside, range_of}
@@ -28,7 +28,7 @@ use Rattle.differences.specs.Differences.{Entry, entry, has_key, without, change
 use Rattle.differences.specs.Differences.{need_order, need_diff}
 use Rattle.differences.specs.Compared.{change_number, export_diff_cells, need_diff_cells}
 use Rattle.reasons.specs.Reasons.{reason_lines}
-use Rattle.reviewed.specs.Texts.{nth, violation_text, removed_text, added_text}
+use Rattle.reviewed.specs.Texts.{nth, removed_text, added_text}
 use Rattle.reviewed.specs.Review.{violation_row, removed_row, added_row}
 use Rattle.lengths.proofs.Sums.{total-append, total-selected, total-none, total-sort, total-map, sum_to, lines-sum, sum-le, sum-lines}
 use Rattle.lengths.proofs.Sums.{sum_rows, sum_below}

@@ -1,8 +1,8 @@
 -- No report is longer than 1,218,700 bytes. Assumes nothing.
-use mathlib.Core.Path.{◌≡◌, refl, sym}
+use mathlib.Core.Path.{◌≡◌, refl}
 use mathlib.Core.Bool.{Bool, true, false}
 use mathlib.Core.List.{List, [], ◌∷◌, ◌++◌}
-use Prim.Native.Nat.{ℕ, zero, suc, ◌+◌, ◌*◌, ◌≤◌, ◌<◌, min}
+use Prim.Native.Nat.{ℕ, zero, suc, ◌≤◌, ◌<◌, min}
 use native.Mathlib.Omega.{arith}
 use lib.Dec.{ltb, eqb}
 use lib.ListN.{length, take, drop, length-append, length-take, length-drop}
@@ -16,8 +16,6 @@ use Rattle.table.specs.Table.{laid, cells}
 use Rattle.table.specs.Shape.{width, limit}
 use Rattle.table.proofs.Giving.{Gives, gives-done, gives-stop, gives-pick, gives-follow}
 use Rattle.table.proofs.Cells.{capacity-limit}
-use Rattle.wasm.specs.Shapes.{Import, Export}
-use Rattle.wasm.specs.Rows.{import_cells, export_cells}
 use Rattle.wasm.specs.Module.{Parsed, module_at}
 use Rattle.conform.specs.Claims.{Bytes}
 use Rattle.conform.specs.Sound.{total, import_size, export_size, limits}
@@ -29,10 +27,8 @@ use Rattle.policy.specs.declared.Policy.{Policy}
 use Rattle.verdicts.specs.Evaluate.{Outcome, outcome_of, outcome, seven_of, verdict_for, how_many, no_verdict, no_outcome, domains_test, first_past}
 use Rattle.verdicts.specs.Evaluate.{evaluated}
 use Rattle.verdicts.specs.declared.Verdict.{Verdict}
-use Rattle.requirements.specs.Requirements.{module_rows}
 use Rattle.checking.specs.Checking.{weighed, held_to, read_then, checked_of}
 use Rattle.differences.specs.Compared.{Given, Lists, lists, viewed, verdict_on, export_diff_cells, need_diff_cells, tables_tested, roomed, compared}
-use Rattle.differences.specs.Differences.{export_diff, need_diff}
 use Rattle.output.specs.Bytes.{most}
 use Rattle.reasons.specs.Reasons.{reason_lines}
 use Rattle.rewritten.proofs.Long.{whole-short}
@@ -45,7 +41,7 @@ use Rattle.lengths.specs.Claims.{longest_report, path_limit, HandedOver, Lengths
 use Rattle.lengths.proofs.Lines.{path-long, name-long, counts-long, reason-long, none-long, domains-long, compliance-long, stand-long}
 use Rattle.lengths.proofs.Lines.{verdict-long}
 use Rattle.lengths.proofs.Rows.{violations-long, exports-long, needs-long}
-use Rattle.lengths.proofs.Places.{policy-short, Accepts, build-accepts, build-short, Counted, compared-short}
+use Rattle.lengths.proofs.Places.{policy-short, build-accepts, build-short, Counted, compared-short}
 
 -- ---- a policy
 text-short : (s : List ℕ) (p : Policy) → read_policy s ≡ accepted p → length s ≤ text_limit

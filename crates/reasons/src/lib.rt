@@ -321,7 +321,8 @@ fn write_reasons(
     at: u32,
 ) -> Written
     requires kinds_fit { KindsFit be.now xd.now nxd }
-    requires baseline_len_bound { (length baseline.now ≤ file_limit) × (length candidate.now ≤ file_limit) × (nxd ≤ limit 8) × (ncd ≤ limit 9) }
+    requires baseline_len_bound { (length baseline.now ≤ file_limit) × (length candidate.now ≤ file_limit)
+        × (nxd ≤ limit 8) × (ncd ≤ limit 9) }
     ensures { FormedFrom at (export_reasons baseline.now be.now xd.now nxd
         ++ need_reasons candidate.now ci.now cd.now ncd) out.old result out.new }
 {

@@ -13,7 +13,7 @@ use Rattle.refusal.specs.Pick.{pick}
 use Rattle.kinds.specs.Kinds.{hex_of}
 use Rattle.output.specs.Bytes.{most, Wrote}
 use Rattle.output.proofs.ByteLaws.{wrote_none, wrote_then}
-use Rattle.reviewed.specs.Escape.{shown_plain, shown, escaped, quoted}
+use Rattle.reviewed.specs.Escape.{shown_plain, shown, escaped}
 
 -- ---- lists byte by byte
 take_next : (s : List ℕ) (i : ℕ) → i < length s → take i s ++ (get_or s i 0 ∷ []) ≡ take (i + 1) s

@@ -1,11 +1,10 @@
 -- The report by what was read: a refusal is told, and what was accepted is gone on with. Assumes nothing.
 use mathlib.Core.Path.{◌≡◌, refl, sym, ap, ◌∙◌}
 use mathlib.Core.Bool.{Bool, true, false}
-use mathlib.Core.List.{List, [], ◌++◌, append_assoc}
+use mathlib.Core.List.{List, [], ◌++◌}
 use Prim.Native.Nat.{ℕ, ◌≤◌, ◌<◌}
 use borrow.Author.Tests.{lt-ltb, le-ltb}
 use lib.ListN.{length}
-use Rattle.refusal.specs.Pick.{pick, both}
 use Rattle.refusal.specs.Sizes.{text_limit}
 use Rattle.refusal.specs.Said.{Said, accepted, refused, refused_by, said_answer, number_of, where_of, follow, Place, spot}
 use Rattle.refusal.specs.declared.Answer.{Answer}
@@ -21,7 +20,7 @@ use Rattle.wasm.specs.declared.ModuleRead.{ModuleRead}
 use Rattle.policy.specs.Reader.{read_policy}
 use Rattle.policy.specs.View.{says}
 use Rattle.policy.specs.declared.Policy.{Policy}
-use Rattle.verdicts.specs.Evaluate.{Outcome, outcome_of, accepted_as, compliant, EvaluatedAs}
+use Rattle.verdicts.specs.Evaluate.{Outcome, accepted_as, compliant, EvaluatedAs}
 use Rattle.verdicts.specs.declared.Evaluation.{Evaluation}
 use Rattle.checking.specs.Checking.{checked_of}
 use Rattle.differences.specs.Compared.{Given, given, Lists, Verdict, verdict_on, compared, listed, Compares, export_diff_cells, need_diff_cells}

@@ -1,12 +1,11 @@
 -- Lines put into the buffer, by what they tell of. Assumes nothing.
-use mathlib.Core.Path.{◌≡◌, refl, sym, ap, ◌∙◌}
+use mathlib.Core.Path.{◌≡◌}
 use mathlib.Core.Bool.{Bool, true, false}
-use mathlib.Core.List.{List, [], ◌∷◌, ◌++◌}
+use mathlib.Core.List.{List, []}
 use Prim.Native.Nat.{ℕ, ◌≤◌, ◌<◌}
 use native.Mathlib.Omega.{arith}
 use borrow.Author.Tests.{lt-ltb, le-ltb, le-leb, eq-eqb, ne_eqb}
 use lib.ListN.{length}
-use Rattle.refusal.specs.Pick.{pick, both}
 use Rattle.refusal.specs.Said.{accepted}
 use Rattle.table.specs.Table.{range_of}
 use Rattle.table.specs.Shape.{width, cell_in}

@@ -4,7 +4,7 @@ use mathlib.Core.Logic.{◌↔◌, ⊎_elim}
 use mathlib.Core.Bool.{Bool, true, false, true≢false}
 use mathlib.Core.List.Memᴰ
 use mathlib.Core.List.{List, [], ◌∷◌}
-use Prim.Native.Nat.{ℕ, suc, ◌≤◌, ◌<◌}
+use Prim.Native.Nat.{ℕ, suc, ◌<◌}
 use native.Mathlib.Omega.{arith}
 use lib.Dec.{ltb}
 use lib.ListN.{length, get_or, take}
@@ -13,7 +13,7 @@ use borrow.Author.Tests.{le-ltb}
 use Rattle.refusal.specs.Pick.{pick}
 use Rattle.refusal.specs.Sizes.{file_limit}
 use Rattle.refusal.specs.Said.{accepted, refused, follow, spot}
-use Rattle.refusal.proofs.Following.{never, Followed, followed}
+use Rattle.refusal.proofs.Following.{never, followed}
 use Rattle.text.specs.Whole.{whole_text}
 use Rattle.sorting.specs.Sort.{◌∈◌}
 use Rattle.wasm.specs.Module.{Parsed, module_at}
@@ -21,11 +21,11 @@ use Rattle.conform.specs.Claims.{Bytes}
 use Rattle.conform.specs.Sound.{limits}
 use Rattle.policy.specs.declared.Policy.{Policy}
 use Rattle.policy.specs.Reader.{read_policy}
-use Rattle.verdicts.specs.Evaluate.{outcome, first_past, domains_test, evaluated, effective_of}
+use Rattle.verdicts.specs.Evaluate.{first_past, domains_test, evaluated, effective_of}
 use Rattle.verdicts.proofs.EvalLaws.{domains-good}
 use Rattle.checking.specs.Checking.{read_then, checked_of}
 use Rattle.standin.specs.Passing.{Allows, Passes}
-use Rattle.standin.specs.Builds.{Build, domains, Meets, Clear}
+use Rattle.standin.specs.Builds.{Build, Meets, Clear}
 use Rattle.standin.proofs.Passing.{allows-passes, passes-allows}
 use Rattle.standin.proofs.Domains.{small, meets-allows, allows-meets}
 use Rattle.standin.proofs.Limits.{whole, meets-clear, clear-meets}

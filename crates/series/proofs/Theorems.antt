@@ -15,7 +15,7 @@ use Rattle.differences.specs.declared.Change.{Change}
 use Rattle.differences.specs.declared.Change.TheVariants.{Removed, Added}
 use Rattle.differences.specs.View.{View, ExportKey, Need}
 use Rattle.differences.specs.Differences.{Entry, export_diff, need_diff}
-use Rattle.differences.specs.Compared.{Lists, lists, roomed, Verdict, verdict_on}
+use Rattle.differences.specs.Compared.{lists, roomed, Verdict, verdict_on}
 use Rattle.covering.specs.Replacing.{keys, Reports}
 use Rattle.standin.specs.Builds.{Build, view, exports, pairs, builds_compared, StandsIn, last}
 use Rattle.covering.proofs.Differ.{known}

@@ -1,5 +1,4 @@
 -- `compat::compare_tables` meets its contract. Assumes nothing.
-use mathlib.Core.Path.{sym}
 use native.Mathlib.Omega.{arith}
 use lib.Seq.{length-take-le}
 use Rattle.differences.proofs.Tests.{exports-good, imports-good}
@@ -36,9 +35,6 @@ returns-then-capacity-n c =
     (omega (arith, c.capacity-2.ensures, c.if-capacity-n.true)) c.requires.xd_value.0 c.requires.xd_value.1
 
 -- the parts that are lent have as many cells as the lists have numbers
-pub slice_bounds-lay_exports-end : goal.slice_bounds-lay_exports-end
-slice_bounds-lay_exports-end c = sym (length-take-le _ _ c.list_exports-m.ensures.within)
-
 pub lay_exports-requires : goal.lay_exports-requires
 lay_exports-requires c = (
   c.requires.xd_value.0,
@@ -46,21 +42,12 @@ lay_exports-requires c = (
       (rows_fit _ (width 8) (limit 8) _ (omega (arith, c.capacity.ensures, c.if-capacity-m.false))),
 )
 
-pub slice_bounds-lay_needs-end : goal.slice_bounds-lay_needs-end
-slice_bounds-lay_needs-end c = sym (length-take-le _ _ c.list_needs-n.ensures.within)
-
 pub lay_needs-requires : goal.lay_needs-requires
 lay_needs-requires c = (
   c.requires.xd_value.1,
   rw (length-take-le _ _ c.list_needs-n.ensures.within)
       (rows_fit _ (width 9) (limit 9) _ (omega (arith, c.capacity-2.ensures, c.if-capacity-n.false))),
 )
-
-pub slice_bounds-breaks_nothing-end : goal.slice_bounds-breaks_nothing-end
-slice_bounds-breaks_nothing-end c = sym (length-take-le _ _ c.list_exports-m.ensures.within)
-
-pub slice_bounds-breaks_nothing-end-2 : goal.slice_bounds-breaks_nothing-end-2
-slice_bounds-breaks_nothing-end-2 c = sym (length-take-le _ _ c.list_needs-n.ensures.within)
 
 pub returns : goal.returns
 returns c =

@@ -6,17 +6,8 @@ use Rattle.reasons.proofs.put_needs.Goals as goal
 pub loop-i-init : goal.loop-i-init
 loop-i-init c = (omega arith, lines-first _ _ _ _ (omega arith))
 
-pub overflow_add-i : goal.overflow_add-i
-overflow_add-i c = omega arith
-
-pub loop-i-smaller : goal.loop-i-smaller
-loop-i-smaller c = omega arith
-
 pub loop-i-preserved : goal.loop-i-preserved
 loop-i-preserved c = (omega arith, lines_next _ _ c.loop-i.invariant.1 c.put_need_row-m.ensures)
-
-pub shape_of-out : goal.shape_of-out
-shape_of-out c = c.loop-i.invariant.1.long
 
 pub returns : goal.returns
 returns c = lines-all _ c.loop-i.invariant.1 (omega arith)

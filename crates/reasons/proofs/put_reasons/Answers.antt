@@ -2,8 +2,5 @@
 use Rattle.output.proofs.ByteLaws.{wrote_then}
 use Rattle.reasons.proofs.put_reasons.Goals as goal
 
-pub put_exports-m-requires : goal.put_exports-m-requires
-put_exports-m-requires c = c.requires
-
 pub returns : goal.returns
 returns c = wrote_then c.put_exports-m.ensures c.put_needs.ensures

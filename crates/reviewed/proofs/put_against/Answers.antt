@@ -1,5 +1,4 @@
 -- `put_against` meets its contract. Assumes nothing.
-use borrow.Author.Rules.{rules}
 use Rattle.output.proofs.ByteLaws.{wrote_then}
 use Rattle.reviewed.proofs.Reading.{candidate-stops, candidate-goes}
 use Rattle.reviewed.proofs.Telling.{wrote-same}

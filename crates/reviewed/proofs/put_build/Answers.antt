@@ -1,5 +1,4 @@
 -- `put_build` meets its contract. Assumes nothing.
-use borrow.Author.Rules.{rules}
 use Rattle.reviewed.proofs.Reading.{counts-stops, counts-goes}
 use Rattle.reviewed.proofs.Telling.{wrote-same}
 use Rattle.reviewed.proofs.put_build.Goals as goal

@@ -1,5 +1,4 @@
 -- `put_builds` meets its contract. Assumes nothing.
-use borrow.Author.Rules.{rules}
 use Rattle.reviewed.proofs.Reading.{baseline-stops, baseline-goes}
 use Rattle.reviewed.proofs.Telling.{wrote-same}
 use Rattle.reviewed.proofs.put_builds.Goals as goal

@@ -1,5 +1,4 @@
 -- `put_check` meets its contract. Assumes nothing.
-use borrow.Author.Rules.{rules}
 use Rattle.output.proofs.ByteLaws.{wrote_then}
 use Rattle.reviewed.proofs.put_check.Goals as goal
 

@@ -1,6 +1,5 @@
 -- `put_compared` meets its contract. Assumes nothing.
 use mathlib.Core.Path.{refl}
-use borrow.Author.Rules.{rules}
 use Rattle.output.proofs.ByteLaws.{wrote_then}
 use Rattle.reviewed.proofs.Reading.{compared-stops, compared-goes}
 use Rattle.reviewed.proofs.Telling.{wrote-same}

@@ -1,7 +1,6 @@
 -- `put_no_room` meets its contract. Assumes nothing.
 use mathlib.Core.Path.{refl}
 use native.Mathlib.Omega.{arith}
-use borrow.Author.Rules.{rules}
 use Rattle.report.proofs.Printing.{no_room, all-put}
 use Rattle.reviewed.specs.Words.{no_room_w}
 use Rattle.reviewed.proofs.put_no_room.Goals as goal

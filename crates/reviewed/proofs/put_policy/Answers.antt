@@ -1,5 +1,4 @@
 -- `put_policy` meets its contract. Assumes nothing.
-use borrow.Author.Rules.{rules}
 use Rattle.reviewed.proofs.Reading.{policy-stops, policy-goes}
 use Rattle.reviewed.proofs.Telling.{wrote-same}
 use Rattle.checking.proofs.Checking.{policy-refused, policy-accepted}

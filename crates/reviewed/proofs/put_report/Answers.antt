@@ -1,11 +1,7 @@
 -- `put_report` meets its contract. Assumes nothing.
-use borrow.Author.Rules.{rules}
 use Rattle.output.proofs.ByteLaws.{wrote_then}
 use Rattle.reviewed.specs.Review.{review_of}
 use Rattle.reviewed.proofs.put_report.Goals as goal
-
-pub shape_of-out : goal.shape_of-out
-shape_of-out c = (returns c).long
 
 pub returns : goal.returns
 unfolding review_of

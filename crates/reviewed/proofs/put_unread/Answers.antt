@@ -1,5 +1,4 @@
 -- `put_unread` meets its contract. Assumes nothing.
-use borrow.Author.Rules.{rules}
 use Rattle.output.proofs.ByteLaws.{wrote-put, wrote_then}
 use Rattle.reviewed.specs.Review.{unread_of}
 use Rattle.reviewed.proofs.put_unread.Goals as goal

@@ -1,5 +1,4 @@
 -- `put_verdicts` meets its contract. Assumes nothing.
-use borrow.Author.Rules.{rules}
 use Rattle.reviewed.proofs.Reading.{verdict-stops, verdict-goes}
 use Rattle.reviewed.proofs.Telling.{wrote-same}
 use Rattle.checking.proofs.Checking.{policy-refused, policy-accepted}

@@ -1,10 +1,5 @@
 -- `read_build` meets its contract. Assumes nothing.
-use mathlib.Core.Path.{◌≡◌}
-use native.Mathlib.Omega.{arith}
-use borrow.Author.Rules.{rules}
-use Rattle.reviewed.specs.Review.{lent}
 use Rattle.reviewed.proofs.Reading.{read-long, read_short}
-use Rattle.wasm.specs.Module.{Sizes}
 use Rattle.reviewed.proofs.read_build.Goals as goal
 
 pub returns-then-file-gt-MAX_TEXT : goal.returns-then-file-gt-MAX_TEXT

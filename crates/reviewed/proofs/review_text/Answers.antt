@@ -2,7 +2,6 @@
 use Prim.Native.Nat.{◌≤◌}
 use native.Mathlib.Omega.{arith}
 use lib.ListN.{length}
-use borrow.Author.Rules.{rules}
 use Rattle.output.specs.Bytes.{most}
 use Rattle.reviewed.proofs.Rooms.{no-room-for, room_for}
 use Rattle.reviewed.proofs.review_text.Goals as goal

@@ -10,14 +10,6 @@ use Rattle.sorting.proofs.find_place.Goals as goal
 pub loop-lo-init : goal.loop-lo-init
 loop-lo-init c = (omega arith, omega arith, (λ j l. absurd (not-suc-le-zero l)), λ l. absurd (omega arith))
 
-pub loop-lo-preserved-in-Less : goal.loop-lo-preserved-in-Less
-loop-lo-preserved-in-Less c = (
-  omega arith,
-  omega arith,
-  c.loop-lo.invariant.2,
-  λ l. sym c.compare_rows-o.ensures ∙ c.in-Less.is,
-)
-
 pub returns-in-Equal : goal.returns-in-Equal
 returns-in-Equal c =
     let inside : c.loop-lo.lo + (c.loop-lo.hi - c.loop-lo.lo) / 2 < c.args.k = omega arith in

@@ -4,7 +4,6 @@ use mathlib.Core.List.{List, ◌++◌, append-nil}
 use Prim.Native.Nat.{ℕ, zero-le}
 use native.Mathlib.Nat.{le_antisymm, le_refl}
 use native.Mathlib.Numerals.{add-one-le}
-use native.Mathlib.Omega.{arith}
 use lib.ListN.{length, set, drop, replicate, length-set, drop_of_length-le}
 use borrow.Author.Fill.{fill_more}
 use Rattle.table.proofs.Laws.{laid_nil}
@@ -13,12 +12,6 @@ use Rattle.table.proofs.clear.Goals as goal
 pub loop-i-init : goal.loop-i-init
 loop-i-init c = (zero-le, refl, refl)
 
-pub bounds-table-i : goal.bounds-table-i
-bounds-table-i c = omega arith
-
-pub loop-i-smaller : goal.loop-i-smaller
-loop-i-smaller c = omega arith
-
 pub loop-i-preserved : goal.loop-i-preserved
 loop-i-preserved c =
     let l = c.loop-i in (
@@ -26,9 +19,6 @@ loop-i-preserved c =
       ap (λ (t : List ℕ). set t l.i 0) l.invariant.1 ∙ fill_more l.i 0 c.args.table.now c.loop-i-test.true,
       length-set l.table l.i 0 ∙ l.invariant.2,
     )
-
-pub shape_of-table : goal.shape_of-table
-shape_of-table c = c.loop-i.invariant.2
 
 pub returns : goal.returns
 returns c =

@@ -13,12 +13,6 @@ use Rattle.table.proofs.put_cells.Goals as goal
 pub loop-j-init : goal.loop-j-init
 loop-j-init c = (zero-le, paste-zero c.args.table.now c.args.at c.args.row.now, refl)
 
-pub bounds-row-j : goal.bounds-row-j
-bounds-row-j c = omega arith
-
-pub bounds-table-at : goal.bounds-table-at
-bounds-table-at c = omega arith
-
 pub loop-j-preserved : goal.loop-j-preserved
 loop-j-preserved c =
     let l = c.loop-j in

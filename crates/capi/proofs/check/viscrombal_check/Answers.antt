@@ -1,6 +1,5 @@
 -- `capi::check::viscrombal_check` meets its contract. Assumes nothing.
 use mathlib.Core.Path.{◌∙◌}
-use borrow.Author.Rules.{rules}
 use Rattle.told.proofs.Telling.{evaluation}
 use Rattle.capi.proofs.check.viscrombal_check.Goals as goal
 

@@ -1,5 +1,4 @@
 -- `signed_of` meets its contract: a number that was read fits, so it is the same after it is written and read back. Assumes nothing.
-use borrow.Author.Rules.{rules}
 use mir.Syntax.{w64}
 use mir.ValLaws.{to_z-of_z}
 use Rattle.capi.proofs.cursor.signed_of.Goals as goal

@@ -1,5 +1,4 @@
 -- `unsigned_of` meets its contract. Assumes nothing.
-use borrow.Author.Rules.{rules}
 use Rattle.capi.proofs.cursor.unsigned_of.Goals as goal
 
 pub returns-in-Read : goal.returns-in-Read

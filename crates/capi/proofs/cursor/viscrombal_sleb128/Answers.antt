@@ -1,6 +1,5 @@
 -- `viscrombal_sleb128` meets its contract. Assumes nothing.
 use mathlib.Core.Path.{◌∙◌, ap}
-use borrow.Author.Rules.{rules}
 use Rattle.leb.specs.Answers.{finding_of}
 use Rattle.leb.proofs.Answering.{heard-from}
 use Rattle.capi.specs.Reading.{signed_told}

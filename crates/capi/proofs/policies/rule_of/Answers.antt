@@ -1,5 +1,4 @@
 -- `rule_of` meets its contract. Assumes nothing.
-use borrow.Author.Rules.{rules}
 use Rattle.capi.proofs.policies.rule_of.Goals as goal
 
 pub returns : goal.returns

@@ -1,5 +1,4 @@
 -- `show` meets its contract. Assumes nothing.
-use borrow.Author.Rules.{rules}
 use Rattle.capi.proofs.policies.show.Goals as goal
 
 pub returns : goal.returns

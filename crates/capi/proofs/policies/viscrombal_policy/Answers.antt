@@ -1,7 +1,6 @@
 -- `viscrombal_policy` meets its contract. Assumes nothing.
 use mathlib.Core.Path.{◌∙◌}
 use Rattle.capi.proofs.Telling.{policy-told}
-use borrow.Author.Rules.{rules}
 use Rattle.capi.proofs.policies.viscrombal_policy.Goals as goal
 
 pub returns : goal.returns

@@ -4,7 +4,6 @@ use Rattle.policy.specs.declared.Policy.{Policy}
 use Rattle.policy_text.specs.Writer.{written}
 use Rattle.policy_text.proofs.Asking.{read-stops, read_goes}
 use Rattle.capi.proofs.Telling.{write-stops, write_goes}
-use borrow.Author.Rules.{rules}
 use Rattle.capi.proofs.policies.viscrombal_rewrite.Goals as goal
 
 pub returns-in-Refused : goal.returns-in-Refused

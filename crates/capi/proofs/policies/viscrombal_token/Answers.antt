@@ -3,7 +3,6 @@ use mathlib.Core.Path.{◌∙◌, ap}
 use Rattle.policy.specs.declared.Policy.{Policy}
 use Rattle.told.specs.Policies.{token_told, token_asked}
 use Rattle.policy_text.proofs.Asking.{read-stops, read_goes}
-use borrow.Author.Rules.{rules}
 use Rattle.capi.proofs.policies.viscrombal_token.Goals as goal
 
 pub returns-in-Refused : goal.returns-in-Refused

@@ -1,6 +1,5 @@
 -- `capi::strictly::viscrombal_strict` meets its contract. Assumes nothing.
 use mathlib.Core.Path.{◌∙◌, ap}
-use borrow.Author.Rules.{rules}
 use Rattle.told.specs.Answers.{answer_told}
 use Rattle.capi.proofs.strictly.viscrombal_strict.Goals as goal
 

@@ -3,8 +3,5 @@ use native.Mathlib.Omega.{arith}
 use borrow.Author.Tests.{ne_eqb}
 use Rattle.compat.proofs.keys.wanted.Goals as goal
 
-pub returns-in-0 : goal.returns-in-0
-returns-in-0 c = simp c.in-0.is
-
 pub returns-in_default : goal.returns-in_default
 returns-in_default c = simp (ne_eqb c.args.kind 0 (λ e. omega arith))

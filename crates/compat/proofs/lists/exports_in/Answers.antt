@@ -11,12 +11,6 @@ use Rattle.compat.proofs.Sizing.{room-yes, lists-numbers}
 use Rattle.compat.proofs.Instances.{exports-listed}
 use Rattle.compat.proofs.lists.exports_in.Goals as goal
 
-pub overflow_add-nb : goal.overflow_add-nb
-overflow_add-nb c = omega arith
-
-pub fill_exports-requires : goal.fill_exports-requires
-fill_exports-requires c = (c.requires.keys_value.0, c.requires.keys_value.1)
-
 pub returns : goal.returns
 returns c =
     let rows : List ℕ = let a = c.args in table_of (length a.keys.now) (export_keys a.be.now a.nb a.ce.now) (a.nb + a.nc) in

@@ -16,6 +16,3 @@ exports_in-requires c =
       );
       nb_value = c.requires.nb_value;
     }
-
-pub returns : goal.returns
-returns c = c.exports_in.ensures

@@ -15,6 +15,3 @@ needs_in-requires c =
         omega (arith, zeros-length 64, b.2),
       );
     }
-
-pub returns : goal.returns
-returns c = c.needs_in.ensures

@@ -3,16 +3,10 @@ use native.Mathlib.Omega.{arith}
 use Rattle.keyed.proofs.Filling.{zeros-laid, zeros-length}
 use Rattle.compat.proofs.lists.list_exports.Goals as goal
 
-pub overflow_add-nb : goal.overflow_add-nb
-overflow_add-nb c = omega arith
-
 pub few_exports-requires : goal.few_exports-requires
 few_exports-requires c =
     let b = c.requires.nb_bound in
     record { nb_bound = (b.0, b.1, c.if-nb-nc-le-FEW_KEYS.true, b.2); nb_value = c.requires.nb_value }
-
-pub returns-then-nb-nc-le-FEW_KEYS : goal.returns-then-nb-nc-le-FEW_KEYS
-returns-then-nb-nc-le-FEW_KEYS c = c.few_exports.ensures
 
 pub exports_in-requires : goal.exports_in-requires
 exports_in-requires c =
@@ -27,6 +21,3 @@ exports_in-requires c =
       );
       nb_value = c.requires.nb_value;
     }
-
-pub returns : goal.returns
-returns c = c.exports_in.ensures

@@ -10,12 +10,6 @@ use Rattle.compat.proofs.Sizing.{room-yes, lists-numbers}
 use Rattle.compat.proofs.Instances.{needs-listed}
 use Rattle.compat.proofs.lists.needs_in.Goals as goal
 
-pub overflow_add-nb : goal.overflow_add-nb
-overflow_add-nb c = omega arith
-
-pub fill_needs-requires : goal.fill_needs-requires
-fill_needs-requires c = (c.requires.keys_value.0, c.requires.keys_value.1)
-
 pub returns : goal.returns
 returns c =
     let rows : List ℕ = let a = c.args in table_of (length a.keys.now) (need_keys a.b.now a.bi.now a.nb a.c.now a.ci.now) (a.nb + a.nc) in

@@ -1,5 +1,4 @@
 -- `compare_of` meets its contract. Assumes nothing.
-use borrow.Author.Rules.{rules}
 use Rattle.judged.proofs.compares.compare_of.Goals as goal
 
 pub returns-in-Lists : goal.returns-in-Lists

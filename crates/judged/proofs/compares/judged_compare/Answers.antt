@@ -1,6 +1,5 @@
 -- `judged_compare` meets its contract. Assumes nothing.
 use mathlib.Core.Path.{◌∙◌, ap}
-use borrow.Author.Rules.{rules}
 use Rattle.judged.specs.Compares.{compare_told}
 use Rattle.judged.proofs.compares.judged_compare.Goals as goal
 

@@ -1,6 +1,5 @@
 -- `judged_export_name` meets its contract. Assumes nothing.
 use mathlib.Core.Path.{◌∙◌}
-use borrow.Author.Rules.{rules}
 use Rattle.judged.proofs.Telling.{name-told}
 use Rattle.judged.proofs.compares.judged_export_name.Goals as goal
 

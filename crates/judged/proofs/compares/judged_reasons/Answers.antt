@@ -1,6 +1,5 @@
 -- `judged_reasons` meets its contract. Assumes nothing.
 use mathlib.Core.Path.{◌∙◌, ap}
-use borrow.Author.Rules.{rules}
 use Rattle.told.specs.Policies.{written_told}
 use Rattle.judged.proofs.compares.judged_reasons.Goals as goal
 

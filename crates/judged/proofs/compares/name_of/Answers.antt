@@ -1,5 +1,4 @@
 -- `name_of` meets its contract. Assumes nothing.
-use borrow.Author.Rules.{rules}
 use borrow.Author.Tests.{lt-ltb, le-ltb}
 use Rattle.judged.specs.Compares.{name_told}
 use Rattle.judged.proofs.compares.name_of.Goals as goal

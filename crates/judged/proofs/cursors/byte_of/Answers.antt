@@ -1,5 +1,4 @@
 -- `byte_of` meets its contract. Assumes nothing.
-use borrow.Author.Rules.{rules}
 use Rattle.judged.proofs.cursors.byte_of.Goals as goal
 
 pub returns-in-Read : goal.returns-in-Read

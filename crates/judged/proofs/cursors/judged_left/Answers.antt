@@ -1,5 +1,4 @@
 -- `judged_left` meets its contract. Assumes nothing.
-use borrow.Author.Rules.{rules}
 use Rattle.judged.proofs.cursors.judged_left.Goals as goal
 
 pub returns : goal.returns

@@ -1,6 +1,5 @@
 -- `judged_u8` meets its contract. Assumes nothing.
 use mathlib.Core.Path.{◌∙◌, ap}
-use borrow.Author.Rules.{rules}
 use Rattle.leb.specs.Answers.{finding_of}
 use Rattle.leb.proofs.Answering.{heard-from}
 use Rattle.told.specs.Reading.{unsigned_told}

@@ -1,5 +1,4 @@
 -- `skip_of` meets its contract. Assumes nothing.
-use borrow.Author.Rules.{rules}
 use Rattle.judged.proofs.cursors.skip_of.Goals as goal
 
 pub returns-in-To : goal.returns-in-To

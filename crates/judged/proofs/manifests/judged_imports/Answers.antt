@@ -1,6 +1,5 @@
 -- `judged_imports` meets its contract. Assumes nothing.
 use mathlib.Core.Path.{◌∙◌, ap}
-use borrow.Author.Rules.{rules}
 use Rattle.judged.specs.Rows.{count_told}
 use Rattle.judged.proofs.manifests.judged_imports.Goals as goal
 

@@ -1,6 +1,5 @@
 -- `judged_manifest` meets its contract. Assumes nothing.
 use mathlib.Core.Path.{◌∙◌, ap}
-use borrow.Author.Rules.{rules}
 use Rattle.judged.specs.Manifests.{manifest_answer}
 use Rattle.judged.proofs.manifests.judged_manifest.Goals as goal
 

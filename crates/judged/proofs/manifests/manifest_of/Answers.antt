@@ -1,5 +1,4 @@
 -- `manifest_of` meets its contract. Assumes nothing.
-use borrow.Author.Rules.{rules}
 use Rattle.judged.proofs.manifests.manifest_of.Goals as goal
 
 pub returns-in-Manifest : goal.returns-in-Manifest

@@ -5,7 +5,6 @@ use Rattle.domains.specs.Domain.{found}
 use Rattle.verdicts.specs.Evaluate.{effective_of}
 use Rattle.policy_text.proofs.Asking.{no-domain, a-domain}
 use Rattle.judged.specs.Policies.{policy_in, effective_told}
-use borrow.Author.Rules.{rules}
 use Rattle.judged.proofs.policies.judged_effective.Goals as goal
 
 pub returns-in_default : goal.returns-in_default

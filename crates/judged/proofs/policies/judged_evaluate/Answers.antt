@@ -1,7 +1,6 @@
 -- `judged_evaluate` meets its contract. Assumes nothing.
 use mathlib.Core.Path.{◌∙◌}
 use Rattle.judged.proofs.Telling.{evaluation-told}
-use borrow.Author.Rules.{rules}
 use Rattle.judged.proofs.policies.judged_evaluate.Goals as goal
 
 pub returns : goal.returns

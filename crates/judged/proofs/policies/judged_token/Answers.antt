@@ -1,5 +1,4 @@
 -- `judged_token` meets its contract. Assumes nothing.
-use borrow.Author.Rules.{rules}
 use Rattle.judged.proofs.policies.judged_token.Goals as goal
 
 pub returns : goal.returns

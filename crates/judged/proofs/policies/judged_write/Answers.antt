@@ -1,6 +1,5 @@
 -- `judged_write` meets its contract. Assumes nothing.
 use Rattle.told.proofs.Telling.{write-told}
-use borrow.Author.Rules.{rules}
 use Rattle.judged.proofs.policies.judged_write.Goals as goal
 
 pub returns : goal.returns

@@ -1,6 +1,5 @@
 -- `policy_of` meets its contract. Assumes nothing.
 use Rattle.judged.specs.Policies.{policy_in}
-use borrow.Author.Rules.{rules}
 use Rattle.judged.proofs.policies.policy_of.Goals as goal
 
 pub returns : goal.returns

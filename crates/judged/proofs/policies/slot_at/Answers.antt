@@ -1,5 +1,4 @@
 -- `slot_at` meets its contract. Assumes nothing.
-use borrow.Author.Rules.{rules}
 use Rattle.judged.proofs.policies.slot_at.Goals as goal
 
 pub returns : goal.returns

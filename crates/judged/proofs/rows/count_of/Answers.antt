@@ -1,5 +1,4 @@
 -- `count_of` meets its contract. Assumes nothing.
-use borrow.Author.Rules.{rules}
 use Rattle.judged.proofs.rows.count_of.Goals as goal
 
 pub returns-in-Rows : goal.returns-in-Rows

@@ -1,7 +1,6 @@
 -- `judged_functions` meets its contract. Assumes nothing.
 use mathlib.Core.Path.{◌∙◌, ap}
 use Rattle.judged.specs.Rows.{count_told}
-use borrow.Author.Rules.{rules}
 use Rattle.judged.proofs.rows.judged_functions.Goals as goal
 
 pub returns : goal.returns

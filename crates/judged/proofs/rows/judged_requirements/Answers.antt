@@ -1,6 +1,5 @@
 -- `judged_requirements` meets its contract. Assumes nothing.
 use mathlib.Core.Path.{◌∙◌, ap}
-use borrow.Author.Rules.{rules}
 use Rattle.judged.specs.Rows.{count_told}
 use Rattle.judged.proofs.rows.judged_requirements.Goals as goal
 

@@ -1,7 +1,6 @@
 -- `judged_strict` meets its contract. Assumes nothing.
 use mathlib.Core.Path.{◌∙◌, ap}
 use Rattle.judged.specs.Rows.{module_answer}
-use borrow.Author.Rules.{rules}
 use Rattle.judged.proofs.rows.judged_strict.Goals as goal
 
 pub returns : goal.returns

@@ -1,5 +1,4 @@
 -- `module_of` meets its contract. Assumes nothing.
-use borrow.Author.Rules.{rules}
 use Rattle.judged.proofs.rows.module_of.Goals as goal
 
 pub returns-in-Module : goal.returns-in-Module

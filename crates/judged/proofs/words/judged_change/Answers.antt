@@ -1,5 +1,4 @@
 -- `judged_change` meets its contract. Assumes nothing.
-use borrow.Author.Rules.{rules}
 use Rattle.judged.proofs.words.judged_change.Goals as goal
 
 pub returns : goal.returns

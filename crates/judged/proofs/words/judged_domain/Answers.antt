@@ -5,7 +5,6 @@ use Rattle.refusal.specs.Slug.{slug_of}
 use Rattle.domains.specs.Domain.{found, slug}
 use Rattle.policy_text.proofs.Asking.{no-domain, a-domain}
 use Rattle.judged.specs.Compares.{word_told}
-use borrow.Author.Rules.{rules}
 use Rattle.judged.proofs.words.judged_domain.Goals as goal
 
 pub returns-in_default : goal.returns-in_default

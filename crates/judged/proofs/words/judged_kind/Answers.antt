@@ -1,5 +1,4 @@
 -- `judged_kind` meets its contract. Assumes nothing.
-use borrow.Author.Rules.{rules}
 use Rattle.judged.proofs.words.judged_kind.Goals as goal
 
 pub returns : goal.returns

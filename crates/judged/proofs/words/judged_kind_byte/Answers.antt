@@ -1,5 +1,4 @@
 -- `judged_kind_byte` meets its contract. Assumes nothing.
-use borrow.Author.Rules.{rules}
 use Rattle.judged.proofs.words.judged_kind_byte.Goals as goal
 
 pub returns : goal.returns

@@ -1,5 +1,4 @@
 -- `judged_section` meets its contract. Assumes nothing.
-use borrow.Author.Rules.{rules}
 use Rattle.judged.proofs.words.judged_section.Goals as goal
 
 pub returns : goal.returns

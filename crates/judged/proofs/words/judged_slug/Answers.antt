@@ -2,7 +2,6 @@
 use mathlib.Core.Path.{sym, ◌∙◌, ap}
 use Rattle.domains.specs.Domain.{found}
 use Rattle.judged.specs.Words.{perhaps_number}
-use borrow.Author.Rules.{rules}
 use Rattle.judged.proofs.words.judged_slug.Goals as goal
 
 pub returns-in_default : goal.returns-in_default

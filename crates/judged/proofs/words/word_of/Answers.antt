@@ -1,7 +1,6 @@
 -- `word_of` meets its contract. Assumes nothing.
 use mathlib.Core.Path.{◌∙◌}
 use Rattle.judged.proofs.Telling.{name-same}
-use borrow.Author.Rules.{rules}
 use Rattle.judged.proofs.words.word_of.Goals as goal
 
 pub returns : goal.returns

@@ -8,24 +8,6 @@ use Rattle.keyed.proofs.Seeking.{unlike-one}
 use Rattle.keyed.proofs.quick.none_like.Goals.{then-prints-at, else-prints-at}
 use Rattle.keyed.proofs.quick.none_like.Goals as goal
 
-pub loop-i-init : goal.loop-i-init
-loop-i-init c = (omega arith, λ e j h k. absurd (omega arith))
-
-pub overflow_add-at : goal.overflow_add-at
-overflow_add-at c = omega arith
-
-pub offset_bounds-prints-at : goal.offset_bounds-prints-at
-offset_bounds-prints-at c = omega arith
-
-pub bounds-prints-at : goal.bounds-prints-at
-bounds-prints-at c = omega arith
-
-pub overflow_add-i : goal.overflow_add-i
-overflow_add-i c = omega arith
-
-pub loop-i-smaller : goal.loop-i-smaller
-loop-i-smaller c = omega arith
-
 pub loop-i-preserved : goal.loop-i-preserved
 loop-i-preserved c =
     let x = c.args in

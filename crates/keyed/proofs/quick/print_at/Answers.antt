@@ -2,12 +2,6 @@
 use Rattle.keyed.proofs.Printing.{print-at-is}
 use Rattle.keyed.proofs.quick.print_at.Goals as goal
 
-pub stir-major-requires : goal.stir-major-requires
-stir-major-requires c = c.name_print-name.ensures.1
-
-pub stir-requires : goal.stir-requires
-stir-requires c = c.stir-major.ensures.1
-
 pub returns : goal.returns
 returns c =
     print-at-is _ _ _ _ c.name_at.ensures c.name_print-name.ensures.0 c.cell.ensures c.stir-major.ensures.0 c.cell-2.ensures

@@ -26,9 +26,6 @@ next_like-j-requires-in-search c =
     let p = c.requires.i_lt_n in
     (omega (arith, c.search-test.true), omega (arith, p.2, p.3))
 
-pub search-smaller : goal.search-smaller
-search-smaller c = omega (arith, c.next_like-j-in-search.ensures.0, c.search-test.true)
-
 pub search-preserved : goal.search-preserved
 search-preserved c =
     let v = c.search.invariant in

@@ -12,8 +12,5 @@ rows-preserved-then-cell-ne1 c = (omega arith, one_kept _ _ _ c.rows.invariant.1
 pub rows-preserved : goal.rows-preserved
 rows-preserved c = (omega arith, one-taken _ _ _ c.rows.invariant.1 c.cell.ensures c.if-cell-ne1.false c.unmark_row.ensures)
 
-pub shape_of-keys : goal.shape_of-keys
-shape_of-keys c = c.rows.invariant.1.long
-
 pub returns : goal.returns
 returns c = all-taken _ _ _ _ c.rows.invariant.0 c.rows-test.false c.rows.invariant.1

@@ -13,21 +13,12 @@ pub loop-i-init : goal.loop-i-init
 unfolding rows_of
 loop-i-init c = (omega arith, column-none _ (c.clear.ensures ∙ ap (λ (n : ℕ). laid n []) (sym c.clear.auto.table)))
 
-pub overflow_add-i : goal.overflow_add-i
-overflow_add-i c = omega arith
-
-pub loop-i-smaller : goal.loop-i-smaller
-loop-i-smaller c = omega arith
-
 pub loop-i-preserved : goal.loop-i-preserved
 loop-i-preserved c =
     let v = c.domain_at.ensures ∙ ap (reference_domain _ _) c.cell.ensures in (
       omega (arith, c.loop-i-test.true),
       column-turn _ _ c.loop-i.i c.loop-i.invariant.1 v c.put_row.ensures,
     )
-
-pub shape_of-domains : goal.shape_of-domains
-shape_of-domains c = c.loop-i.invariant.1.long ∙ c.clear.auto.table
 
 pub returns : goal.returns
 returns c = column-end _ _ c.clear.auto.table c.loop-i.invariant.0 c.loop-i-test.false c.loop-i.invariant.1

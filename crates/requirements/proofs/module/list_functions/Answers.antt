@@ -16,9 +16,6 @@ loop-i-init c = (
       (c.clear-2.ensures ∙ ap (λ (k : ℕ). laid k []) (sym c.clear-2.auto.table)),
 )
 
-pub overflow_add-found : goal.overflow_add-found
-overflow_add-found c = omega (arith, c.loop-i-test.true, c.loop-i.invariant.1.most)
-
 pub loop-i-preserved : goal.loop-i-preserved
 loop-i-preserved c =
     let l = c.loop-i in (

@@ -1,5 +1,4 @@
 -- `escape::hex` meets its contract. Assumes nothing.
-use borrow.Author.Rules.{rules}
 use borrow.Author.Tests.{lt-ltb, le-ltb}
 use Rattle.reviewed.proofs.escape.hex.Goals as goal
 

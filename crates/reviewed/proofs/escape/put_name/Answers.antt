@@ -1,11 +1,6 @@
 -- `escape::put_name` meets its contract. Assumes nothing.
-use mathlib.Core.Path.{◌≡◌, refl}
-use Prim.Native.Nat.{◌-◌}
+use mathlib.Core.Path.{refl}
 use native.Mathlib.Omega.{arith}
-use lib.ListN.{length, take}
-use borrow.Author.Rules.{rules}
-use Rattle.output.specs.Bytes.{Wrote}
-use Rattle.reviewed.specs.Escape.{escaped}
 use Rattle.reviewed.proofs.Escapes.{name-none, name-next, name-all}
 use Rattle.reviewed.proofs.escape.put_name.Goals as goal
 

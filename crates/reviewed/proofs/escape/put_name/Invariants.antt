@@ -1,11 +1,8 @@
-use mathlib.Core.Path.{◌≡◌, refl}
+use mathlib.Core.Path.{◌≡◌}
 use Prim.Native.Nat.{◌-◌}
-use native.Mathlib.Omega.{arith}
 use lib.ListN.{length, take}
-use borrow.Author.Rules.{rules}
 use Rattle.output.specs.Bytes.{Wrote}
 use Rattle.reviewed.specs.Escape.{escaped}
-use Rattle.reviewed.proofs.Escapes.{name-none, name-next, name-all}
 use Rattle.reviewed.proofs.escape.put_name.Given as goal
 
 abbrev pub invariant-loop-i : goal.invariant-loop-i

@@ -1,5 +1,4 @@
 -- `escape::put_quoted` meets its contract. Assumes nothing.
-use borrow.Author.Rules.{rules}
 use Rattle.output.proofs.ByteLaws.{wrote-put, wrote_then}
 use Rattle.reviewed.specs.Escape.{quoted}
 use Rattle.reviewed.proofs.escape.put_quoted.Goals as goal

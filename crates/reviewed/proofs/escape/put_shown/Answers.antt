@@ -1,6 +1,5 @@
 -- `escape::put_shown` meets its contract. Assumes nothing.
 use mathlib.Core.Path.{sym, ◌∙◌}
-use borrow.Author.Rules.{rules}
 use Rattle.output.proofs.ByteLaws.{wrote-put}
 use Rattle.reviewed.proofs.Escapes.{shown-plain, shown-coded}
 use Rattle.reviewed.proofs.escape.put_shown.Goals as goal

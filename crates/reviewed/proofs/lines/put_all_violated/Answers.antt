@@ -1,11 +1,6 @@
 -- `lines::put_all_violated` meets its contract. Assumes nothing.
-use Prim.Native.Nat.{ℕ, ◌-◌, ◌≤◌}
 use native.Mathlib.Omega.{arith}
-use borrow.Author.Rules.{rules}
-use Rattle.output.specs.Bytes.{Wrote}
 use Rattle.reasons.proofs.Lines.{lines-first, lines_next, lines-all}
-use Rattle.reasons.specs.Reasons.{reason_lines}
-use Rattle.reviewed.specs.Texts.{nth, violated_text}
 use Rattle.reviewed.proofs.lines.put_all_violated.Goals as goal
 
 pub loop-d-init : goal.loop-d-init

@@ -1,6 +1,5 @@
 -- `lines::put_beside` meets its contract. Assumes nothing.
 use native.Mathlib.Omega.{arith}
-use borrow.Author.Rules.{rules}
 use borrow.Author.Tests.{ne_eqb}
 use Rattle.output.proofs.ByteLaws.{wrote-put, wrote_then, wrote_none}
 use Rattle.reviewed.specs.Texts.{beside_text}

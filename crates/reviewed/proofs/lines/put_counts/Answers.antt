@@ -1,11 +1,7 @@
 -- `lines::put_counts` meets its contract. Assumes nothing.
-use borrow.Author.Rules.{rules}
 use Rattle.output.proofs.ByteLaws.{wrote-put, wrote_then}
 use Rattle.reviewed.specs.Texts.{counts_text}
 use Rattle.reviewed.proofs.lines.put_counts.Goals as goal
-
-pub shape_of-out : goal.shape_of-out
-shape_of-out c = (returns c).long
 
 pub returns : goal.returns
 unfolding counts_text

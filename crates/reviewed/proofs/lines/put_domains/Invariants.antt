@@ -1,8 +1,5 @@
-use Prim.Native.Nat.{ℕ, ◌-◌, ◌≤◌}
-use native.Mathlib.Omega.{arith}
-use borrow.Author.Rules.{rules}
+use Prim.Native.Nat.{◌-◌, ◌≤◌}
 use Rattle.output.specs.Bytes.{Wrote}
-use Rattle.reasons.proofs.Lines.{lines-first, lines_next, lines-all}
 use Rattle.reasons.specs.Reasons.{reason_lines}
 use Rattle.reviewed.specs.Texts.{nth, domain_text}
 use Rattle.reviewed.proofs.lines.put_domains.Given as goal

@@ -1,5 +1,4 @@
 -- `lines::put_line` meets its contract. Assumes nothing.
-use borrow.Author.Rules.{rules}
 use Rattle.reviewed.proofs.Telling.{puts-same}
 use Rattle.reviewed.proofs.lines.put_line.Goals as goal
 

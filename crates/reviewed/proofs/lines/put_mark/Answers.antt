@@ -1,7 +1,6 @@
 -- `lines::put_mark` meets its contract. Assumes nothing.
 use mathlib.Core.Path.{sym, ◌∙◌}
 use native.Mathlib.Omega.{arith}
-use borrow.Author.Rules.{rules}
 use Rattle.output.proofs.ByteLaws.{wrote-put, wrote_none}
 use Rattle.reviewed.specs.Texts.{mark_text}
 use Rattle.reviewed.proofs.lines.put_mark.Goals as goal

@@ -2,7 +2,6 @@
 use Prim.Native.Nat.{ℕ}
 use mathlib.Core.List.{List}
 use mathlib.Core.Path.{ap}
-use borrow.Author.Rules.{rules}
 use Rattle.reviewed.specs.Texts.{name_text}
 use Rattle.reviewed.proofs.Telling.{wrote-same, named-yes, named-no}
 use Rattle.reviewed.proofs.lines.put_name.Goals as goal

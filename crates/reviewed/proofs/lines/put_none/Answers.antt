@@ -1,7 +1,6 @@
 -- `lines::put_none` meets its contract. Assumes nothing.
 use mathlib.Core.Path.{◌≡◌, sym}
 use native.Mathlib.Omega.{arith}
-use borrow.Author.Rules.{rules}
 use Rattle.refusal.specs.Said.{number_of, place_of}
 use Rattle.output.proofs.ByteLaws.{wrote-put, wrote_then}
 use Rattle.report.proofs.Short.{refused-short}

@@ -1,6 +1,5 @@
 -- `lines::put_number` meets its contract. Assumes nothing.
 use native.Mathlib.Omega.{arith}
-use borrow.Author.Rules.{rules}
 use Rattle.report.proofs.Short.{decimal-short}
 use Rattle.report.proofs.Telling.{line-text}
 use Rattle.report.specs.Decimal.{decimal_of}

@@ -1,5 +1,4 @@
 -- `lines::put_path` meets its contract. Assumes nothing.
-use borrow.Author.Rules.{rules}
 use Rattle.output.proofs.ByteLaws.{wrote-put, wrote_then}
 use Rattle.reviewed.specs.Texts.{path_text}
 use Rattle.reviewed.proofs.lines.put_path.Goals as goal

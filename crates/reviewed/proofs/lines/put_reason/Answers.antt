@@ -1,6 +1,5 @@
 -- `lines::put_reason` meets its contract. Assumes nothing.
 use mathlib.Core.Path.{◌≡◌, sym}
-use borrow.Author.Rules.{rules}
 use Rattle.refusal.specs.Said.{number_of, place_of, beside_of}
 use Rattle.output.proofs.ByteLaws.{wrote-put, wrote_then}
 use Rattle.reviewed.specs.Texts.{reason_text}

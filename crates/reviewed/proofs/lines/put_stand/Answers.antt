@@ -1,5 +1,4 @@
 -- `lines::put_stand` meets its contract. Assumes nothing.
-use borrow.Author.Rules.{rules}
 use Rattle.output.proofs.ByteLaws.{wrote-put}
 use Rattle.reviewed.specs.Texts.{stand_text}
 use Rattle.reviewed.proofs.lines.put_stand.Goals as goal

@@ -1,5 +1,4 @@
 -- `lines::put_verdict` meets its contract. Assumes nothing.
-use borrow.Author.Rules.{rules}
 use Rattle.output.proofs.ByteLaws.{wrote-put}
 use Rattle.reviewed.specs.Texts.{verdict_text}
 use Rattle.reviewed.proofs.lines.put_verdict.Goals as goal

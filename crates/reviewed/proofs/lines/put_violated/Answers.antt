@@ -1,7 +1,6 @@
 -- `lines::put_violated` meets its contract. Assumes nothing.
 use mathlib.Core.Path.{sym, ◌∙◌}
 use native.Mathlib.Omega.{arith}
-use borrow.Author.Rules.{rules}
 use Rattle.output.proofs.ByteLaws.{wrote-put, wrote_none, wrote_then}
 use Rattle.reviewed.specs.Texts.{violated_text}
 use Rattle.reviewed.proofs.lines.put_violated.Goals as goal

@@ -1,7 +1,6 @@
 -- `lines::put_words` meets its contract. Assumes nothing.
 use mathlib.Core.Path.{sym, ap}
 use native.Mathlib.Omega.{arith}
-use borrow.Author.Rules.{rules}
 use Rattle.output.proofs.ByteLaws.{wrote_none}
 use Rattle.reviewed.specs.Texts.{words_of}
 use Rattle.reviewed.proofs.Telling.{wrote-same, puts-same, no_words}
@@ -57,10 +56,8 @@ returns-in-19 c = puts-same (ap words_of (sym c.in-19.is)) c.put-in-19.ensures
 
 pub returns-in_default : goal.returns-in_default
 returns-in_default c =
-    let q = c.in_default.in_default-own.rest in
     let a = c.args in
     wrote-same
-    (no_words a.number q.0.0.0.0.0.0.0.0.0.0.0.1 q.0.0.0.0.0.0.0.0.0.0.1
-    q.0.0.0.0.0.0.0.0.0.1 q.0.0.0.0.0.0.0.0.1 q.0.0.0.0.0.0.0.1 q.0.0.0.0.0.0.1
-    q.0.0.0.0.0.1 q.0.0.0.0.1 q.0.0.0.1 q.0.0.1 q.0.1 q.1)
+    (no_words a.number (omega arith) (omega arith) (omega arith) (omega arith) (omega arith) (omega arith)
+    (omega arith) (omega arith) (omega arith) (omega arith) (omega arith) (omega arith))
     (wrote_none a.out.now a.at a.go (omega arith))

@@ -1,6 +1,5 @@
 -- `rows::put_added_row` meets its contract. Assumes nothing.
 use native.Mathlib.Omega.{arith}
-use borrow.Author.Rules.{rules}
 use Rattle.output.proofs.ByteLaws.{wrote_none}
 use Rattle.reviewed.proofs.Telling.{wrote-same, added_none, added-some}
 use Rattle.reviewed.proofs.rows.put_added_row.Goals as goal

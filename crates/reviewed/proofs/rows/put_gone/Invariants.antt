@@ -1,8 +1,5 @@
 use Prim.Native.Nat.{◌-◌, ◌≤◌}
-use native.Mathlib.Omega.{arith}
-use borrow.Author.Rules.{rules}
 use Rattle.output.specs.Bytes.{Wrote}
-use Rattle.reasons.proofs.Lines.{lines-first, lines_next, lines-all}
 use Rattle.reasons.specs.Reasons.{reason_lines}
 use Rattle.reviewed.specs.Review.{removed_row}
 use Rattle.reviewed.proofs.rows.put_gone.Given as goal

@@ -1,6 +1,5 @@
 -- `rows::put_kind` meets its contract. Assumes nothing.
 use native.Mathlib.Omega.{arith}
-use borrow.Author.Rules.{rules}
 use Rattle.output.proofs.ByteLaws.{wrote-put, wrote_none}
 use Rattle.output.proofs.Words.{SlugIs}
 use Rattle.reasons.proofs.KindWords.{kind-is}

@@ -1,11 +1,6 @@
 -- `rows::put_new` meets its contract. Assumes nothing.
-use Prim.Native.Nat.{◌-◌, ◌≤◌}
 use native.Mathlib.Omega.{arith}
-use borrow.Author.Rules.{rules}
-use Rattle.output.specs.Bytes.{Wrote}
 use Rattle.reasons.proofs.Lines.{lines-first, lines_next, lines-all}
-use Rattle.reasons.specs.Reasons.{reason_lines}
-use Rattle.reviewed.specs.Review.{added_row}
 use Rattle.reviewed.proofs.rows.put_new.Goals as goal
 
 pub loop-i-init : goal.loop-i-init

@@ -1,6 +1,5 @@
 -- `rows::put_removed` meets its contract. Assumes nothing.
 use mathlib.Core.Path.{◌≡◌}
-use borrow.Author.Rules.{rules}
 use Rattle.table.specs.Shape.{width}
 use Rattle.output.proofs.ByteLaws.{wrote-put, wrote_then}
 use Rattle.reviewed.specs.Texts.{removed_text}

@@ -1,6 +1,5 @@
 -- `rows::put_removed_row` meets its contract. Assumes nothing.
 use native.Mathlib.Omega.{arith}
-use borrow.Author.Rules.{rules}
 use Rattle.output.proofs.ByteLaws.{wrote_none}
 use Rattle.reviewed.proofs.Telling.{wrote-same, removed-none, removed-some}
 use Rattle.reviewed.proofs.rows.put_removed_row.Goals as goal

@@ -1,5 +1,4 @@
 -- `rows::put_violation` meets its contract. Assumes nothing.
-use borrow.Author.Rules.{rules}
 use Rattle.output.proofs.ByteLaws.{wrote-put, wrote_then}
 use Rattle.reviewed.specs.Texts.{violation_text}
 use Rattle.reviewed.proofs.rows.put_violation.Goals as goal

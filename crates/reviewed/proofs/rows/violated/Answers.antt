@@ -1,7 +1,5 @@
 -- `rows::violated` meets its contract. Assumes nothing.
-use mathlib.Core.Path.{sym}
 use native.Mathlib.Omega.{arith}
-use borrow.Author.Rules.{rules}
 use Rattle.reviewed.proofs.Telling.{domain-small}
 use Rattle.reviewed.proofs.rows.violated.Goals as goal
 

@@ -1,5 +1,4 @@
 -- `answer_of` meets its contract. Assumes nothing.
-use borrow.Author.Rules.{rules}
 use Rattle.told.proofs.answers.answer_of.Goals as goal
 
 pub returns : goal.returns

@@ -1,5 +1,4 @@
 -- `evaluation_of` meets its contract. Assumes nothing.
-use borrow.Author.Rules.{rules}
 use Rattle.told.proofs.check.evaluation_of.Goals as goal
 
 pub returns : goal.returns

@@ -1,5 +1,4 @@
 -- `narrow_of` meets its contract. Assumes nothing.
-use borrow.Author.Rules.{rules}
 use Rattle.told.proofs.cursor.narrow_of.Goals as goal
 
 pub returns-in-Read : goal.returns-in-Read

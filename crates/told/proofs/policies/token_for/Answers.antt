@@ -5,7 +5,6 @@ use Rattle.domains.specs.Domain.{found}
 use Rattle.told.specs.Policies.{token_told}
 use Rattle.policy_text.specs.Token.{next_token}
 use Rattle.policy_text.proofs.Asking.{no-domain, a-domain}
-use borrow.Author.Rules.{rules}
 use Rattle.told.proofs.policies.token_for.Goals as goal
 
 pub returns-in_default : goal.returns-in_default

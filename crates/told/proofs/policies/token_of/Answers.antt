@@ -1,6 +1,5 @@
 -- `token_of` meets its contract. Assumes nothing.
 use mathlib.Core.Path.{◌∙◌}
-use borrow.Author.Rules.{rules}
 use Rattle.told.proofs.policies.token_of.Goals as goal
 
 pub returns-in-At : goal.returns-in-At

@@ -1,5 +1,4 @@
 -- `written_of` meets its contract. Assumes nothing.
-use borrow.Author.Rules.{rules}
 use Rattle.told.proofs.policies.written_of.Goals as goal
 
 pub returns-in-Bytes : goal.returns-in-Bytes
