@@ -175,7 +175,7 @@ uint32_t viscrombal_interface(void);
 #define VISCROMBAL_STACK_STRICT 319488
 #define VISCROMBAL_STACK_MODULE 245760
 #define VISCROMBAL_STACK_MANIFEST 77824
-#define VISCROMBAL_STACK_COMPARE 512000
+#define VISCROMBAL_STACK_COMPARE 516096
 
 /* Reads at offset `at` of the bytes s[0] to s[len - 1]. */
 struct viscrombal_unsigned viscrombal_uleb128(const uint8_t *s, size_t len, size_t at);

@@ -587,9 +587,19 @@ fn standard_input() {
     assert_eq!(run_with(command().current_dir(&place).args(words), &feed).status, 0, "after -- it is the file of that name");
 }
 
+/// A folder that goes when the test ends, however it ends: rt refuses a repository with a link in it.
+struct Gone(PathBuf);
+
+impl Drop for Gone {
+    fn drop(&mut self) {
+        let _ = fs::remove_dir_all(&self.0);
+    }
+}
+
 #[test]
 fn a_folder_is_walked() {
     let place = place("folder");
+    let _gone = Gone(place.clone());
     let (tide, feed) = (fs::read(of_sample("tide.wasm")).unwrap(), fs::read(of_sample("feed.wasm")).unwrap());
     let below = place.join("b").join("c");
     fs::create_dir_all(&below).unwrap();

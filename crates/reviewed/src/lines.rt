@@ -4,7 +4,8 @@ ghost use Rattle.table.specs.Table.{range_of};
 ghost use Rattle.output.specs.Bytes.{Wrote};
 ghost use Rattle.report.specs.Decimal.{decimal_of};
 ghost use Rattle.reviewed.specs.Texts.{path_text, name_text, counts_text, words_of, beside_text, reason_text, whether, mark_text};
-ghost use Rattle.reviewed.specs.Texts.{domain_text, domains_text, violated_text, violated_texts, compliance_text, stand_text, verdict_text, none_text};
+ghost use Rattle.reviewed.specs.Texts.{domain_text, domains_text, violated_text, violated_texts, compliance_text};
+ghost use Rattle.reviewed.specs.Texts.{stand_text, verdict_text, none_text};
 ghost use Rattle.reviewed.specs.Review.{shown_name};
 
 use crate::escape::put_quoted;

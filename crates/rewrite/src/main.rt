@@ -6,7 +6,6 @@ mod standard_error;
 ghost use Rattle.std.specs.Prelude.{◌≡◌, ◌≤◌, length, IfOk};
 ghost use Rattle.rewritten.specs.Printed.{printed_of};
 
-
 use refusal::MAX_TEXT;
 use rewritten::rewrite_text;
 use standard_error::fail;

@@ -30,7 +30,7 @@ pub mod stack {
     pub const STRICT: usize = 319488;
     pub const MODULE: usize = 245760;
     pub const MANIFEST: usize = 77824;
-    pub const COMPARE: usize = 512000;
+    pub const COMPARE: usize = 516096;
 }
 
 as_in_c! {

@@ -1,5 +1,4 @@
 use Rattle.std.specs.Prelude.{◌-◌, ◌≤◌, ◌≡◌, length}
-use borrow.Author.Rules.{rules}
 use Rattle.rewrite.proofs.read_input.Given as goal
 
 abbrev pub invariant-loop-n : goal.invariant-loop-n
