@@ -1,6 +1,5 @@
 -- `rewrite` meets its contract: what it hands to `print` is what is to be printed. Assumes nothing.
 use native.Mathlib.Omega.{arith}
-use borrow.Author.Rules.{rules}
 use Rattle.rewritten.specs.Printed.{printed_of}
 use Rattle.report.proofs.Printing.{printed}
 use Rattle.rewrite.proofs.rewrite.Goals as goal
