@@ -1,5 +1,5 @@
 //! Strict reading (docs/RULES.md): the original's plain answer, limits and all; where that accepts, eight rules that the original does not
-//! have, from the request's own words. They are told by a second decoder, over the original's `Reader`, which looks at every number as it
+//! have, from the rules' own words. They are told by a second decoder, over the original's `Reader`, which looks at every number as it
 //! is read; nothing in it comes from the port.
 use crate::limits::{module_within, FULL};
 use crate::says::{refused, zeros_to};

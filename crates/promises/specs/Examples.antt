@@ -1,6 +1,6 @@
 -- The checked examples that are marked P, as one list under a single claim: each holds of the definitions that the promises cite.
 -- Assumes nothing.
-use Rattle.std.specs.Prelude.{ℕ, zero, suc, ◌*◌, ◌≡◌, refl, Bool, true, false, List, [], ◌∷◌, ◌++◌, map, length, ℤ, pos, negsuc}
+use Rattle.std.specs.Prelude.{ℕ, ◌*◌, ◌≡◌, refl, Bool, true, false, List, [], ◌∷◌, ◌++◌, map, length, ℤ, pos, negsuc}
 use Rattle.refusal.specs.Said.{Said, accepted, refused, follow, Got, got, onward, offset, relocated}
 use Rattle.leb.specs.Groups.{u_n, s_n, twos, grown, spent}
 use Rattle.leb.specs.Reads.{told_at, narrowed, uleb_at, u32_at, sleb_at, part, byte_at, fixed_at, taken_at, counted_at, checked, name_at}
@@ -26,7 +26,6 @@ use Rattle.wasm.specs.Module.{Sizes, Parsed, no_tables, magic, header_at, conten
 use Rattle.wasm.specs.Shapes.{func}
 use Rattle.sorting.specs.Keys.{row_name}
 use Rattle.import_rows.specs.Queries.{asked, imports_tested, given_of, number_fits, marked, desc_fits, kind_fits, import_fits, kind_is}
-use Rattle.domains.specs.Domain.{words, word_in, domain_of}
 use Rattle.domains.specs.Classify.{passes, classed_by, preview, heads, preview1, unstable, head_of, path_domain, import_domain}
 use Rattle.text.specs.Whole.{whole_text}
 use Rattle.text.specs.Piece.{trim, shorn}

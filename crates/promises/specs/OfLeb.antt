@@ -1,5 +1,4 @@
 -- No two answers satisfy the promise of any function of leb: an answer is known by its number and values. Assumes nothing.
-use Rattle.std.specs.Prelude.{◌≡◌}
 use Rattle.std.proofs.Common.{sym, ◌∙◌}
 use Rattle.leb.proofs.Known.{byte-known, u32-known, u64-known, i64-known, part-known, skip-known}
 use Rattle.promises.specs.Decides.{Decides}

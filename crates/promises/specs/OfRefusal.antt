@@ -1,5 +1,4 @@
 -- No two answers satisfy the promise of any function of refusal. Assumes nothing.
-use Rattle.std.specs.Prelude.{◌≡◌}
 use Rattle.std.proofs.Common.{sym, ◌∙◌}
 use Rattle.promises.specs.Decides.{Decides}
 use Rattle.refusal.proofs.fits.Kinds as fits-kinds

@@ -1,5 +1,4 @@
 -- No two answers satisfy the promise of any function that tells an answer in a struct of numbers. Assumes nothing.
-use Rattle.std.specs.Prelude.{◌≡◌}
 use Rattle.std.proofs.Common.{sym, ◌∙◌}
 use Rattle.promises.specs.Decides.{Decides}
 use Rattle.told.proofs.cursor.narrow_of.Kinds as narrow-of-kinds

@@ -31,7 +31,6 @@ use Rattle.differences.specs.View.{ExportKey, Need}
 use Rattle.differences.specs.Compared.{verdict_on}
 use Rattle.told.specs.Policies.{number_in}
 use Rattle.capi.specs.Policies.{stance_number, policy_shown, policy_told}
-use Rattle.capi.specs.declared.policies.RuleTold.{RuleTold}
 use Rattle.capi.specs.declared.policies.PolicyTold.{PolicyTold}
 use Rattle.capi.proofs.lists.viscrombal_compare.Kinds as compare-kinds
 use Rattle.capi.proofs.lists.viscrombal_compare.Reads as compare

@@ -1,6 +1,6 @@
 -- The registry's first question, of whatever satisfies the promises of the calls: what `compatible` and `compliant` in an answer say of the
 -- files, and that both are false after a refusal. A comparison that is always compatible is ruled out. Assumes nothing.
-use Rattle.std.specs.Prelude.{ℕ, ◌≡◌, refl, ◌↔◌, Bool, true, false, List, eqb, ltb, length}
+use Rattle.std.specs.Prelude.{ℕ, ◌≡◌, refl, ◌↔◌, Bool, true, false, List, ltb, length}
 use Rattle.std.proofs.Common.{arith, sym, ◌∙◌, ap, ap₂, subst, true≢false, eqb-true, eq-eqb}
 use contract.Lifetimes.{Lfts}
 use borrow.Fn.Kinds.{Dens, res_t, ended_of}
@@ -11,7 +11,7 @@ use Rattle.refusal.proofs.Following.{never, one_value}
 use Rattle.table.specs.Shape.{capacity_in}
 use Rattle.verdicts.specs.Evaluate.{Outcome}
 use Rattle.output.specs.Bytes.{room_for}
-use Rattle.differences.specs.Compared.{Given, given, Lists, compared, verdict_on}
+use Rattle.differences.specs.Compared.{Given, given, compared, verdict_on}
 use Rattle.compat.specs.declared.Compared.{Compared}
 use Rattle.compat.proofs.compare_modules.Kinds as compare-modules-kinds
 use Rattle.compat.proofs.compare_modules.Reads as compare-modules

@@ -1,5 +1,5 @@
 -- The registry's third question: an import that no rule names is held against the default. Assumes nothing.
-use Rattle.std.specs.Prelude.{ℕ, ◌≡◌, refl, List, get_or, take}
+use Rattle.std.specs.Prelude.{ℕ, ◌≡◌, List, get_or, take}
 use Rattle.std.proofs.Common.{sym, ◌∙◌, ap}
 use contract.Lifetimes.{Lfts}
 use borrow.Fn.Kinds.{Dens, res_t, ended_of}
@@ -8,7 +8,7 @@ use Rattle.refusal.specs.Said.{Said, accepted, refused, follow, said_answer}
 use Rattle.refusal.proofs.Following.{never}
 use Rattle.text.specs.Whole.{without_value}
 use Rattle.policy.specs.Eight.{slot_of}
-use Rattle.verdicts.specs.Evaluate.{Outcome, outcome, outcome_of, evaluated, domains_test, effective_of, no_verdict, EvaluatedAs}
+use Rattle.verdicts.specs.Evaluate.{outcome, outcome_of, evaluated, domains_test, effective_of, no_verdict, EvaluatedAs}
 use Rattle.policy.specs.declared.Policy.{Policy}
 use Rattle.policy.specs.declared.Stance.TheVariants.{None}
 use Rattle.verdicts.specs.declared.Verdict.{Verdict}

@@ -62,7 +62,7 @@ fn say(court: &mut Court, call: Call, numbers: &[u64], strings: &[&[u8]]) {
     court.hear(Case::new(call, numbers, strings));
 }
 
-// ---- the design's worked cases, each with its answer
+// ---- worked cases, each with its answer
 
 const FILES: [(&str, &str, &str); 5] = [
     ("R07-1", "H 02 07 01 01 6d 01 66 00 05", "import 6d 66 0 asks [5, 0, 0, 0, 0, 0, 1]"),
