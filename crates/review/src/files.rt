@@ -1,5 +1,6 @@
 // The files that the arguments name.
-ghost use Rattle.std.specs.Prelude.{◌≡◌, ◌≤◌, length, IfOk};
+ghost use Rattle.std.specs.Prelude.{◌≡◌, ◌<◌, ◌≤◌, length, take, IfOk};
+ghost use Rattle.std.specs.Io.KnownBytes.{Consumes, IsAtEnd};
 
 use super::standard_error::fail;
 use std::env::FillError;
@@ -109,9 +110,11 @@ fn not_read(rt: &(impl Eprint + AllocGlobal), what: &str, error: &io::Error) -> 
     }
 }
 
-// A read that fails is no end of the file.
-fn read_all(file: &mut impl Read, buffer: &mut [u8]) -> io::Result<usize>
-    ensures { IfOk result (λ n. n ≤ length buffer.new) }
+// Of a file whose bytes are known, these are the next. A read that fails is no end of the file.
+fn read_all<F: Read>(file: &mut F, buffer: &mut [u8]) -> io::Result<usize>
+    ensures in_bounds { IfOk result (λ n. n ≤ length buffer.new) }
+    ensures bytes { IfOk result (λ n. Consumes (F.remaining file.old) (F.remaining file.new) (take n buffer.new)) }
+    ensures end { IfOk result (λ n. n < length buffer.new → IsAtEnd (F.remaining file.new)) }
 {
     let mut n = 0;
     while n < buffer.len() {

@@ -3,7 +3,8 @@
 
 mod standard_error;
 
-ghost use Rattle.std.specs.Prelude.{◌≡◌, ◌≤◌, length, IfOk};
+ghost use Rattle.std.specs.Prelude.{◌≡◌, ◌<◌, ◌≤◌, length, take, IfOk};
+ghost use Rattle.std.specs.Io.KnownBytes.{Consumes, IsAtEnd};
 ghost use Rattle.rewritten.specs.Printed.{printed_of};
 
 use refusal::MAX_TEXT;
@@ -25,9 +26,12 @@ fn main(rt: HostRuntime) {
     }
 }
 
-// Standard input to its end, or until the buffer is full. A read that fails is no end of input.
-fn read_input(input: &mut impl Read, buffer: &mut [u8]) -> io::Result<usize>
-    ensures { IfOk result (λ n. n ≤ length buffer.new) }
+// Standard input to its end, or until the buffer is full: of a reader whose bytes are known, these are the next. A read that fails is no end
+// of input.
+fn read_input<I: Read>(input: &mut I, buffer: &mut [u8]) -> io::Result<usize>
+    ensures in_bounds { IfOk result (λ n. n ≤ length buffer.new) }
+    ensures bytes { IfOk result (λ n. Consumes (I.remaining input.old) (I.remaining input.new) (take n buffer.new)) }
+    ensures end { IfOk result (λ n. n < length buffer.new → IsAtEnd (I.remaining input.new)) }
 {
     let mut n = 0;
     while n < buffer.len() {
