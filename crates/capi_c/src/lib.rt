@@ -1,5 +1,5 @@
-// The symbols of the C interface (include/viscrombal.h): each is capi's call of its name, with capi's clauses. A static library, as no crate
-// can be that and a library too.
+// The symbols of the C interface (include/viscrombal.h): each is capi's call of its name, with capi's clauses. A static library, as no
+// crate can be that and a library too.
 #![tactic(auto)]
 
 ghost use Rattle.std.specs.Prelude.{◌≡◌, length};

@@ -94,7 +94,7 @@ token-decides κs a x y s t p q = p ∙ sym q
 pub evaluate-decides : Decides evaluate-kinds.ps evaluate-kinds.r evaluate-reads.Post
 evaluate-decides κs a x y s t p q = p ∙ sym q
 
--- proved by hand, so the check has the promise as a clause that holds of a state, and not as a `Post`
+-- the promise is taken here as a clause that holds of a state, and not as a `Post`
 module _ {M : Type 1} {𝓤 : Ura M} (𝓛 : Logic 𝓤) (mem : Memory → SProp 𝓤) (run : Routine → Fun 𝓤) (κs : Lfts 2)
     (a : ArgsD records.signature κs) where
   abbrev Says : ResD records.signature κs → AtExit records.ended κs → SProp 𝓤

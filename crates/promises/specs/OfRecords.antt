@@ -1,5 +1,5 @@
 -- No two answers satisfy the promise of `evaluate`, and what satisfies it is what `evaluate_domains` answers on the records' domains.
--- `evaluate` is proved by hand, so the check has its promise as a clause that holds of a state, and not as a `Post`. Assumes nothing.
+-- The promise of `evaluate` is taken here as a clause that holds of a state, and not as a `Post`. Assumes nothing.
 use Rattle.std.specs.Prelude.{ℕ, ◌≡◌, List}
 use seplogic.Ra.Ura.{Ura}
 use base.Logic.{SProp, ent, id⊢, fst∗, snd∗, sep}

@@ -26,8 +26,8 @@ fn main(rt: HostRuntime) {
     }
 }
 
-// Standard input to its end, or until the buffer is full: of a reader whose bytes are known, these are the next. A read that fails is no end
-// of input.
+// Standard input to its end, or until the buffer is full: of a reader whose bytes are known, these are the next. A read that fails is no
+// end of input.
 fn read_input<I: Read>(input: &mut I, buffer: &mut [u8]) -> io::Result<usize>
     ensures in_bounds { IfOk result (λ n. n ≤ length buffer.new) }
     ensures bytes { IfOk result (λ n. Consumes (I.remaining input.old) (I.remaining input.new) (take n buffer.new)) }
