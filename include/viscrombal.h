@@ -172,10 +172,10 @@ uint32_t viscrombal_interface(void);
 #define VISCROMBAL_STACK_TOKENS 4096
 #define VISCROMBAL_STACK_REWRITE 4096
 #define VISCROMBAL_STACK_CHECK 253952
-#define VISCROMBAL_STACK_STRICT 319488
-#define VISCROMBAL_STACK_MODULE 245760
+#define VISCROMBAL_STACK_STRICT 311296
+#define VISCROMBAL_STACK_MODULE 241664
 #define VISCROMBAL_STACK_MANIFEST 77824
-#define VISCROMBAL_STACK_COMPARE 516096
+#define VISCROMBAL_STACK_COMPARE 561152
 
 /* Reads at offset `at` of the bytes s[0] to s[len - 1]. */
 struct viscrombal_unsigned viscrombal_uleb128(const uint8_t *s, size_t len, size_t at);

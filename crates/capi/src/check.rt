@@ -5,12 +5,10 @@ ghost use Rattle.told.specs.Check.{evaluation_told};
 
 use checking::check_module;
 use told::check::{EvaluationTold, evaluation_of};
-use verdicts::Evaluation;
 
 // The whole check of a module's file against a policy's text.
 pub fn viscrombal_check(file: &[u8], text: &[u8]) -> EvaluationTold
     ensures { result ≡ evaluation_told (checked_of file.now text.now) }
 {
-    let e: Evaluation = check_module(file, text);
-    evaluation_of(e)
+    evaluation_of(check_module(file, text))
 }

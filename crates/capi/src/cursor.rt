@@ -1,12 +1,12 @@
 // leb.rs over the C interface: a read at an offset of a slice.
 ghost use Rattle.std.specs.Prelude.{◌≡◌};
-ghost use Rattle.leb.specs.Answers.{finding_of, said_u64, said_i64};
+ghost use Rattle.leb.specs.Answers.{finding_of, said_read};
 ghost use Rattle.leb.specs.Reads.{uleb_at, u32_at, sleb_at, name_at};
 ghost use Rattle.told.specs.Reading.{unsigned_told, range_told};
 ghost use Rattle.capi.specs.Reading.{signed_told};
 
-use leb::{Cursor, I64Read, U64Read};
-use told::cursor::{Range, Unsigned, narrow_of, range_of};
+use leb::{Cursor, Read};
+use told::cursor::{Range, Unsigned, narrow_of, range_of, unsigned_of};
 
 #[repr(C)]
 #[derive(Clone, Copy)]
@@ -17,38 +17,19 @@ pub struct Signed {
     pub next: usize,
 }
 
-fn unsigned_of(r: U64Read) -> Unsigned
-    ensures { result ≡ unsigned_told (finding_of (said_u64 r)) }
+fn signed_of(r: Read<i64>) -> Signed
+    ensures { result ≡ signed_told (finding_of (said_read r)) }
 {
     match r {
-        U64Read::Read(value, next) => Unsigned {
+        Ok((value, next)) => Signed {
             number: 0,
             place: 0,
             value,
             next: next.at,
         },
-        U64Read::Refused(why, _) => Unsigned {
-            number: refusal::number(why),
-            place: refusal::place(why),
-            value: 0,
-            next: 0,
-        },
-    }
-}
-
-fn signed_of(r: I64Read) -> Signed
-    ensures { result ≡ signed_told (finding_of (said_i64 r)) }
-{
-    match r {
-        I64Read::Read(value, next) => Signed {
-            number: 0,
-            place: 0,
-            value,
-            next: next.at,
-        },
-        I64Read::Refused(why, _) => Signed {
-            number: refusal::number(why),
-            place: refusal::place(why),
+        Err(unread) => Signed {
+            number: refusal::number(unread.why),
+            place: refusal::place(unread.why),
             value: 0,
             next: 0,
         },

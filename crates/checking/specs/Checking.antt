@@ -28,6 +28,10 @@ unfoldable pub read_then : Sizes → List ℕ → List ℕ → Said Outcome
 read_then z file text =
     follow (module_at file z) (λ m. held_to file (cells import_cells m.tables.imports) (length m.tables.imports) text)
 
+-- for the code: tables of so many cells
+abbrev pub sized : ℕ → ℕ → ℕ → ℕ → Sizes
+sized s i e n = record { sections = s; imports = i; exports = e; names = n }
+
 -- 14 of either, then 4 of the text; the module's refusals, with tables at the limits; the policy's; then the verdicts
 unfoldable pub checked_of : List ℕ → List ℕ → Said Outcome
 checked_of file text =

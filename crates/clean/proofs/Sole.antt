@@ -1,9 +1,9 @@
 -- The port's grammar derives a file in one way: what the derivation says, and where its parts end, is settled by the bytes. Assumes
 -- nothing.
+use Rattle.std.specs.Prelude.{Some, None}
 use Prim.Native.Nat.{ℕ, ◌+◌, ◌%◌}
 use native.Mathlib.Omega.{arith}
 use mathlib.Core.Path.{◌≡◌, refl, sym, ◌∙◌, ap, subst}
-use mathlib.Core.Bool.{true, false}
 use mathlib.Core.List.{List, [], ◌∷◌, ◌++◌}
 use lib.ListN.{length, take, drop}
 use lib.Seq.{take_at, drop_at}
@@ -51,17 +51,17 @@ limits-same : {l m r s : List ℕ} {v w : Limits} → l ≡ m → AnyLimits l v 
 limits-same e (even {f = f} {n = n} p a) (even {f = g} {n = k} q b) =
     let x = first e in
     let y = number_same x.1 a b in (
-      ap (λ (i : ℕ). record { flag = i; least = n; bounded = false; most = 0 }) x.0
-          ∙ ap (λ (i : ℕ). record { flag = g; least = i; bounded = false; most = 0 }) y.0,
+      ap (λ (i : ℕ). record { flag = i; least = n; most = None }) x.0
+          ∙ ap (λ (i : ℕ). record { flag = g; least = i; most = None }) y.0,
       y.1,
     )
 limits-same e (odd {f = f} {n = n} {k = i} p a c) (odd {f = g} {n = k} {k = j} q b d) =
     let x = first e in
     let y = number_same x.1 a b in
     let z = number_same y.1 c d in (
-      ap (λ (h : ℕ). record { flag = h; least = n; bounded = true; most = i }) x.0
-          ∙ ap (λ (h : ℕ). record { flag = g; least = h; bounded = true; most = i }) y.0
-          ∙ ap (λ (h : ℕ). record { flag = g; least = k; bounded = true; most = h }) z.0,
+      ap (λ (h : ℕ). record { flag = h; least = n; most = Some i }) x.0
+          ∙ ap (λ (h : ℕ). record { flag = g; least = h; most = Some i }) y.0
+          ∙ ap (λ (h : ℕ). record { flag = g; least = k; most = Some h }) z.0,
       z.1,
     )
 limits-same e (even {f = f} p a) (odd {f = g} q b d) = absurd (unlike f g (first e).0 p q)

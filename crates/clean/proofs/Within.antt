@@ -1,8 +1,8 @@
 -- What the port's grammar derives cleanly the specification's derives, with the same rows. Assumes nothing.
+use Rattle.std.specs.Prelude.{Some, None}
 use Prim.Native.Nat.{ℕ, zero, suc, ◌+◌, ◌^◌, ◌≤◌, ◌<◌}
 use native.Mathlib.Omega.{arith}
 use mathlib.Core.Path.{◌≡◌, refl, sym, ◌∙◌, ap, subst}
-use mathlib.Core.Bool.{true, false}
 use mathlib.Core.List.{List, [], ◌∷◌, map, map-id}
 use lib.ListN.{length, take, drop, length-drop, length-append}
 use lib.Seq.{drop-drop, take_at, drop_at}
@@ -61,11 +61,11 @@ record Meant {X Y : Type 0} (B : List ℕ → X → List ℕ → Type 0) (f : X 
 to-limits : {l r : List ℕ} {m : Limits} (x : AnyLimits l m r) → ShortLimits x → m.flag ≤ 1 → Meant LimitsG limits_of l m r
 to-limits {r = r} (even {l = l} {f = f} {n = n} p u) k h =
     let e : 0 ≡ f = omega arith in
-    subst (λ (g : ℕ). Meant LimitsG limits_of (g ∷ l) (record { flag = g; least = n; bounded = false; most = 0 }) r) e
+    subst (λ (g : ℕ). Meant LimitsG limits_of (g ∷ l) (record { flag = g; least = n; most = None }) r) e
     (record { value = least n; derives = from (to-u32 u k); says = refl })
 to-limits {r = r} (odd {l = l} {f = f} {n = n} {k = i} p u w) k h =
     let e : 1 ≡ f = omega arith in
-    subst (λ (g : ℕ). Meant LimitsG limits_of (g ∷ l) (record { flag = g; least = n; bounded = true; most = i }) r) e
+    subst (λ (g : ℕ). Meant LimitsG limits_of (g ∷ l) (record { flag = g; least = n; most = Some i }) r) e
     (record { value = between n i; derives = from_to (to-u32 u k.0) (to-u32 w k.1); says = refl })
 
 -- bytes that stand for a case

@@ -1,15 +1,17 @@
 -- The export list and the list of capability pairs, by numbers. Assumes nothing.
+use Rattle.std.specs.Prelude.{Option, unwrap_or}
 use mathlib.Core.Path.{◌≡◌, refl, sym, ◌∙◌, ap}
 use mathlib.Core.Bool.{Bool, true, false}
 use mathlib.Core.List.{List, [], ◌∷◌, map}
 use Prim.Native.Nat.{ℕ, ◌+◌, ◌-◌, ◌≤◌, ◌<◌}
 use native.Mathlib.Omega.{arith}
 use borrow.Author.Tests.{ltb-true, ltb-false}
-use lib.Dec.{eqb, ltb}
+use lib.Dec.{ltb}
+use lib.ListN.{length}
 use Rattle.refusal.specs.Pick.{pick}
 use Rattle.text.specs.Order.{cmp_nat, and_then, cmp_bytes}
-use Rattle.text.specs.declared.order.Order.{Order}
-use Rattle.text.specs.declared.order.Order.TheVariants.{Less, Equal, Greater}
+use Rattle.std.specs.declared.cmp.Ordering.{Ordering}
+use Rattle.std.specs.declared.cmp.Ordering.TheVariants.{Less, Equal, Greater}
 use Rattle.table.specs.Shape.{cell_in}
 use Rattle.sorting.specs.Sort.{sort, selected, up_from}
 use Rattle.kinds.specs.Kinds.{kind_of}
@@ -22,13 +24,18 @@ use Rattle.differences.proofs.Ranks.{rank-order}
 use Rattle.differences.proofs.Only.{lawful-export, lawful-exports, lawful-needs}
 use Rattle.differences.proofs.Numbered.{sided-first, sided-second, number-order}
 use Rattle.compat.specs.declared.keys.Key.{Key}
-use Rattle.compat.specs.Keying.{key_name, export_key, need_key, export_keys, need_keys, table_of}
-use Rattle.compat.specs.Listing.{exports_between, export_numbered, needs_between, need_numbered}
-use Rattle.keyed.specs.Keying.{missing}
+use Rattle.compat.specs.Keying.{key_name, export_key, need_key, export_keys, need_keys, keys_of, every_of, table_of}
+use Rattle.compat.specs.Listing.{exports_between, export_numbered, needs_between, need_numbered, Listed, Passed}
+use Rattle.compat.specs.declared.keys.Rows.{Rows}
+use Rattle.compat.specs.declared.keys.Rows.TheVariants.{Exports, Needs}
+use Rattle.differences.proofs.Tests.{exports-good}
+use Rattle.keyed.specs.Keying.{missing, Lacks}
+use Rattle.keyed.proofs.Listing.{missing-few}
 use Rattle.keyed.proofs.Joining.{joined}
+use Rattle.compat.proofs.Sizing.{lists-numbers}
 use Rattle.compat.proofs.Keyed.{key_then, order_is, wanted-is}
 
-then_equal : (o : Order) → and_then o Equal ≡ o
+then_equal : (o : Ordering) → and_then o Equal ≡ o
 then_equal Less = refl
 then_equal Equal = refl
 then_equal Greater = refl
@@ -38,7 +45,7 @@ record Says (b c : List ℕ) (k : Key) (major : ℕ) (name : List ℕ) (minor : 
   pub major-is : k.major ≡ major
   pub name-is : key_name b c k ≡ name
   pub minor-is : k.minor ≡ minor
-  pub mark-is : eqb k.mark 1 ≡ wanted
+  pub mark-is : k.wanted ≡ wanted
 
 sided-same : {A : Type 0} (nb : ℕ) (x : A) (i : ℕ) → sided nb (λ j. x) (λ j. x) i ≡ x
 unfolding sided
@@ -47,10 +54,6 @@ sided-same nb x i = by (ltb i nb)
     by : (t : Bool) → pick t x x ≡ x
     by true = refl
     by false = refl
-
-wanted-one : (t : Bool) → eqb (pick t 1 0) 1 ≡ t
-wanted-one true = refl
-wanted-one false = refl
 
 module _ (b be c ce : List ℕ) (nb : ℕ) where
   abbrev ExportSays : Key → ExportKey → Type 0
@@ -112,7 +115,8 @@ module _ (b be c ce : List ℕ) (nb nc : ℕ) (good_b : (i : ℕ) → i < nb →
       ∙ export-orders b be c ce nb (export-says b be c ce nb i) (export-says b be c ce nb j) (kind-good i h) (kind-good j k))
       (λ i h. wanted-is b c size (export_keys be nb ce) (nb + nc) i h ∙ (export-says b be c ce nb i).mark-is ∙ sym (sided-same nb true i))
       true export_order lawful-exports
-      (λ i j h k li lj. number-order cmp_export (export_key_at b be) (export_key_at c ce) (λ i. true) (λ i. true) nb nc lawful-export i j h k li lj)
+      (λ i j h k li lj. number-order cmp_export (export_key_at b be) (export_key_at c ce) (λ i. true) (λ i. true) nb nc
+      lawful-export i j h k li lj)
       ∙ ap
       (λ (l : List ℕ). sort export_order
       (changes cmp_export (map (row (export_key_at b be)) l) (map (row (export_key_at c ce)) (selected (λ i. true) (up_from 0 nc)))))
@@ -131,16 +135,20 @@ module _ (b bi c ci : List ℕ) (nb : ℕ) where
   need-says i = by (ltb i nb) refl
     where
       first : (j : ℕ) → NeedSays (need_key 0 b bi j) (need_at b bi j) (kind_is bi 0 j)
-      first j = record { major-is = refl; name-is = refl; minor-is = refl; mark-is = wanted-one (kind_is bi 0 j) }
+      first j = record { major-is = refl; name-is = refl; minor-is = refl; mark-is = refl }
 
       second : (j : ℕ) → NeedSays (need_key 1 c ci j) (need_at c ci j) (kind_is ci 0 j)
-      second j = record { major-is = refl; name-is = refl; minor-is = refl; mark-is = wanted-one (kind_is ci 0 j) }
+      second j = record { major-is = refl; name-is = refl; minor-is = refl; mark-is = refl }
 
       by : (t : Bool) → ltb i nb ≡ t
           → NeedSays (need_keys b bi nb c ci i) (need_numbered b bi nb c ci i).row.key (sided nb (kind_is bi 0) (kind_is ci 0) i)
       by true e =
           let l = ltb-true i nb e in
-          rw (sided-first nb (need_key 0 b bi) (need_key 1 c ci) i l, sided-first nb (kind_is bi 0) (kind_is ci 0) i l, sided-first nb _ _ i l)
+          rw (
+            sided-first nb (need_key 0 b bi) (need_key 1 c ci) i l,
+            sided-first nb (kind_is bi 0) (kind_is ci 0) i l,
+            sided-first nb _ _ i l,
+          )
           (first i)
       by false e =
           let l = ltb-false i nb e in
@@ -173,3 +181,17 @@ needs-listed b bi c ci nb nc size =
     (λ i h. wanted-is b c size (need_keys b bi nb c ci) (nb + nc) i h ∙ (need-says b bi c ci nb i).mark-is)
     false need_order lawful-needs
     (λ i j h k li lj. then_equal (cmp_need (need_numbered b bi nb c ci i).row.key (need_numbered b bi nb c ci j).row.key))
+
+-- ---- either list
+pub rows-listed : (rows : Rows) (b bt c ct : List ℕ) (nb nc size : ℕ) {keys before after : List ℕ} {t every : Bool} {s : Option ℕ} {r : ℕ}
+    → Passed rows b bt nb → Passed rows c ct nc → keys ≡ table_of size (keys_of rows b bt nb c ct) (nb + nc) → every ≡ every_of rows
+    → Lacks t (missing b c keys nb (nb + nc) every) before after s → t ≡ true → nb + nc ≤ length before → r ≡ unwrap_or s 0
+    → Listed rows b bt nb c ct nc after r
+rows-listed Exports b bt c ct nb nc size p q k e w y h m =
+    lists-numbers (rw (k, e) at w) y
+    (omega (arith, h, missing-few b c (table_of size (keys_of Exports b bt nb c ct) (nb + nc)) nb (nb + nc) (omega arith) true)) m
+    (exports-listed b bt c ct nb nc (exports-good _ _ _ p).1 (exports-good _ _ _ q).1 size)
+rows-listed Needs b bt c ct nb nc size p q k e w y h m =
+    lists-numbers (rw (k, e) at w) y
+    (omega (arith, h, missing-few b c (table_of size (keys_of Needs b bt nb c ct) (nb + nc)) nb (nb + nc) (omega arith) false)) m
+    (needs-listed b bt c ct nb nc size)

@@ -1,13 +1,15 @@
 -- A table of keys, row by row. Assumes nothing.
-use mathlib.Core.Path.{◌≡◌, ◌∙◌, ap}
+use mathlib.Core.Path.{◌≡◌, refl, ◌∙◌, ap}
+use mathlib.Core.Bool.{Bool, true, false}
 use mathlib.Core.List.{List}
 use Prim.Native.Nat.{ℕ, ◌<◌}
 use native.Mathlib.Omega.{arith}
 use lib.Dec.{eqb}
 use lib.ListN.{get_or}
+use Rattle.refusal.specs.Pick.{pick}
 use Rattle.text.specs.Order.{cmp_nat, and_then, cmp_bytes}
-use Rattle.text.specs.declared.order.Order.{Order}
-use Rattle.text.specs.declared.order.Order.TheVariants.{Equal}
+use Rattle.std.specs.declared.cmp.Ordering.{Ordering}
+use Rattle.std.specs.declared.cmp.Ordering.TheVariants.{Equal}
 use Rattle.table.specs.Table.{cell_of, rows_of}
 use Rattle.table.proofs.Laws.{cell-laid, length-rows}
 use Rattle.sorting.specs.Keys.{row_order, name_of, file_of, row_marked}
@@ -17,9 +19,14 @@ use Rattle.compat.specs.declared.keys.Key.{Key}
 use Rattle.compat.specs.Keying.{key_cells, key_name, table_of}
 use Rattle.compat.proofs.Filling.{key-wide}
 
+-- the cell of a mark is 1 where it is set
+one-told : (t : Bool) → eqb (pick t 1 0) 1 ≡ t
+one-told true = refl
+one-told false = refl
+
 module _ (first second : List ℕ) where
   -- by the major number, the name, the minor number
-  abbrev pub key_then : Key → Key → Order
+  abbrev pub key_then : Key → Key → Ordering
   key_then k l =
       and_then (cmp_nat k.major l.major)
       (and_then (cmp_bytes (key_name first second k) (key_name first second l)) (and_then (cmp_nat k.minor l.minor) Equal))
@@ -46,6 +53,6 @@ module _ (first second : List ℕ) where
           cell-is j 4 k (omega arith),
         )
 
-    pub wanted-is : (i : ℕ) → i < n → wanted first second (table_of size g n) i ≡ eqb (g i).mark 1
+    pub wanted-is : (i : ℕ) → i < n → wanted first second (table_of size g n) i ≡ (g i).wanted
     unfolding wanted row_marked key_cells
-    wanted-is i h = rw (cell-is i 5 h (omega arith))
+    wanted-is i h = rw (cell-is i 5 h (omega arith)) (one-told (g i).wanted)

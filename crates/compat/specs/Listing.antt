@@ -1,14 +1,17 @@
 -- For the code: the lists by the numbers of their rows, as it makes them. Assumes nothing.
-use Rattle.std.specs.Prelude.{◌≡◌, Bool, false, ◌||◌, List, [], ◌∷◌, map, ℕ, ◌≤◌, eqb, length, take}
+use Rattle.std.specs.Prelude.{◌≡◌, Bool, List, [], ◌∷◌, map, ℕ, ◌≤◌, length, take}
+use Rattle.std.specs.List.{list_any}
+use Rattle.refusal.specs.Said.{accepted}
 use Rattle.sorting.specs.Sort.{sort}
-use Rattle.sorting.specs.declared.Sorted.{Sorted}
-use Rattle.sorting.specs.declared.Sorted.TheVariants.{Rows, Full}
+use Rattle.differences.specs.declared.Change.{Change}
 use Rattle.differences.specs.declared.Change.TheVariants.{Removed, Added}
 use Rattle.differences.specs.View.{ExportKey, Need, row, export_key_at, need_at, export_rows, need_rows}
-use Rattle.differences.specs.Differences.{Entry, entry, changes, cmp_export, cmp_need, export_order, need_order}
-use Rattle.differences.specs.Compared.{need_diff_cells}
+use Rattle.differences.specs.Differences.{Entry, entry, changes, is_change, cmp_export, cmp_need, export_order, need_order}
+use Rattle.differences.specs.Compared.{exports_tested, change_number, need_diff_cells}
 use Rattle.differences.specs.Numbers.{sided}
-use Rattle.compat.specs.declared.lists.Place.{Place}
+use Rattle.compat.specs.declared.keys.Rows.{Rows}
+use Rattle.compat.specs.declared.keys.Rows.TheVariants.{Exports, Needs}
+use Rattle.compat.specs.declared.listing.Place.{Place}
 
 -- exports: those of the baseline are numbered first
 unfoldable pub exports_between : List ℕ → List ℕ → ℕ → List ℕ → List ℕ → ℕ → List (Entry ExportKey)
@@ -29,23 +32,27 @@ pub record Numbers {K : Type 0} (at : ℕ → Entry K) (d : List (Entry K)) (tab
   pub within : r ≤ length table
   pub these : map at (take r table) ≡ d
 
--- how many rows
-abbrev pub rows_sorted : Sorted → ℕ
-rows_sorted (Rows m) = m
-rows_sorted Full = 0
+-- of either list
+abbrev pub Listed : Rows → List ℕ → List ℕ → ℕ → List ℕ → List ℕ → ℕ → List ℕ → ℕ → Type 0
+Listed Exports b be nb c ce nc = Numbers (export_numbered b be nb c ce) (exports_between b be nb c ce nc)
+Listed Needs b bi nb c ci nc = Numbers (need_numbered b bi nb c ci) (needs_between b bi nb c ci nc)
+
+-- the rows of exports have passed; those of imports may be any
+abbrev pub Passed : Rows → List ℕ → List ℕ → ℕ → Type 0
+Passed Exports file exports n = exports_tested (length file) exports n ≡ accepted tt
+Passed Needs file imports n = Unit {0}
 
 -- ---- a number's module and row
-unfoldable pub side_of : ℕ → ℕ → Place
-side_of nb = sided nb (λ i. record { side = 0; row = i }) (λ i. record { side = 1; row = i })
+unfoldable pub place_at : ℕ → ℕ → Place
+place_at nb = sided nb (λ i. record { change = Removed; row = i }) (λ i. record { change = Added; row = i })
 
 abbrev pub place_cells : ℕ → ℕ → List ℕ
-place_cells nb i = (side_of nb i).side ∷ (side_of nb i).row ∷ []
+place_cells nb i = change_number (place_at nb i).change ∷ (place_at nb i).row ∷ []
 
 -- a row of table 9
 abbrev pub need_cells_at : List ℕ → List ℕ → ℕ → List ℕ → List ℕ → ℕ → List ℕ
 need_cells_at b bi nb c ci i = need_diff_cells (need_numbered b bi nb c ci i)
 
--- one of the numbers is of this module
-unfoldable pub has_side : ℕ → ℕ → List ℕ → Bool
-has_side nb side [] = false
-has_side nb side (i ∷ l) = eqb (side_of nb i).side side || has_side nb side l
+-- one of the numbers is of this change
+unfoldable pub has_change : ℕ → Change → List ℕ → Bool
+has_change nb change l = list_any (λ i. is_change change (place_at nb i).change) l

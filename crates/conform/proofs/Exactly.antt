@@ -9,6 +9,7 @@ use lib.ListN.{length, drop, length-append, length-drop}
 use lib.Seq.{length-take-le}
 use lib.Dec.{ltb}
 use borrow.Author.Tests.{ltb-false}
+use Rattle.std.specs.Prelude.{Some}
 use Rattle.refusal.specs.Pick.{pick}
 use Rattle.refusal.specs.Sizes.{file_limit}
 use Rattle.refusal.specs.Said.{accepted, refused, got, onward, spot}
@@ -102,13 +103,13 @@ module _ (b q : List ℕ) (a : ℕ) (in_b : In b a q) (size : length q < 1844674
       above i p r = omega (arith, p, r)
 
       label : (t : Names) (p : Part) → p.from + p.len ≤ length q
-          → Adds b t (record { label = record { named = true; start = a + p.from; size = p.len }; symbols = t.symbols }) []
+          → Adds b t (record { label = Some (moved a p); symbols = t.symbols }) []
           (λ c. name_or c (module_name (part_bytes q p)))
       label t p h =
           record {
             grows = omega arith;
             functions-are = (adds-nothing b t).functions-are;
-            name-is = λ c k. (refl, same-part in_b p h);
+            name-is = λ c k. (moved a p, refl, same-part in_b p h);
           }
 
       rows : (t : Names) (all new : List Symbol) (vs : List FunctionOf) → all ≡ t.symbols ++ new → Pairwise (FunctionRow q size a) new vs

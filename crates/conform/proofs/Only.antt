@@ -10,6 +10,7 @@ use lib.ListN.{length, get_or, drop, length-drop, take-append-drop}
 use lib.Seq.{drop-cons, drop-drop, length-take-le}
 use lib.Dec.{ltb, eqb}
 use borrow.Author.Tests.{ltb-true, eqb-true, eqb-false}
+use Rattle.std.specs.Prelude.{Some, None}
 use Rattle.refusal.specs.Pick.{pick}
 use Rattle.refusal.specs.Said.{Said, accepted, refused, Got, got, onward, offset, spot}
 use Rattle.refusal.specs.declared.Part.{Part}
@@ -113,14 +114,14 @@ module _ (s : List ℕ) (size : length s < 18446744073709551616) where
       low f h = omega (arith, h)
 
       bounded : {l k : List ℕ} (f n v c : ℕ) → f % 2 ≡ 1
-          → accepted (got (record { flag = f; least = n; bounded = true; most = v }) c) ≡ accepted (got m d)
+          → accepted (got (record { flag = f; least = n; most = Some v }) c) ≡ accepted (got m d)
           → Number l n k → Number k v (drop c s) → AnyLimits (f ∷ l) m (drop d s)
       bounded {l} {k} f n v c h g u w =
           let q = same-got g in
           subst (λ (i : Limits). AnyLimits (f ∷ l) i (drop d s)) q.0 (odd h u (other-end k refl q.1 w))
 
       unbounded : {l : List ℕ} (f n c : ℕ) → (f % 2 ≡ 1 → ⊥)
-          → accepted (got (record { flag = f; least = n; bounded = false; most = 0 }) c) ≡ accepted (got m d)
+          → accepted (got (record { flag = f; least = n; most = None }) c) ≡ accepted (got m d)
           → Number l n (drop c s) → AnyLimits (f ∷ l) m (drop d s)
       unbounded {l} f n c h g u =
           let q = same-got g in

@@ -9,6 +9,7 @@ use mathlib.Core.List.{List, [], ◌∷◌, ◌++◌}
 use lib.ListN.{length, get_or, length-append}
 use lib.Dec.{ltb, eqb}
 use borrow.Author.Tests.{ltb-true, eqb-true, eqb-false}
+use Rattle.std.specs.Prelude.{Some, None}
 use Rattle.refusal.specs.Pick.{pick}
 use Rattle.refusal.specs.Sizes.{file_limit}
 use Rattle.refusal.specs.Said.{Said, accepted, refused, Got, got, onward, offset, spot, kind_at}
@@ -35,6 +36,13 @@ use Rattle.conform.proofs.Parts.{part_bytes-fit, part_length}
 use Rattle.conform.proofs.Walks.{walk-out}
 use Rattle.conform.proofs.Sections.{took, row_of}
 use Rattle.conform.proofs.Header.{header-only, version-small}
+
+-- a name that is there
+labelled : {n : ℕ} {q : Part} → InFile n q → (p : Part) → Some q ≡ Some p → InFile n p
+labelled {n} {q} h p e = let same : q ≡ p = cc in subst (InFile n) same h
+
+none-some : {p : Part} → None ≡ Some p → ⊥
+none-some e = let z : ◌≡◌ {A = ℕ} 0 1 = cc in omega arith
 
 -- ---- no more rows than there is room for
 unfoldable pub Few : {E : Type 0} → ℕ → List E → Type 0
@@ -94,8 +102,8 @@ module _ (s : List ℕ) (bytes : Bytes s) where
       by : (f n c : ℕ) → f < 256 → n < 2 ^ 32 → (t : Bool) → eqb (f % 2) 1 ≡ t
           → Gives (Of LimitsFit)
           (pick t
-          (onward (u32_at s c) (λ k d. accepted (got (record { flag = f; least = n; bounded = true; most = k }) d)))
-          (accepted (got (record { flag = f; least = n; bounded = false; most = 0 }) c)))
+          (onward (u32_at s c) (λ k d. accepted (got (record { flag = f; least = n; most = Some k }) d)))
+          (accepted (got (record { flag = f; least = n; most = None }) c)))
       by f n c h g true t =
           gives-onward (Of LimitsFit) (u32_at s c) _ (λ k d e3.
           gives-done (Of LimitsFit) _ (odd h (eqb-true (f % 2) 1 t) g (u32-in s c k d e3).1))
@@ -191,7 +199,7 @@ module _ (n : ℕ) (z : Sizes) where
         gives-pick (Of (NamesOk n z)) (eqb id 0) _ _
         (gives-onward (Of (NamesOk n z)) (name_at s 0) _ (λ p e q.
         gives-done (Of (NamesOk n z)) _
-        (record { label-in = ranged 0 p e q; symbols-ok = h.symbols-ok; symbols-few = h.symbols-few })))
+        (record { label-in = labelled (ranged 0 p e q); symbols-ok = h.symbols-ok; symbols-few = h.symbols-few })))
         (gives-pick (Of (NamesOk n z)) (eqb id 1) _ _
         (gives-onward (Of (NamesOk n z)) _ _ (λ rows e q.
         gives-done (Of (NamesOk n z)) _
@@ -348,7 +356,7 @@ module _ (b : List ℕ) (bytes : Bytes b) (z : Sizes) where
           imports-few = omega arith;
           exports-ok = each_nil;
           exports-few = omega arith;
-          names-ok = record { label-in = omega arith; symbols-ok = each_nil; symbols-few = omega arith };
+          names-ok = record { label-in = λ p e. absurd (none-some e); symbols-ok = each_nil; symbols-few = omega arith };
         };
         apart = last start;
         in_b = h;

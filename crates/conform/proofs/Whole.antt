@@ -6,6 +6,7 @@ use mathlib.Core.Bool.{Bool, true, false}
 use mathlib.Core.List.{List, [], ◌∷◌, ◌++◌, append-nil}
 use lib.ListN.{length, drop, length-drop, length-append}
 use borrow.Author.Tests.{lt-ltb, le-ltb, ne_eqb}
+use Rattle.std.specs.Prelude.{Some, None}
 use Rattle.refusal.specs.Said.{accepted, relocated, got, onward}
 use Rattle.refusal.specs.Sizes.{file_limit}
 use Rattle.text.specs.Find.{same}
@@ -16,14 +17,16 @@ use Rattle.table.proofs.Walking.{from_end, from-go}
 use Rattle.refusal.specs.Each.{Each, each_nil, each-cons}
 use Rattle.leb.specs.Reads.{part, part_bytes, byte_at}
 use Rattle.wasm.specs.Entry.{moved}
+use Rattle.wasm.specs.Entry.{moved}
 use Rattle.wasm.specs.Custom.{Names, label_at, told_by, subsection_at, name_word, custom_at}
-use Rattle.wasm.specs.Module.{Tables, with_section, with_imports, with_exports, with_names, Sizes, Inner, nameless, contents_at, add_section}
+use Rattle.wasm.specs.Module.{Tables, with_section, with_imports, with_exports, with_names, Sizes, Inner, nameless, contents_at}
+use Rattle.wasm.specs.Module.{add_section}
 use Rattle.wasm.specs.Module.{section_at, no_tables, module_at}
 use Rattle.conform.specs.Grammar.{SubOf, name_bytes}
 use Rattle.conform.specs.Port.{Number, AnySub, Framed, framed, InARow, Held, SectionSaid, AnyContent, AnySection}
 use Rattle.conform.specs.Port.{AnyModule}
 use Rattle.conform.specs.Claims.{nil}
-use Rattle.conform.specs.Claims.{unnamed, name_or, functions_of, name_in, functions_in}
+use Rattle.conform.specs.Claims.{name_or, functions_of, name_in, functions_in}
 use Rattle.conform.specs.Claims.{subs_of, functions_all, HeldFits, FitsIn, Rows, AnyConform}
 use Rattle.conform.proofs.Saying.{all_map, all_append, all-length, import-here, export-here, function-here}
 use Rattle.conform.proofs.Saying.{Adds, adds-nothing, adds-more}
@@ -48,13 +51,13 @@ module _ (b q : List ℕ) (a : ℕ) (in_b : In b a q) (size : length q < 1844674
   sub-tells id t v (AnySub.modulename {a = n} {r = r} w) room =
       let m = name-reads q size 0 q n r refl w in
       record {
-        names = record { label = record { named = true; start = a + m.range.from; size = m.range.len }; symbols = t.symbols };
+        names = record { label = Some (moved a m.range); symbols = t.symbols };
         next = m.next;
         is = rw m.is;
         adds = record {
           grows = omega arith;
           functions-are = λ gs h. rw (append-nil gs) h;
-          name-is = λ c h. (refl, same-part in_b m.range m.inside ∙ m.holds);
+          name-is = λ c h. (moved a m.range, refl, same-part in_b m.range m.inside ∙ m.holds);
         };
       }
   sub-tells id t v (AnySub.funcnames {r = r} {vs = vs} w) room =
@@ -300,7 +303,7 @@ rows_of b t vs h =
       imports-are = h.imports-are [] nil;
       exports-are = h.exports-are [] nil;
       functions-are = h.adds.functions-are [] nil;
-      name-is = h.adds.name-is unnamed refl;
+      name-is = h.adds.name-is None refl;
     }
 
 -- whatever the port's grammar derives is read as exactly that

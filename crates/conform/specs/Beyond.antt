@@ -1,7 +1,7 @@
 -- docs/DIFFERENCES.md, "The module": one law for each difference between the reader and the specification's grammar, and smallest inputs.
 -- All that is accepted, and as what, is Port.antt's (Claims: `AnyConform`, `OnlyThese`); here are laws of the reader itself.
 -- Assumes nothing.
-use Rattle.std.specs.Prelude.{ℕ, ◌+◌, ◌%◌, ◌^◌, ◌≤◌, ◌<◌, ◌≡◌, true, false, List, [], ◌∷◌, ◌++◌, length, drop}
+use Rattle.std.specs.Prelude.{ℕ, ◌+◌, ◌%◌, ◌^◌, ◌≤◌, ◌<◌, ◌≡◌, List, [], ◌∷◌, ◌++◌, length, drop, Some, None}
 use Rattle.refusal.specs.Said.{accepted, refused, Place, moved_by, got, offset}
 use Rattle.refusal.specs.declared.Part.{Part}
 use Rattle.refusal.specs.Sizes.{file_limit}
@@ -47,9 +47,9 @@ AnyId =
 -- of a limits flag only bit 0 counts
 pub record FlagBits (s : List ℕ) (at f a n c : ℕ) (flag : byte_at s at ≡ accepted (got f a)) (low : u32_at s a ≡ accepted (got n c))
     : Type 0 where
-  pub even : f % 2 ≡ 0 → limits_at s at ≡ accepted (got (record { flag = f; least = n; bounded = false; most = 0 }) c)
+  pub even : f % 2 ≡ 0 → limits_at s at ≡ accepted (got (record { flag = f; least = n; most = None }) c)
   pub odd : f % 2 ≡ 1 → (m d : ℕ) → u32_at s c ≡ accepted (got m d)
-      → limits_at s at ≡ accepted (got (record { flag = f; least = n; bounded = true; most = m }) d)
+      → limits_at s at ≡ accepted (got (record { flag = f; least = n; most = Some m }) d)
 
 -- an export's kind may be any byte
 abbrev pub ExportKinds : Type 0
@@ -116,10 +116,10 @@ pub record Smallest : Type 0 where
   pub repeated : Sections (file (0x02 ∷ 0x05 ∷ 0x01 ∷ 0x00 ∷ 0x00 ∷ 0x00 ∷ 0x00 ∷ 0x02 ∷ 0x01 ∷ 0x00 ∷ [])) 1
       (unnamed_section 2 10 5 ∷ unnamed_section 2 17 1 ∷ [])
   pub id : Sections (file (0x0D ∷ 0x00 ∷ [])) 1 (unnamed_section 13 10 0 ∷ [])
-  pub flag : limits_at (0x02 ∷ 0x00 ∷ []) 0 ≡ accepted (got (record { flag = 2; least = 0; bounded = false; most = 0 }) 2)
+  pub flag : limits_at (0x02 ∷ 0x00 ∷ []) 0 ≡ accepted (got (record { flag = 2; least = 0; most = None }) 2)
   pub kind : export_at (0x00 ∷ 0x04 ∷ 0x00 ∷ []) 0 0 ≡ accepted (got (record { name = part 1 0; kind = 4; index = 0 }) 3)
   pub element : table_at (0x00 ∷ 0x00 ∷ 0x00 ∷ []) 0
-      ≡ accepted (got (table_desc 0 (record { flag = 0; least = 0; bounded = false; most = 0 })) 3)
+      ≡ accepted (got (table_desc 0 (record { flag = 0; least = 0; most = None })) 3)
   pub mutability : global_at (0x7F ∷ 0x02 ∷ []) 0 ≡ accepted (got (global 0x7F 2) 2)
   pub size : Sections (file (0x01 ∷ 0x80 ∷ 0x80 ∷ 0x80 ∷ 0x80 ∷ 0x80 ∷ 0x00 ∷ [])) 1 (unnamed_section 1 15 0 ∷ [])
   -- a custom section named `name` that ends in its first subsection's id: 1 at 6 of the payload, which starts at 10

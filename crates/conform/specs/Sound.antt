@@ -1,6 +1,6 @@
 -- docs/PROMISES.md, "The module": what holds of the rows that the reader leaves, whatever the file; and of the room that it is lent.
 -- docs/RULES.md, "Numbered answers": a row of which this holds never gives 15. Assumes nothing.
-use Rattle.std.specs.Prelude.{ℕ, ◌+◌, ◌*◌, ◌%◌, ◌^◌, ◌≤◌, ◌<◌, ◌≡◌, true, false, List, [], ◌∷◌, length}
+use Rattle.std.specs.Prelude.{ℕ, ◌+◌, ◌*◌, ◌%◌, ◌^◌, ◌≤◌, ◌<◌, ◌≡◌, List, [], ◌∷◌, length, Some, None}
 use Rattle.refusal.specs.Said.{accepted, refused, Place}
 use Rattle.refusal.specs.declared.Part.{Part}
 use Rattle.table.specs.Shape.{width, full_cells, capacity_in}
@@ -14,10 +14,10 @@ use Rattle.conform.specs.Claims.{Bytes, Room, Derives}
 abbrev pub InFile : ℕ → Part → Type 0
 InFile n p = p.from + p.len ≤ n
 
--- bit 0 of the flag says whether there is a most, which is 0 where there is none
+-- bit 0 of the flag says whether there is a most
 pub data LimitsFit : Limits → Type 0 where
-  even : {f n : ℕ} → f < 256 → f % 2 ≡ 0 → n < 2 ^ 32 → LimitsFit (record { flag = f; least = n; bounded = false; most = 0 })
-  odd : {f n k : ℕ} → f < 256 → f % 2 ≡ 1 → n < 2 ^ 32 → k < 2 ^ 32 → LimitsFit (record { flag = f; least = n; bounded = true; most = k })
+  even : {f n : ℕ} → f < 256 → f % 2 ≡ 0 → n < 2 ^ 32 → LimitsFit (record { flag = f; least = n; most = None })
+  odd : {f n k : ℕ} → f < 256 → f % 2 ≡ 1 → n < 2 ^ 32 → k < 2 ^ 32 → LimitsFit (record { flag = f; least = n; most = Some k })
 
 -- what an import asks for is of its kind: an index; an element type and limits; limits; a value type and mutability
 pub data DescFits : ℕ → Desc → Type 0 where
@@ -48,7 +48,7 @@ pub record SectionOk (n : ℕ) (r : Section) : Type 0 where
 
 -- rows, and no more of them than the table holds
 pub record NamesOk (n : ℕ) (z : Sizes) (t : Names) : Type 0 where
-  pub label-in : t.label.start + t.label.size ≤ n
+  pub label-in : (p : Part) → t.label ≡ Some p → InFile n p
   pub symbols-ok : Each (SymbolOk n) t.symbols
   pub symbols-few : length t.symbols ≤ capacity_in 4 z.names
 

@@ -7,8 +7,8 @@ use mathlib.Core.List.{List, [], ◌∷◌, ◌++◌, map}
 use Prim.Native.Nat.{ℕ}
 use native.Mathlib.Omega.{arith}
 use borrow.Author.Tests.{not-true}
-use Rattle.text.specs.declared.order.Order.{Order}
-use Rattle.text.specs.declared.order.Order.TheVariants.{Less, Equal, Greater}
+use Rattle.std.specs.declared.cmp.Ordering.{Ordering}
+use Rattle.std.specs.declared.cmp.Ordering.TheVariants.{Less, Equal, Greater}
 use Rattle.sorting.specs.Order.{Lawful}
 use Rattle.sorting.specs.Sort.{◌∈◌, sort}
 use Rattle.sorting.proofs.Sorts.{NoTie, Tied, sort-swap, tie-self, sort-only, sort-has, sort-map}
@@ -30,7 +30,7 @@ map-mem f y (a ∷ l) m =
     ⊎_elim (λ p. (a, Memᴰ.head refl, p)) (λ t. let s = map-mem f y l t in (s.0, Memᴰ.tail s.1, s.2))
     (Memᴰ.cases_cons m)
 
-no-tie-of : {A : Type 0} (cmp : A → A → Order) (y : A) (l : List A) → ((x : A) → x ∈ l → cmp y x ≡ Equal → ⊥) → NoTie cmp y l
+no-tie-of : {A : Type 0} (cmp : A → A → Ordering) (y : A) (l : List A) → ((x : A) → x ∈ l → cmp y x ≡ Equal → ⊥) → NoTie cmp y l
 no-tie-of cmp y [] n = tt
 no-tie-of cmp y (x ∷ l) n = (n x (Memᴰ.head refl), no-tie-of cmp y l (λ z m. n z (Memᴰ.tail m)))
 
@@ -91,20 +91,20 @@ module _ {K : Type 0} where
 
 -- a comparison of keys and an order of entries that serve: both lawful, only equal keys tie, and the order goes by the key and not by
 -- the change
-pub record Keyed {K : Type 0} (cmp : K → K → Order) (fine : Entry K → Entry K → Order) : Type 0 where
+pub record Keyed {K : Type 0} (cmp : K → K → Ordering) (fine : Entry K → Entry K → Ordering) : Type 0 where
   pub laws : Lawful cmp
   pub exact : (x y : K) → cmp x y ≡ Equal → x ≡ y
   pub flaws : Lawful fine
   pub ties : (e f : Entry K) → fine e f ≡ Equal → e.row.key ≡ f.row.key
   pub blind : (e f : Entry K) → fine (reversed e) (reversed f) ≡ fine e f
 
-module _ {K : Type 0} {cmp : K → K → Order} {fine : Entry K → Entry K → Order} (o : Keyed cmp fine) where
+module _ {K : Type 0} {cmp : K → K → Ordering} {fine : Entry K → Entry K → Ordering} (o : Keyed cmp fine) where
   has_key-mem : (k : K) (l : List (Row K)) → has_key cmp k l ≡ true → k ∈ keys l
   unfolding has_key
   has_key-mem k [] h = absurd (true≢false (sym h))
   has_key-mem k (r ∷ l) h = go (cmp k r.key) refl h (has_key-mem k l)
     where
-      go : (o : Order) → cmp k r.key ≡ o → (ties o || has_key cmp k l) ≡ true → (has_key cmp k l ≡ true → k ∈ keys l) → k ∈ keys (r ∷ l)
+      go : (o : Ordering) → cmp k r.key ≡ o → (ties o || has_key cmp k l) ≡ true → (has_key cmp k l ≡ true → k ∈ keys l) → k ∈ keys (r ∷ l)
       go Less e h ih = Memᴰ.tail (ih h)
       go Equal e h ih = Memᴰ.head (o.exact k r.key e)
       go Greater e h ih = Memᴰ.tail (ih h)

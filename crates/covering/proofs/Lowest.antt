@@ -7,7 +7,7 @@ use mathlib.Core.List.{List, [], ◌∷◌, ◌++◌, map}
 use Prim.Native.Nat.{ℕ, zero, suc, ◌<◌}
 use native.Mathlib.Omega.{arith}
 use Rattle.refusal.specs.Pick.{pick}
-use Rattle.text.specs.declared.order.Order.TheVariants.{Equal}
+use Rattle.std.specs.declared.cmp.Ordering.TheVariants.{Equal}
 use Rattle.sorting.specs.Sort.{◌∈◌, sort, selected, up_from}
 use Rattle.sorting.proofs.Sorts.{tie-self}
 use Rattle.sorting.proofs.Firsts.{Up, sort-lowest}

@@ -10,7 +10,7 @@ use lib.ListN.{get_or}
 use borrow.Author.Tests.{eqb-true, ltb-true, ltb-false, lt-ltb, le-ltb}
 use Rattle.refusal.specs.Pick.{pick}
 use Rattle.text.specs.Order.{cmp_nat, cmp_bytes}
-use Rattle.text.specs.declared.order.Order.TheVariants.{Equal}
+use Rattle.std.specs.declared.cmp.Ordering.TheVariants.{Equal}
 use Rattle.sorting.specs.Order.{Lawful}
 use Rattle.sorting.proofs.Orders.{lawful-nat, lawful-bytes, lawful-on, lawful_then, then_tie, exact-nat, exact_bytes}
 use Rattle.kinds.specs.declared.ExternalKind.{ExternalKind}

@@ -7,8 +7,8 @@ use Prim.Native.Nat.{◌+◌, ◌≤◌}
 use native.Mathlib.Omega.{arith}
 use lib.ListN.{length, length-append, length-map}
 use Rattle.refusal.specs.Pick.{pick}
-use Rattle.text.specs.declared.order.Order.{Order}
-use Rattle.text.specs.declared.order.Order.TheVariants.{Equal}
+use Rattle.std.specs.declared.cmp.Ordering.{Ordering}
+use Rattle.std.specs.declared.cmp.Ordering.TheVariants.{Equal}
 use Rattle.sorting.specs.Sort.{◌∈◌, Ascending, sort, selected}
 use Rattle.sorting.proofs.Sorts.{sort-only, sort-all, sort-ascends, sort-length}
 use Rattle.differences.specs.declared.Change.TheVariants.{Removed, Added}
@@ -33,7 +33,7 @@ keep-length p (x ∷ l) = by (p x) (keep-length p l)
     by true h = omega arith
     by false h = omega arith
 
-module _ {K : Type 0} (cmp : K → K → Order) (fine : Entry K → Entry K → Order) (b c : List (Row K)) where
+module _ {K : Type 0} (cmp : K → K → Ordering) (fine : Entry K → Entry K → Ordering) (b c : List (Row K)) where
   pub few-changes : length (sort fine (changes cmp b c)) ≤ length b + length c
   few-changes =
       let h = keep-length (λ (r : Row K). not (has_key cmp r.key c)) b in

@@ -53,7 +53,8 @@ pub record ViewReplacement : Type 0 where
 -- What is in the two lists, and in which order.
 pub record ViewListing : Type 0 where
   -- An export is reported removed exactly where it is in the baseline and not in the candidate, and added the other way round.
-  pub export_removed : (b c : View) (e : ExportKey) → Reports Removed e (export_diff b c) ↔ ((e ∈ view_exports b) × (e ∈ view_exports c → ⊥))
+  pub export_removed : (b c : View) (e : ExportKey) → Reports Removed e (export_diff b c)
+      ↔ ((e ∈ view_exports b) × (e ∈ view_exports c → ⊥))
   pub export_added : (b c : View) (e : ExportKey) → Reports Added e (export_diff b c) ↔ ((e ∈ view_exports c) × (e ∈ view_exports b → ⊥))
   -- The same of pairs.
   pub need_removed : (b c : View) (n : Need) → Reports Removed n (need_diff b c) ↔ ((n ∈ view_pairs b) × (n ∈ view_pairs c → ⊥))

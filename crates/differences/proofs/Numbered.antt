@@ -10,8 +10,8 @@ use borrow.Author.Tests.{lt-ltb, le-ltb, ltb-true, ltb-false}
 use lib.Dec.{ltb}
 use Rattle.refusal.specs.Pick.{pick, both}
 use Rattle.text.specs.Order.{cmp_nat, and_then}
-use Rattle.text.specs.declared.order.Order.{Order}
-use Rattle.text.specs.declared.order.Order.TheVariants.{Less, Equal, Greater}
+use Rattle.std.specs.declared.cmp.Ordering.{Ordering}
+use Rattle.std.specs.declared.cmp.Ordering.TheVariants.{Less, Equal, Greater}
 use Rattle.sorting.specs.Order.{Lawful, on}
 use Rattle.sorting.specs.Sort.{◌∈◌, sort, selected, up_from}
 use Rattle.text.specs.Order.{flip}
@@ -56,7 +56,7 @@ or-true : (b c : Bool) → c ≡ true → b || c ≡ true
 or-true true c h = refl
 or-true false c h = h
 
-module _ {K : Type 0} (cmp : K → K → Order) (key : ℕ → K) (want : ℕ → Bool) where
+module _ {K : Type 0} (cmp : K → K → Ordering) (key : ℕ → K) (want : ℕ → Bool) where
   -- the rows of one module, by t and how many
   abbrev wanted : ℕ → ℕ → List (Row K)
   wanted t m = map (row key) (selected want (up_from t m))
@@ -117,7 +117,7 @@ module _ {K : Type 0} (cmp : K → K → Order) (key : ℕ → K) (want : ℕ �
       go false k e r = r
 
 -- a comparison that does not tie decides
-settled : (o p q : Order) → (o ≡ Equal → ⊥) → and_then o p ≡ and_then o q
+settled : (o p q : Ordering) → (o ≡ Equal → ⊥) → and_then o p ≡ and_then o q
 settled Less p q h = refl
 settled Equal p q h = absurd (h refl)
 settled Greater p q h = refl
@@ -131,7 +131,7 @@ lost-want : (b k : Bool) → both b k ≡ true → b ≡ true
 lost-want true k e = refl
 lost-want false k e = absurd (never e)
 
-module _ {K : Type 0} (cmp : K → K → Order) (key_b key_c : ℕ → K) (want_b want_c : ℕ → Bool) (nb nc : ℕ) where
+module _ {K : Type 0} (cmp : K → K → Ordering) (key_b key_c : ℕ → K) (want_b want_c : ℕ → Bool) (nb nc : ℕ) where
   abbrev pub rows_b : List (Row K)
   rows_b = map (row key_b) (selected want_b (up_from 0 nb))
 
@@ -168,7 +168,7 @@ module _ {K : Type 0} (cmp : K → K → Order) (key_b key_c : ℕ → K) (want_
       (ap (λ (j : ℕ). map numbered (selected lost_in (up_from j nc))) turn ∙ added)
 
   -- the kept numbers, sorted, name the sorted differences
-  pub sort-changes : (fine : Entry K → Entry K → Order) → Lawful fine → (order : ℕ → ℕ → Order) (test : ℕ → Bool)
+  pub sort-changes : (fine : Entry K → Entry K → Ordering) → Lawful fine → (order : ℕ → ℕ → Ordering) (test : ℕ → Bool)
       → ((i : ℕ) → i < nb + nc → test i ≡ lost_in i)
       → ((i j : ℕ) → i < nb + nc → j < nb + nc → lost_in i ≡ true → lost_in j ≡ true → order i j ≡ fine (numbered i) (numbered j))
       → map numbered (sort order (selected test (up_from 0 (nb + nc)))) ≡ sort fine (changes cmp rows_b rows_c)

@@ -2,7 +2,7 @@
 use mathlib.Core.Path.{◌≡◌}
 use mathlib.Core.Logic.{◌↔◌}
 use mathlib.Core.List.{List}
-use Rattle.text.specs.declared.order.Order.{Order}
+use Rattle.std.specs.declared.cmp.Ordering.{Ordering}
 use Rattle.sorting.specs.Order.{Lawful}
 use Rattle.sorting.specs.Sort.{◌∈◌, sort, Ascending, First}
 use Rattle.sorting.proofs.Orders.{lawful-nat, lawful-bytes, lawful-on, lawful_then}
@@ -29,7 +29,7 @@ unfolding need_order
 lawful-needs = lawful-on lawful-need (λ e. e.row.key)
 
 -- ---- a list that ascends, and whose entries are those that no earlier one ties with
-sorted-only : {A : Type 0} (cmp : A → A → Order) → Lawful cmp → (l m : List A) → Ascending cmp m
+sorted-only : {A : Type 0} (cmp : A → A → Ordering) → Lawful cmp → (l m : List A) → Ascending cmp m
     → ((e : A) → e ∈ m ↔ First cmp e l) → m ≡ sort cmp l
 sorted-only cmp laws l m a each =
     ascending-unique cmp laws m (sort cmp l) a (sort-ascends cmp laws l)

@@ -9,10 +9,9 @@ use borrow.Author.Tests.{lt-ltb, le-ltb, le-leb, lt-leb}
 use lib.Dec.{ltb}
 use lib.ListN.{length, take, drop}
 use Rattle.table.specs.Table.{cell_of, capacity_of}
-use Rattle.table.specs.Shape.{width, limit}
 use Rattle.differences.specs.declared.Change.{Change}
 use Rattle.differences.specs.declared.Change.TheVariants.{Removed, Added}
-use Rattle.differences.specs.Part.{there, diff_bytes_at, block_at, offset_at, diff_bytes, diff_block, diff_offset}
+use Rattle.differences.specs.Part.{there, diff_bytes_at, block_at, offset_at, changed_bytes, changed_block, changed_offset}
 
 module _ (file : List ℕ) (w most : ℕ) (rows : List ℕ) (n i : ℕ) where
   pub past-count : n ≤ i → there file w most rows n i ≡ false
@@ -67,17 +66,15 @@ module _ (file : List ℕ) (w most : ℕ) (rows : List ℕ) (n i : ℕ) where
     gone-offset own base = rw e
 
 -- by the change
-module _ (b bt : List ℕ) (nb : ℕ) (c ct : List ℕ) (nc t i : ℕ) {h : Change} {r : List ℕ} {p q : ℕ} (base cand base2 cand2 : ℕ) where
+module _ (b bt : List ℕ) (nb : ℕ) (c ct : List ℕ) (nc w most i : ℕ) {h : Change} {r : List ℕ} {p q : ℕ} (base cand base2 cand2 : ℕ) where
   pub removed-part : h ≡ Removed
-      → (r ≡ diff_bytes_at b (width t) (limit t) bt nb i) × (p ≡ block_at b (width t) (limit t) bt nb i base base)
-      × (q ≡ offset_at b (width t) (limit t) bt nb i base2 base2)
-      → (r ≡ diff_bytes b bt nb c ct nc t h i) × (p ≡ diff_block b bt nb c ct nc t h i base cand)
-      × (q ≡ diff_offset b bt nb c ct nc t h i base2 cand2)
+      → (r ≡ diff_bytes_at b w most bt nb i) × (p ≡ block_at b w most bt nb i base base) × (q ≡ offset_at b w most bt nb i base2 base2)
+      → (r ≡ changed_bytes b bt nb c ct nc w most h i) × (p ≡ changed_block b bt nb c ct nc w most h i base cand)
+      × (q ≡ changed_offset b bt nb c ct nc w most h i base2 cand2)
   removed-part e x = rw e x
 
   pub added-part : h ≡ Added
-      → (r ≡ diff_bytes_at c (width t) (limit t) ct nc i) × (p ≡ block_at c (width t) (limit t) ct nc i cand base)
-      × (q ≡ offset_at c (width t) (limit t) ct nc i cand2 base2)
-      → (r ≡ diff_bytes b bt nb c ct nc t h i) × (p ≡ diff_block b bt nb c ct nc t h i base cand)
-      × (q ≡ diff_offset b bt nb c ct nc t h i base2 cand2)
+      → (r ≡ diff_bytes_at c w most ct nc i) × (p ≡ block_at c w most ct nc i cand base) × (q ≡ offset_at c w most ct nc i cand2 base2)
+      → (r ≡ changed_bytes b bt nb c ct nc w most h i) × (p ≡ changed_block b bt nb c ct nc w most h i base cand)
+      × (q ≡ changed_offset b bt nb c ct nc w most h i base2 cand2)
   added-part e x = rw e x

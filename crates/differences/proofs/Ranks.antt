@@ -7,7 +7,7 @@ use borrow.Author.Tests.{ltb-true, ltb-false, ne_eqb}
 use lib.Dec.{ltb, eqb}
 use Rattle.refusal.specs.Pick.{pick}
 use Rattle.text.specs.Order.{cmp_nat, and_then, cmp_bytes}
-use Rattle.text.specs.declared.order.Order.TheVariants.{Equal}
+use Rattle.std.specs.declared.cmp.Ordering.TheVariants.{Equal}
 use Rattle.text.proofs.OrderLaws.{Tri, below, at, above, tri}
 use Rattle.sorting.proofs.Orders.{nat-less, nat-greater, nat-same}
 use Rattle.kinds.specs.Kinds.{kind_of, kind_word, hex_of}

@@ -2,8 +2,8 @@
 -- Assumes nothing.
 use Rattle.std.specs.Prelude.{Bool, true, false, not, ◌&&◌, ◌||◌, List, [], ◌∷◌, ◌++◌, map, ℕ}
 use Rattle.text.specs.Order.{cmp_nat, cmp_bytes}
-use Rattle.text.specs.declared.order.Order.{Order}
-use Rattle.text.specs.declared.order.Order.TheVariants.{Less, Equal, Greater}
+use Rattle.std.specs.declared.cmp.Ordering.{Ordering}
+use Rattle.std.specs.declared.cmp.Ordering.TheVariants.{Less, Equal, Greater}
 use Rattle.sorting.specs.Order.{on, then_by}
 use Rattle.sorting.specs.Sort.{sort, selected}
 use Rattle.kinds.specs.Kinds.{kind_of, kind_word}
@@ -16,11 +16,11 @@ abbrev pub kind_slug : ℕ → List ℕ
 kind_slug kind = kind_word (kind_of kind)
 
 -- by name bytes, then kind slug
-unfoldable pub cmp_export : ExportKey → ExportKey → Order
+unfoldable pub cmp_export : ExportKey → ExportKey → Ordering
 cmp_export = then_by (on cmp_bytes (λ e. e.name)) (on cmp_bytes (λ e. kind_slug e.kind))
 
 -- by domain order, then source
-unfoldable pub cmp_need : Need → Need → Order
+unfoldable pub cmp_need : Need → Need → Ordering
 cmp_need = then_by (on cmp_nat (λ n. n.domain)) (on cmp_bytes (λ n. n.source))
 
 -- a row of the baseline that was removed, or a row of the candidate that was added
@@ -31,12 +31,12 @@ pub record Entry (K : Type 0) : Type 0 where
 abbrev pub entry : {K : Type 0} → Change → Row K → Entry K
 entry c r = record { change = c; row = r }
 
-abbrev pub ties : Order → Bool
+abbrev pub ties : Ordering → Bool
 ties Less = false
 ties Equal = true
 ties Greater = false
 
-module _ {K : Type 0} (cmp : K → K → Order) where
+module _ {K : Type 0} (cmp : K → K → Ordering) where
   -- a row of the list has the key
   unfoldable pub has_key : K → List (Row K) → Bool
   has_key k [] = false
@@ -51,14 +51,14 @@ module _ {K : Type 0} (cmp : K → K → Order) where
   changes b c = map (entry Removed) (without b c) ++ map (entry Added) (without c b)
 
 -- by name and kind, repeats in row order
-unfoldable pub export_order : Entry ExportKey → Entry ExportKey → Order
+unfoldable pub export_order : Entry ExportKey → Entry ExportKey → Ordering
 export_order = then_by (on cmp_export (λ e. e.row.key)) (on cmp_nat (λ e. e.row.at))
 
 unfoldable pub export_diff : View → View → List (Entry ExportKey)
 export_diff b c = sort export_order (changes cmp_export b.exports c.exports)
 
 -- by pair: of rows with one pair only the first, which is the lowest, is kept
-unfoldable pub need_order : Entry Need → Entry Need → Order
+unfoldable pub need_order : Entry Need → Entry Need → Ordering
 need_order = on cmp_need (λ e. e.row.key)
 
 unfoldable pub need_diff : View → View → List (Entry Need)

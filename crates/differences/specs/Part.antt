@@ -23,16 +23,27 @@ module _ (file : List ℕ) (w most : ℕ) (rows : List ℕ) (n i : ℕ) where
   unfoldable pub offset_at : ℕ → ℕ → ℕ
   offset_at own baseline = pick there (own + cell_of rows w i 0) baseline
 
--- of table t. Removed: a row of the baseline; added: a row of the candidate
+-- Removed: a row of the baseline; added: a row of the candidate
+module _ (b bt : List ℕ) (nb : ℕ) (c ct : List ℕ) (nc w most : ℕ) where
+  abbrev pub changed_bytes : Change → ℕ → List ℕ
+  changed_bytes Removed i = diff_bytes_at b w most bt nb i
+  changed_bytes Added i = diff_bytes_at c w most ct nc i
+
+  abbrev pub changed_block : Change → ℕ → ℕ → ℕ → ℕ
+  changed_block Removed i baseline candidate = block_at b w most bt nb i baseline baseline
+  changed_block Added i baseline candidate = block_at c w most ct nc i candidate baseline
+
+  abbrev pub changed_offset : Change → ℕ → ℕ → ℕ → ℕ
+  changed_offset Removed i baseline candidate = offset_at b w most bt nb i baseline baseline
+  changed_offset Added i baseline candidate = offset_at c w most ct nc i candidate baseline
+
+-- of table t
 module _ (b bt : List ℕ) (nb : ℕ) (c ct : List ℕ) (nc t : ℕ) where
   abbrev pub diff_bytes : Change → ℕ → List ℕ
-  diff_bytes Removed i = diff_bytes_at b (width t) (limit t) bt nb i
-  diff_bytes Added i = diff_bytes_at c (width t) (limit t) ct nc i
+  diff_bytes = changed_bytes b bt nb c ct nc (width t) (limit t)
 
   abbrev pub diff_block : Change → ℕ → ℕ → ℕ → ℕ
-  diff_block Removed i baseline candidate = block_at b (width t) (limit t) bt nb i baseline baseline
-  diff_block Added i baseline candidate = block_at c (width t) (limit t) ct nc i candidate baseline
+  diff_block = changed_block b bt nb c ct nc (width t) (limit t)
 
   abbrev pub diff_offset : Change → ℕ → ℕ → ℕ → ℕ
-  diff_offset Removed i baseline candidate = offset_at b (width t) (limit t) bt nb i baseline baseline
-  diff_offset Added i baseline candidate = offset_at c (width t) (limit t) ct nc i candidate baseline
+  diff_offset = changed_offset b bt nb c ct nc (width t) (limit t)

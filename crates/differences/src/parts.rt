@@ -1,6 +1,7 @@
 // compat.rs: the name of a difference, handed back as a part of whichever file it came from.
 ghost use Rattle.std.specs.Prelude.{◌≡◌};
-ghost use Rattle.differences.specs.Part.{diff_bytes_at, block_at, offset_at, diff_bytes, diff_block, diff_offset};
+ghost use Rattle.differences.specs.Part.{diff_bytes_at, block_at, offset_at};
+ghost use Rattle.differences.specs.Part.{changed_bytes, changed_block, changed_offset, diff_bytes, diff_block, diff_offset};
 
 use crate::Change;
 use table::shape::{EXPORT_WIDTH, IMPORT_WIDTH, MAX_EXPORTS, MAX_IMPORTS};
@@ -21,10 +22,7 @@ fn part_of<'a, 'b>(
         × (result.ref_ptr.1 ≡ offset_at file.now width most rows.now n row file.entry.ref_ptr.1
         baseline.entry.ref_ptr.1) }
 {
-    if n <= row {
-        return &baseline[0..0];
-    }
-    if table::capacity(rows.len(), width, most) <= row {
+    if n <= row || table::capacity(rows.len(), width, most) <= row {
         return &baseline[0..0];
     }
     let from = table::cell(rows, width, row, 0);
@@ -33,6 +31,30 @@ fn part_of<'a, 'b>(
         return &baseline[0..0];
     }
     &file[from..from + len]
+}
+
+// The same of the baseline where the change is a removal, and else of the candidate.
+fn change_part<'a, 'b, 'c, const WIDTH: usize, const MOST: usize>(
+    baseline: &'a [u8],
+    bt: &'b [usize],
+    nb: usize,
+    candidate: &'a [u8],
+    ct: &'c [usize],
+    nc: usize,
+    change: Change,
+    row: usize,
+) -> &'a [u8]
+    ensures { (result.now ≡ changed_bytes baseline.now bt.now nb candidate.now ct.now nc WIDTH MOST
+        change row)
+        × (result.ref_ptr.0 ≡ changed_block baseline.now bt.now nb candidate.now ct.now nc WIDTH MOST change row
+        baseline.entry.ref_ptr.0 candidate.entry.ref_ptr.0)
+        × (result.ref_ptr.1 ≡ changed_offset baseline.now bt.now nb candidate.now ct.now nc WIDTH MOST change row
+        baseline.entry.ref_ptr.1 candidate.entry.ref_ptr.1) }
+{
+    match change {
+        Change::Removed => part_of(baseline, baseline, WIDTH, MOST, bt, nb, row),
+        Change::Added => part_of(baseline, candidate, WIDTH, MOST, ct, nc, row),
+    }
 }
 
 // The name of an export that was removed from the baseline, or added in the candidate: a row of its table 3.
@@ -53,10 +75,7 @@ pub fn export_diff_name<'a, 'b, 'c>(
         × (result.ref_ptr.1 ≡ diff_offset baseline.now be.now nbe candidate.now ce.now nce 3 change row
         baseline.entry.ref_ptr.1 candidate.entry.ref_ptr.1) }
 {
-    match change {
-        Change::Removed => part_of(baseline, baseline, EXPORT_WIDTH, MAX_EXPORTS, be, nbe, row),
-        Change::Added => part_of(baseline, candidate, EXPORT_WIDTH, MAX_EXPORTS, ce, nce, row),
-    }
+    change_part::<EXPORT_WIDTH, MAX_EXPORTS>(baseline, be, nbe, candidate, ce, nce, change, row)
 }
 
 // The module name of a pair that was removed or added: a row of its table 2.
@@ -77,8 +96,5 @@ pub fn capability_diff_source<'a, 'b, 'c>(
         × (result.ref_ptr.1 ≡ diff_offset baseline.now bi.now nbi candidate.now ci.now nci 2 change row
         baseline.entry.ref_ptr.1 candidate.entry.ref_ptr.1) }
 {
-    match change {
-        Change::Removed => part_of(baseline, baseline, IMPORT_WIDTH, MAX_IMPORTS, bi, nbi, row),
-        Change::Added => part_of(baseline, candidate, IMPORT_WIDTH, MAX_IMPORTS, ci, nci, row),
-    }
+    change_part::<IMPORT_WIDTH, MAX_IMPORTS>(baseline, bi, nbi, candidate, ci, nci, change, row)
 }

@@ -2,16 +2,16 @@
 use mathlib.Core.Path.{◌≡◌, refl, ap}
 use Rattle.refusal.proofs.Known.{taken_back}
 use Rattle.domains.specs.Domain.{Perhaps, nothing, just, found}
-use Rattle.domains.specs.declared.DomainFound.{DomainFound}
-use Rattle.domains.specs.declared.DomainFound.TheVariants as df
+use Rattle.std.specs.Prelude.{Option, Some, None}
+use Rattle.domains.specs.declared.Domain.{Domain}
 use Rattle.domains.proofs.DomainLaws.{numbered_as, back}
 
-pub found-known : (a b : DomainFound) → found a ≡ found b → a ≡ b
+pub found-known : (a b : Option Domain) → found a ≡ found b → a ≡ b
 found-known = taken_back again is where
-  again : Perhaps → DomainFound
-  again nothing = df.Nothing
-  again (just n) = df.Domain (numbered_as n)
+  again : Perhaps → Option Domain
+  again nothing = None
+  again (just n) = Some (numbered_as n)
 
-  is : (a : DomainFound) → again (found a) ≡ a
-  is (df.Domain d) = ap df.Domain (back d)
-  is df.Nothing = refl
+  is : (a : Option Domain) → again (found a) ≡ a
+  is (Some d) = ap Some (back d)
+  is None = refl

@@ -2,8 +2,6 @@
 use Rattle.std.specs.Prelude.{Bool, List, [], ◌∷◌, ℕ, take, drop}
 use Rattle.refusal.specs.Pick.{pick}
 use Rattle.text.specs.Find.{begins, same, index_of}
-use Rattle.domains.specs.declared.classify.Fit.{Fit}
-use Rattle.domains.specs.declared.classify.Fit.TheVariants as fit
 
 -- a name begins with a word, or is it
 pub data Test : Type 0 where
@@ -77,8 +75,3 @@ import_domain m f =
     (pick (same unstable m) (classed_by preview f)
     (pick (begins wasi m) (path_domain m)
     6))
-
--- ---- for the code: the test that it makes of a word
-abbrev pub test_by : Fit → List ℕ → Test
-test_by fit.Front w = front w
-test_by fit.Exact w = exact w

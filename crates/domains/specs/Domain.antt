@@ -1,11 +1,9 @@
 -- docs/RULES.md, "Domains and verdicts": the domains, their numbers and their slugs. Assumes nothing.
-use Rattle.std.specs.Prelude.{List, [], ◌∷◌, ℕ, ltb, get_or}
+use Rattle.std.specs.Prelude.{List, [], ◌∷◌, ℕ, ltb, get_or, Option, Some, None}
 use Rattle.refusal.specs.Pick.{pick}
 use Rattle.text.specs.Find.{same}
 use Rattle.domains.specs.declared.Domain.{Domain}
 use Rattle.domains.specs.declared.Domain.TheVariants.{Filesystem, Environment, Clock, Network, Random, Stdio, Unknown}
-use Rattle.domains.specs.declared.DomainFound.{DomainFound}
-use Rattle.domains.specs.declared.DomainFound.TheVariants as found_as
 
 abbrev pub domain_number : Domain → ℕ
 domain_number Filesystem = 0
@@ -21,9 +19,9 @@ pub data Perhaps : Type 0 where
   nothing : Perhaps
   just : ℕ → Perhaps
 
-abbrev pub found : DomainFound → Perhaps
-found (found_as.Domain d) = just (domain_number d)
-found found_as.Nothing = nothing
+abbrev pub found : Option Domain → Perhaps
+found (Some d) = just (domain_number d)
+found None = nothing
 
 -- the domain with a number
 unfoldable pub numbered : ℕ → Perhaps

@@ -1,51 +1,35 @@
 // The domain that an import or an interface path belongs to.
 ghost use Rattle.std.specs.Prelude.{◌≡◌};
 ghost use Rattle.domains.specs.Domain.{domain_number};
-ghost use Rattle.domains.specs.Classify.{passes, test_by, classed_by, preview, heads, head_of, up_to_byte, path_domain, import_domain};
+ghost use Rattle.domains.specs.Classify.{classed_by, preview, heads, head_of, up_to_byte, path_domain, import_domain};
 
 use crate::Domain;
 use text::find::find;
 use text::order::{equal, starts};
 
-// How a name is held against a word: it begins with the word, or it is the word.
-#[derive(Clone, Copy)]
-enum Fit {
-    Front,
-    Exact,
-}
-
-fn passes(s: &[u8], fit: Fit, word: &[u8]) -> bool
-    ensures { result ≡ passes (test_by fit word.now) s.now }
-{
-    match fit {
-        Fit::Front => starts(s, word),
-        Fit::Exact => equal(s, word),
-    }
-}
-
 // A field of preview 1. Descriptors of streams cannot be told from those of files: `fd_` is filesystem.
 fn preview_of(s: &[u8]) -> Domain
     ensures { domain_number result ≡ classed_by preview s.now }
 {
-    if passes(s, Fit::Front, b"fd_") {
+    if starts(s, b"fd_") {
         return Domain::Filesystem;
     }
-    if passes(s, Fit::Front, b"path_") {
+    if starts(s, b"path_") {
         return Domain::Filesystem;
     }
-    if passes(s, Fit::Front, b"environ_") {
+    if starts(s, b"environ_") {
         return Domain::Environment;
     }
-    if passes(s, Fit::Front, b"args_") {
+    if starts(s, b"args_") {
         return Domain::Environment;
     }
-    if passes(s, Fit::Front, b"clock_") {
+    if starts(s, b"clock_") {
         return Domain::Clock;
     }
-    if passes(s, Fit::Front, b"sock_") {
+    if starts(s, b"sock_") {
         return Domain::Network;
     }
-    if passes(s, Fit::Exact, b"random_get") {
+    if equal(s, b"random_get") {
         return Domain::Random;
     }
     Domain::Unknown
@@ -96,8 +80,7 @@ pub fn classify_path(path: &[u8]) -> Domain
     ensures { domain_number result ≡ path_domain path.now }
 {
     if starts(path, b"wasi:") {
-        let a = 5;
-        return body_of(&path[a..]);
+        return body_of(&path[5..]);
     }
     body_of(path)
 }
@@ -105,13 +88,12 @@ pub fn classify_path(path: &[u8]) -> Domain
 pub fn classify_import(source: &[u8], field: &[u8]) -> Domain
     ensures { domain_number result ≡ import_domain source.now field.now }
 {
-    if passes(source, Fit::Front, b"wasi_snapshot_preview1") {
+    let preview1 = starts(source, b"wasi_snapshot_preview1");
+    let unstable = equal(source, b"wasi_unstable");
+    if preview1 || unstable {
         return preview_of(field);
     }
-    if passes(source, Fit::Exact, b"wasi_unstable") {
-        return preview_of(field);
-    }
-    if passes(source, Fit::Front, b"wasi:") {
+    if starts(source, b"wasi:") {
         return classify_path(source);
     }
     Domain::Unknown

@@ -21,12 +21,6 @@ pub enum Domain {
     Unknown,
 }
 
-#[derive(Clone, Copy)]
-pub enum DomainFound {
-    Domain(Domain),
-    Nothing,
-}
-
 pub fn domain_number(d: Domain) -> usize
     ensures { result ≡ domain_number d }
 {
@@ -41,18 +35,18 @@ pub fn domain_number(d: Domain) -> usize
     }
 }
 
-pub fn domain_of(n: usize) -> DomainFound
+pub fn domain_of(n: usize) -> Option<Domain>
     ensures { found result ≡ numbered n }
 {
     match n {
-        0 => DomainFound::Domain(Domain::Filesystem),
-        1 => DomainFound::Domain(Domain::Environment),
-        2 => DomainFound::Domain(Domain::Clock),
-        3 => DomainFound::Domain(Domain::Network),
-        4 => DomainFound::Domain(Domain::Random),
-        5 => DomainFound::Domain(Domain::Stdio),
-        6 => DomainFound::Domain(Domain::Unknown),
-        _ => DomainFound::Nothing,
+        0 => Some(Domain::Filesystem),
+        1 => Some(Domain::Environment),
+        2 => Some(Domain::Clock),
+        3 => Some(Domain::Network),
+        4 => Some(Domain::Random),
+        5 => Some(Domain::Stdio),
+        6 => Some(Domain::Unknown),
+        _ => None,
     }
 }
 
@@ -92,35 +86,35 @@ pub fn domain_slug(d: Domain) -> Slug
 }
 
 // The domain that a word names: a slug, or one of the aliases `net` and `rand`.
-pub fn from_slug(s: &[u8]) -> DomainFound
+pub fn from_slug(s: &[u8]) -> Option<Domain>
     ensures { found result ≡ domain_of s.now }
 {
     if equal(s, b"fs") {
-        return DomainFound::Domain(Domain::Filesystem);
+        return Some(Domain::Filesystem);
     }
     if equal(s, b"env") {
-        return DomainFound::Domain(Domain::Environment);
+        return Some(Domain::Environment);
     }
     if equal(s, b"clock") {
-        return DomainFound::Domain(Domain::Clock);
+        return Some(Domain::Clock);
     }
     if equal(s, b"network") {
-        return DomainFound::Domain(Domain::Network);
+        return Some(Domain::Network);
     }
     if equal(s, b"random") {
-        return DomainFound::Domain(Domain::Random);
+        return Some(Domain::Random);
     }
     if equal(s, b"stdio") {
-        return DomainFound::Domain(Domain::Stdio);
+        return Some(Domain::Stdio);
     }
     if equal(s, b"unknown") {
-        return DomainFound::Domain(Domain::Unknown);
+        return Some(Domain::Unknown);
     }
     if equal(s, b"net") {
-        return DomainFound::Domain(Domain::Network);
+        return Some(Domain::Network);
     }
     if equal(s, b"rand") {
-        return DomainFound::Domain(Domain::Random);
+        return Some(Domain::Random);
     }
-    DomainFound::Nothing
+    None
 }

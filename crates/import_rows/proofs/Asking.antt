@@ -1,42 +1,29 @@
--- Tests of ranges and of rows. Assumes nothing.
+-- Tests of rows, and what a list of rows answers. Assumes nothing.
+use Rattle.std.specs.Prelude.{Option, Some, None, Result}
+use Rattle.std.specs.Option.{ok_or}
+use Rattle.std.specs.List.{count_by, range_with_len}
+use Rattle.std.proofs.lemmas.List.Sums.{sum_by-cons}
 use native.Mathlib.Omega.{arith}
-use Prim.Native.Nat.{ℕ, suc, ◌+◌, ◌-◌, ◌/◌, ◌%◌, ◌^◌, ◌≤◌, ◌<◌}
-use mathlib.Core.Path.{◌≡◌, sym, ◌∙◌, ap}
-use mathlib.Core.Bool.{Bool, true, false}
+use Prim.Native.Nat.{ℕ, zero, suc, ◌+◌, ◌-◌, ◌/◌, ◌%◌, ◌^◌, ◌≤◌, ◌<◌}
+use mathlib.Core.Path.{◌≡◌, refl, sym, ◌∙◌, ap}
+use mathlib.Core.Bool.{Bool, true, false, cond}
 use mathlib.Core.List.{List}
-use borrow.Author.Tests.{le-leb, lt-leb, lt-ltb, le-ltb, eq-eqb, ne_eqb}
+use borrow.Author.Tests.{lt-ltb, le-ltb, eq-eqb, ne_eqb}
 use lib.Bits.{bit_and, and_mask}
 use lib.Dec.{eqb}
 use lib.ListN.{length}
-use Rattle.refusal.specs.Sizes.{file_limit, fits_in}
-use Rattle.refusal.specs.Said.{Said, accepted, refused, follow, spot, Place}
+use Rattle.refusal.specs.Pick.{pick}
+use Rattle.refusal.specs.Sizes.{file_limit}
+use Rattle.refusal.specs.Said.{Said, accepted, refused, follow, spot, Place, said_by}
+use Rattle.refusal.specs.declared.Refusal.{Refusal}
+use Rattle.refusal.specs.declared.Refusal.TheVariants.{Full}
 use Rattle.table.specs.Testing.{bad, count_from}
+use Rattle.table.specs.Listing.{ListsRows, fitted}
 use Rattle.table.proofs.Testing.{count-hit, count-miss, count-end}
-use Rattle.import_rows.specs.Queries.{import_cell, given_of, number_fits, marked, desc_fits, kind_fits, import_fits}
+use Rattle.table.proofs.Listing.{lists-sorted}
+use Rattle.sorting.specs.Keys.{said_sorted, Sorts}
+use Rattle.import_rows.specs.Queries.{import_cell, given_of, number_fits, marked, desc_fits}
 use Rattle.import_rows.specs.Queries.{kind_is, imports_tested, asked}
-
--- the test of a row, by what the calls on its cells answer
-module _ (n : ℕ) (imports : List ℕ) (i : ℕ) {a b : ℕ} where
-  module _ {f : Bool} (ea : a ≡ import_cell imports i 0) (eb : b ≡ import_cell imports i 1) (ef : f ≡ fits_in n a b) where
-    first-is : fits_in n (import_cell imports i 0) (import_cell imports i 1) ≡ f
-    first-is = rw (← ea, ← eb, ← ef)
-
-    pub first_out : f ≡ false → false ≡ import_fits n imports i
-    unfolding import_fits
-    first_out h = rw (first-is, h)
-
-    module _ (first-in : f ≡ true) {d e : ℕ} {g : Bool} (ed : d ≡ import_cell imports i 2) (ee : e ≡ import_cell imports i 3)
-        (eg : g ≡ fits_in n d e) where
-      second_is : fits_in n (import_cell imports i 2) (import_cell imports i 3) ≡ g
-      second_is = rw (← ed, ← ee, ← eg)
-
-      pub second-out : g ≡ false → false ≡ import_fits n imports i
-      unfolding import_fits
-      second-out h = rw (first-is, first-in, second_is, h)
-
-      pub both-in : g ≡ true → {t : Bool} → t ≡ kind_fits imports i → t ≡ import_fits n imports i
-      unfolding import_fits
-      both-in h q = rw (first-is, first-in, second_is, h) q
 
 -- the number in a column, by the bit of the mark and by the cell
 module _ (given : ℕ) (imports : List ℕ) (i column : ℕ) where
@@ -87,14 +74,6 @@ module _ (imports : List ℕ) (i : ℕ) {kind flag given mark : ℕ} (ek : kind 
   mark-in h = record { left = rw (desc-is, ← em, eq-eqb mark given h) }
 
 module _ (imports : List ℕ) (i : ℕ) {k : ℕ} (e : k ≡ import_cell imports i 4) where
-  pub kind-out : 255 < k → false ≡ kind_fits imports i
-  unfolding kind_fits
-  kind-out h = rw (← e, lt-leb k 255 h)
-
-  pub kind-in : k ≤ 255 → {t : Bool} → t ≡ desc_fits imports i → t ≡ kind_fits imports i
-  unfolding kind_fits
-  kind-in h q = rw (← e, le-leb k 255 h) q
-
   pub kind-hit : {kind : ℕ} → k ≡ kind → kind_is imports kind i ≡ true
   unfolding kind_is
   kind-hit {kind} h = rw (← e, eq-eqb k kind h)
@@ -117,3 +96,32 @@ module _ {X : Type 0} (file imports : List ℕ) (n : ℕ) (then : Said X) where
     pub asked-good : {u : Unit {0}} → imports_tested (length file) imports n ≡ accepted u → asked file imports n then ≡ then
     unfolding asked follow
     asked-good e = rw (le-ltb file_limit (length file) short, e)
+
+-- a list that a sort put into a lent table, or 13 at that table's number
+sorted-said : (tn : ℕ) (r : Option ℕ) → said_by (ok_or r (Full tn)) ≡ said_sorted tn r
+sorted-said tn None = refl
+sorted-said tn (Some n) = refl
+
+pub sorts-listed : (tn : ℕ) (l before after : List ℕ) {r : Option ℕ} {a : Result ℕ Refusal} → a ≡ ok_or r (Full tn)
+    → Sorts l before after r → ListsRows (fitted tn (length before) l) before after (said_by a)
+sorts-listed tn l before after {r} e s =
+    lists-sorted tn l before after (ap said_by e ∙ sorted-said tn r ∙ s.answer-is tn) s.table_is
+
+pub listed-as : {x y : Said (List ℕ)} {before after : List ℕ} {a : Said ℕ} → x ≡ y → ListsRows y before after a
+    → ListsRows x before after a
+listed-as e h = rw e h
+
+-- how many rows are of a kind, as the library counts
+module _ (imports : List ℕ) (kind : ℕ) where
+  one-more : (b : Bool) (m : ℕ) → cond b 1 0 + m ≡ pick b (suc m) m
+  one-more true m = omega arith
+  one-more false m = omega arith
+
+  pub count-range : (i n : ℕ)
+      → count_by (λ j. eqb (import_cell imports j 4) kind) (range_with_len i n) ≡ count_from (kind_is imports kind) i n
+  unfolding count_from kind_is
+  count-range i zero = refl
+  count-range i (suc n) =
+      sum_by-cons (λ j. cond (eqb (import_cell imports j 4) kind) 1 0) i (range_with_len (i + 1) n)
+      ∙ ap (λ (m : ℕ). cond (eqb (import_cell imports i 4) kind) 1 0 + m) (count-range (i + 1) n)
+      ∙ one-more (eqb (import_cell imports i 4) kind) (count_from (kind_is imports kind) (i + 1) n)

@@ -69,4 +69,5 @@ asked file imports n then =
 
 -- of each module name, of whatever kind of import, the lowest row, by bytes
 unfoldable pub namespaces_of : List ℕ → List ℕ → ℕ → ℕ → Said (List ℕ)
-namespaces_of file imports n room = asked file imports n (fitted 15 room (sorted_rows file file imports (by_name (width 2) 0 1 (width 2) 0) n))
+namespaces_of file imports n room =
+    asked file imports n (fitted 15 room (sorted_rows file file imports (by_name (width 2) 0 1 (width 2) 0) n))

@@ -1,8 +1,10 @@
 -- wit.rs with lent tables: the answer in a struct of numbers, all zero but number and place on a refusal. Assumes nothing.
 use Rattle.std.specs.Prelude.{false, ◌≡◌}
+use Rattle.std.specs.Option.{is_some}
 use Rattle.refusal.specs.Said.{Said, accepted, refused, number_at, follow}
 use Rattle.wit.specs.declared.Manifest.{Manifest}
 use Rattle.wit.specs.Manifest.{ManifestSizes, State, ManifestLent, ManifestHolds, manifest_held, manifest_of}
+use Rattle.judged.specs.Rows.{part_told}
 use Rattle.judged.specs.declared.manifests.ManifestTold.{ManifestTold}
 
 abbrev pub manifest_answer : Said Manifest → ManifestTold
@@ -10,9 +12,9 @@ manifest_answer (accepted m) =
     record {
       number = 0;
       place = 0;
-      packaged = m.packaged;
-      start = m.start;
-      size = m.size;
+      packaged = is_some m.package;
+      start = (part_told m.package).from;
+      size = (part_told m.package).len;
       worlds = m.worlds;
       references = m.references;
     }

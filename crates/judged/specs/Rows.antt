@@ -1,6 +1,8 @@
 -- wasm.rs with lent tables: the answers in structs of numbers, all zero but number, place and the offset beside it on a refusal. Assumes
 -- nothing.
-use Rattle.std.specs.Prelude.{ℕ, false, ◌≡◌, List, map, length}
+use Rattle.std.specs.Prelude.{ℕ, false, ◌≡◌, List, map, length, Option, Some, None}
+use Rattle.std.specs.Option.{is_some}
+use Rattle.refusal.specs.declared.Part.{Part}
 use Rattle.refusal.specs.Said.{Said, accepted, refused, number_at, beside_at, follow}
 use Rattle.table.specs.Table.{laid}
 use Rattle.table.specs.Listing.{rows_in}
@@ -8,6 +10,11 @@ use Rattle.wasm.specs.declared.Module.{Module}
 use Rattle.wasm.specs.Module.{Sizes, Lent, Parsed, Holds, tables_of, module_of}
 use Rattle.judged.specs.declared.rows.ModuleTold.{ModuleTold}
 use Rattle.judged.specs.declared.rows.CountTold.{CountTold}
+
+-- where a name stands; 0, 0 where there is none
+abbrev pub part_told : Option Part → Part
+part_told (Some p) = p
+part_told None = record { from = 0; len = 0 }
 
 abbrev pub module_answer : Said Module → ModuleTold
 module_answer (accepted m) =
@@ -17,9 +24,9 @@ module_answer (accepted m) =
       offset = 0;
       version = m.version;
       length = m.length;
-      named = m.named;
-      start = m.start;
-      size = m.size;
+      named = is_some m.name;
+      start = (part_told m.name).from;
+      size = (part_told m.name).len;
       sections = m.sections;
       imports = m.imports;
       exports = m.exports;

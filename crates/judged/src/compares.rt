@@ -8,8 +8,9 @@ ghost use Rattle.reasons.specs.Reasons.{diffs, reasoned};
 ghost use Rattle.told.specs.Policies.{WriteTells};
 ghost use Rattle.judged.specs.Compares.{compare_told, CompareTells, change_at, name_told};
 
-use compat::Compared;
+use compat::Lists;
 use differences::Change;
+use refusal::Refusal;
 use told::policies::{WrittenTold, written_of};
 
 #[repr(C)]
@@ -30,22 +31,18 @@ pub struct NameTold {
     pub byte: u8,
 }
 
-fn compare_of(r: Compared) -> CompareTold
+fn compare_of(r: Result<Lists, Refusal>) -> CompareTold
     ensures { result ≡ compare_told (said_compared r) }
 {
     match r {
-        Compared::Lists {
-            exports,
-            capabilities,
-            compatible,
-        } => CompareTold {
+        Ok(lists) => CompareTold {
             number: 0,
             place: 0,
-            exports,
-            capabilities,
-            compatible,
+            exports: lists.exports,
+            capabilities: lists.capabilities,
+            compatible: lists.compatible,
         },
-        Compared::Refused(why) => CompareTold {
+        Err(why) => CompareTold {
             number: refusal::number(why),
             place: refusal::place(why),
             exports: 0,
@@ -67,15 +64,9 @@ pub(crate) fn change_of(mark: usize) -> Change
 pub(crate) fn name_of(name: &[u8], k: usize) -> NameTold
     ensures { result ≡ name_told name.now k }
 {
-    if k < name.len() {
-        return NameTold {
-            len: name.len(),
-            byte: name[k],
-        };
-    }
     NameTold {
         len: name.len(),
-        byte: 0,
+        byte: if k < name.len() { name[k] } else { 0 },
     }
 }
 

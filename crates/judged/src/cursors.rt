@@ -1,12 +1,12 @@
 // leb.rs: the cursor's functions that the C interface does not hand out.
 ghost use Rattle.std.specs.Prelude.{◌≡◌, ◌-◌, leb, length};
-ghost use Rattle.leb.specs.Answers.{finding_of, said_byte, said_skip};
+ghost use Rattle.leb.specs.Answers.{finding_of, said_skip};
 ghost use Rattle.leb.specs.Reads.{byte_at, fixed_at, taken_at, skip_at};
 ghost use Rattle.told.specs.Reading.{unsigned_told, range_told};
 ghost use Rattle.judged.specs.Cursors.{skip_told, left_told};
 
-use leb::{ByteRead, Cursor, Skipped};
-use told::cursor::{Range, Unsigned, narrow_of, range_of};
+use leb::{Cursor, Unread};
+use told::cursor::{Range, Unsigned, narrow_of, range_of, unsigned_of};
 
 #[repr(C)]
 #[derive(Clone, Copy)]
@@ -25,37 +25,18 @@ pub struct LeftTold {
     pub none: bool,
 }
 
-fn byte_of(r: ByteRead) -> Unsigned
-    ensures { result ≡ unsigned_told (finding_of (said_byte r)) }
-{
-    match r {
-        ByteRead::Read(value, next) => Unsigned {
-            number: 0,
-            place: 0,
-            value: value as u64,
-            next: next.at,
-        },
-        ByteRead::Refused(why, _) => Unsigned {
-            number: refusal::number(why),
-            place: refusal::place(why),
-            value: 0,
-            next: 0,
-        },
-    }
-}
-
-fn skip_of(r: Skipped) -> SkipTold
+fn skip_of(r: Result<Cursor, Unread>) -> SkipTold
     ensures { result ≡ skip_told (finding_of (said_skip r)) }
 {
     match r {
-        Skipped::To(next) => SkipTold {
+        Ok(next) => SkipTold {
             number: 0,
             place: 0,
             next: next.at,
         },
-        Skipped::Refused(why, _) => SkipTold {
-            number: refusal::number(why),
-            place: refusal::place(why),
+        Err(unread) => SkipTold {
+            number: refusal::number(unread.why),
+            place: refusal::place(unread.why),
             next: 0,
         },
     }
@@ -65,7 +46,7 @@ pub fn judged_u8(s: &[u8], at: usize) -> Unsigned
     ensures { result ≡ unsigned_told (byte_at s.now at) }
 {
     let c = Cursor { at };
-    byte_of(c.u8(s))
+    unsigned_of(c.u8(s).map(|(value, next)| (u64::from(value), next)))
 }
 
 pub fn judged_u32_le(s: &[u8], at: usize) -> Unsigned

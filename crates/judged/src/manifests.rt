@@ -7,8 +7,9 @@ ghost use Rattle.requirements.specs.Requirements.{room_of};
 ghost use Rattle.requirements.specs.Interfaces.{reference_domain, manifest_rows};
 ghost use Rattle.judged.specs.Rows.{ListTells, RequireTells};
 
-use crate::rows::{CountTold, count_of};
-use wit::ManifestRead;
+use crate::rows::{CountTold, count_of, part_of};
+use refusal::Refusal;
+use wit::Manifest;
 
 #[repr(C)]
 #[derive(Clone, Copy)]
@@ -22,20 +23,20 @@ pub struct ManifestTold {
     pub references: usize,
 }
 
-fn manifest_of(r: ManifestRead) -> ManifestTold
+fn manifest_of(r: Result<Manifest, Refusal>) -> ManifestTold
     ensures { result ≡ manifest_answer (said_manifest r) }
 {
     match r {
-        ManifestRead::Manifest(m) => ManifestTold {
+        Ok(m) => ManifestTold {
             number: 0,
             place: 0,
-            packaged: m.packaged,
-            start: m.start,
-            size: m.size,
+            packaged: m.package.is_some(),
+            start: part_of(m.package).from,
+            size: part_of(m.package).len,
             worlds: m.worlds,
             references: m.references,
         },
-        ManifestRead::Refused(why) => ManifestTold {
+        Err(why) => ManifestTold {
             number: refusal::number(why),
             place: refusal::place(why),
             packaged: false,

@@ -9,7 +9,7 @@ ghost use Rattle.told.specs.Check.{evaluation_told};
 ghost use Rattle.judged.specs.Policies.{cell, stance_at, slot_at, policy_in, effective_told, effective_asked};
 
 use domains::classify::{classify_import, classify_path};
-use domains::{DomainFound, domain_number, domain_of};
+use domains::{domain_number, domain_of};
 use policy::{Policy, Slot, Stance};
 use told::check::{EvaluationTold, evaluation_of};
 use told::policies::{TokenTold, WrittenTold, token_for, written_of};
@@ -45,32 +45,30 @@ fn slot_at(cells: &[usize], k: usize) -> Slot
     requires { k ≤ 22 }
     ensures { result ≡ slot_at cells.now k }
 {
-    let stance = stance_of(at(cells, k));
-    let from = at(cells, k + 1);
-    let len = at(cells, k + 2);
-    Slot { stance, from, len }
+    Slot {
+        stance: stance_of(at(cells, k)),
+        from: at(cells, k + 1),
+        len: at(cells, k + 2),
+    }
 }
 
 fn policy_of(cells: &[usize]) -> Policy
     ensures { result ≡ policy_in cells.now }
 {
-    let named = at(cells, 0);
-    let start = at(cells, 1);
-    let size = at(cells, 2);
-    let permit = at(cells, 3);
-    let a = slot_at(cells, 4);
-    let b = slot_at(cells, 7);
-    let c = slot_at(cells, 10);
-    let d = slot_at(cells, 13);
-    let e = slot_at(cells, 16);
-    let f = slot_at(cells, 19);
-    let g = slot_at(cells, 22);
     Policy {
-        named: named != 0,
-        start,
-        size,
-        permit: permit != 0,
-        rules: [a, b, c, d, e, f, g],
+        named: at(cells, 0) != 0,
+        start: at(cells, 1),
+        size: at(cells, 2),
+        permit: at(cells, 3) != 0,
+        rules: [
+            slot_at(cells, 4),
+            slot_at(cells, 7),
+            slot_at(cells, 10),
+            slot_at(cells, 13),
+            slot_at(cells, 16),
+            slot_at(cells, 19),
+            slot_at(cells, 22),
+        ],
     }
 }
 
@@ -89,15 +87,14 @@ pub fn judged_effective(cells: &[usize], domain: usize) -> EffectiveTold
     ensures { result ≡ effective_asked (policy_in cells.now) domain }
 {
     let p = policy_of(cells);
-    let found = domain_of(domain);
-    let DomainFound::Domain(d) = found else {
-        return EffectiveTold {
+    match domain_of(domain) {
+        Some(d) => rule_of(verdicts::effective(p, d)),
+        None => EffectiveTold {
             allow: false,
             from: 0,
             len: 0,
-        };
-    };
-    rule_of(verdicts::effective(p, d))
+        },
+    }
 }
 
 pub fn judged_token(text: &[u8], cells: &[usize], domain: usize, from: usize) -> TokenTold

@@ -1,14 +1,14 @@
 // wasm.rs with lent tables.
 ghost use Rattle.std.specs.Prelude.{◌≡◌, length};
-ghost use Rattle.refusal.specs.Said.{said_count};
+ghost use Rattle.refusal.specs.Said.{said_by};
 ghost use Rattle.wasm.specs.Module.{sizes, lend, said_module, module_at};
 ghost use Rattle.strict.specs.Rules.{strict_at};
 ghost use Rattle.import_rows.specs.Queries.{imported_of, namespaces_of};
 ghost use Rattle.requirements.specs.Requirements.{room_of, row_domain, module_rows};
-ghost use Rattle.judged.specs.Rows.{module_answer, count_told, ModuleTells, ListTells, RequireTells};
+ghost use Rattle.judged.specs.Rows.{part_told, module_answer, count_told, ModuleTells, ListTells, RequireTells};
 
-use refusal::Count;
-use wasm::ModuleRead;
+use refusal::{Part, Refusal};
+use wasm::Module;
 
 #[repr(C)]
 #[derive(Clone, Copy)]
@@ -35,25 +35,32 @@ pub struct CountTold {
     pub count: usize,
 }
 
-fn module_of(r: ModuleRead) -> ModuleTold
+// Where a name stands; 0, 0 where there is none.
+pub(crate) fn part_of(name: Option<Part>) -> Part
+    ensures { result ≡ part_told name }
+{
+    name.unwrap_or(Part { from: 0, len: 0 })
+}
+
+fn module_of(r: Result<Module, Refusal>) -> ModuleTold
     ensures { result ≡ module_answer (said_module r) }
 {
     match r {
-        ModuleRead::Module(m) => ModuleTold {
+        Ok(m) => ModuleTold {
             number: 0,
             place: 0,
             offset: 0,
             version: m.version,
             length: m.length,
-            named: m.named,
-            start: m.start,
-            size: m.size,
+            named: m.name.is_some(),
+            start: part_of(m.name).from,
+            size: part_of(m.name).len,
             sections: m.sections,
             imports: m.imports,
             exports: m.exports,
             symbols: m.symbols,
         },
-        ModuleRead::Refused(why) => ModuleTold {
+        Err(why) => ModuleTold {
             number: refusal::number(why),
             place: refusal::place(why),
             offset: refusal::beside(why),
@@ -70,16 +77,16 @@ fn module_of(r: ModuleRead) -> ModuleTold
     }
 }
 
-pub(crate) fn count_of(r: Count) -> CountTold
-    ensures { result ≡ count_told (said_count r) }
+pub(crate) fn count_of(r: Result<usize, Refusal>) -> CountTold
+    ensures { result ≡ count_told (said_by r) }
 {
     match r {
-        Count::Rows(count) => CountTold {
+        Ok(count) => CountTold {
             number: 0,
             place: 0,
             count,
         },
-        Count::Refused(why) => CountTold {
+        Err(why) => CountTold {
             number: refusal::number(why),
             place: refusal::place(why),
             count: 0,

@@ -8,7 +8,7 @@ ghost use Rattle.judged.specs.Compares.{change_at, word_told};
 ghost use Rattle.judged.specs.Words.{perhaps_number, domain_told};
 
 use crate::compares::{NameTold, change_of, name_of};
-use domains::{DomainFound, domain_number, domain_of};
+use domains::{domain_number, domain_of};
 use refusal::Slug;
 
 fn word_of(word: Slug, k: usize) -> NameTold
@@ -47,20 +47,18 @@ pub fn judged_change(change: usize, k: usize) -> NameTold
 pub fn judged_slug(word: &[u8]) -> usize
     ensures { result ≡ perhaps_number (domain_of word.now) }
 {
-    let found = domains::from_slug(word);
-    let DomainFound::Domain(d) = found else {
-        return 7;
-    };
-    domain_number(d)
+    match domains::from_slug(word) {
+        Some(d) => domain_number(d),
+        None => 7,
+    }
 }
 
 // Of the word of a domain, byte k; a number above 6 has no word.
 pub fn judged_domain(domain: usize, k: usize) -> NameTold
     ensures { result ≡ domain_told domain k }
 {
-    let found = domain_of(domain);
-    let DomainFound::Domain(d) = found else {
-        return NameTold { len: 0, byte: 0 };
-    };
-    word_of(domains::domain_slug(d), k)
+    match domain_of(domain) {
+        Some(d) => word_of(domains::domain_slug(d), k),
+        None => NameTold { len: 0, byte: 0 },
+    }
 }

@@ -1,4 +1,5 @@
 -- The rows that selected their marks are the missing ones. Assumes nothing.
+use Rattle.std.specs.Prelude.{Option}
 use mathlib.Core.Path.{◌≡◌, refl, ◌∙◌, ap}
 use mathlib.Core.Bool.{Bool, true, false, not}
 use mathlib.Core.List.{List}
@@ -16,7 +17,6 @@ use Rattle.sorting.proofs.Ranking.{up-to}
 use Rattle.sorting.proofs.Numbers.{sort-agree}
 use Rattle.sorting.specs.Keys.{Sorts}
 use Rattle.sorting.specs.declared.Keys.{Keys}
-use Rattle.sorting.specs.declared.Sorted.{Sorted}
 use Rattle.keyed.specs.Keying.{columns, wanted, same_key, some_other, lost_key, missing, Lacks}
 use Rattle.keyed.proofs.Listing.{sorts-whole, missing-few, lists-whole}
 use Rattle.keyed.proofs.Missing.{keep-agree}
@@ -67,7 +67,8 @@ module _ (first second keys found after : List ℕ) (nb n : ℕ) (every : Bool) 
       (lawful-rows first second keys (columns every)) (selected lost (up_from 0 n)) (λ x y i j. same-order x y)
 
 -- ---- the whole call
-pub whole-quick : (first second keys after : List ℕ) (nb n : ℕ) (every : Bool) {before numbers : List ℕ} {t : Bool} {r : Sorted} {k : Keys}
+pub whole-quick : (first second keys after : List ℕ) (nb n : ℕ) (every : Bool) {before numbers : List ℕ} {t : Bool}
+    {r : Option ℕ} {k : Keys}
     → ((e : Bool) → sorted_rows first second after (columns e) n ≡ missing first second keys nb n e) → nb ≤ n → k ≡ columns every
     → Sorts (sorted_rows first second after k n) before numbers r → n ≤ length before → t ≡ true
     → Lacks t (missing first second keys nb n every) before numbers r
@@ -77,7 +78,7 @@ whole-quick first second keys after nb n every {before} {numbers} {r = r} d with
     (omega (arith, missing-few first second keys nb n within every)) in
     lists-whole y refl w
 
-pub whole-slow : (first second : List ℕ) (nb n : ℕ) (every : Bool) {keys after before numbers : List ℕ} {t u : Bool} {r : Sorted}
+pub whole-slow : (first second : List ℕ) (nb n : ℕ) (every : Bool) {keys after before numbers : List ℕ} {t u : Bool} {r : Option ℕ}
     → after ≡ keys → t ≡ u → Lacks t (missing first second after nb n every) before numbers r
     → Lacks u (missing first second keys nb n every) before numbers r
 whole-slow first second nb n every e q l = rw (← e, ← q) l

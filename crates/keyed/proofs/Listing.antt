@@ -1,4 +1,5 @@
 -- A sorted list in a table that has room, and what the whole call answers. Assumes nothing.
+use Rattle.std.specs.Prelude.{Option, Some, None}
 use mathlib.Core.Path.{◌≡◌, refl, sym, ◌∙◌, ap}
 use mathlib.Core.Bool.{Bool, true, false}
 use mathlib.Core.List.{List, [], ◌∷◌}
@@ -11,7 +12,7 @@ use lib.Seq.{take_at}
 use Rattle.refusal.specs.Pick.{pick, both}
 use Rattle.refusal.specs.Said.{accepted}
 use Rattle.refusal.proofs.Following.{never}
-use Rattle.text.specs.declared.order.Order.{Order}
+use Rattle.std.specs.declared.cmp.Ordering.{Ordering}
 use Rattle.text.proofs.Laws.{both_one, both-two}
 use Rattle.table.specs.Table.{laid, cells, rows_of}
 use Rattle.table.specs.Entries.{fitting}
@@ -19,14 +20,13 @@ use Rattle.table.proofs.Laws.{length-laid}
 use Rattle.table.proofs.Reading.{finished-room}
 use Rattle.sorting.specs.Sort.{◌∈◌, sort, selected, up_from}
 use Rattle.sorting.specs.Keys.{row_order, row_marked, sorted_rows, other_rows, said_sorted, Sorts}
-use Rattle.sorting.specs.declared.Sorted.{Sorted}
-use Rattle.sorting.specs.declared.Sorted.TheVariants.{Rows, Full}
+use Rattle.sorting.specs.declared.Keys.{Keys}
 use Rattle.sorting.proofs.Sorts.{sort-length}
 use Rattle.keyed.specs.Keying.{columns, by_rank, same_key, lost_key, missing, holds_all, Whole, Lacks, single, ranked, lonely}
 use Rattle.keyed.proofs.Missing.{list, of-list, left-sorted}
 
 -- ---- a list in a table that has room for it
-pub sorts-whole : (l before after : List ℕ) (r : Sorted) → Sorts l before after r → length l ≤ length before → Whole l before after r
+pub sorts-whole : (l before after : List ℕ) (r : Option ℕ) → Sorts l before after r → length l ≤ length before → Whole l before after r
 unfolding fitting
 sorts-whole l before after r s h =
     record {
@@ -34,9 +34,9 @@ sorts-whole l before after r s h =
       table_is = s.table_is ∙ ap (laid (length before)) (rw (le-leb (length l) (length before) h));
     }
   where
-    by : (q : Sorted) → said_sorted 0 q ≡ accepted (length l) → q ≡ Rows (length l)
-    by (Rows m) e = ap Rows (cc)
-    by Full e = absurd (never e)
+    by : (q : Option ℕ) → said_sorted 0 q ≡ accepted (length l) → q ≡ Some (length l)
+    by (Some m) e = ap Some (cc)
+    by None e = absurd (never e)
 
 keep-length : (p : ℕ → Bool) (l : List ℕ) → length (selected p l) ≤ length l
 keep-length p [] = omega arith
@@ -50,7 +50,7 @@ up-length : (i n : ℕ) → length (up_from i n) ≡ n
 up-length i zero = refl
 up-length i (suc n) = ap suc (up-length (suc i) n)
 
-few : (cmp : ℕ → ℕ → Order) (p : ℕ → Bool) (n : ℕ) → length (sort cmp (selected p (up_from 0 n))) ≤ n
+few : (cmp : ℕ → ℕ → Ordering) (p : ℕ → Bool) (n : ℕ) → length (sort cmp (selected p (up_from 0 n))) ≤ n
 few cmp p n = omega (arith, sort-length cmp (selected p (up_from 0 n)), keep-length p (up_from 0 n), up-length 0 n)
 
 -- ---- room for every row
@@ -77,31 +77,35 @@ module _ (first second keys : List ℕ) (n : ℕ) where
   unfolding sorted_rows
   list-few = few (row_order first second keys (columns true)) (row_marked first second keys (columns true)) n
 
-  module _ {before after : List ℕ} {r : Sorted} (s : Sorts (list first second keys n) before after r) (room : n ≤ length before) where
+  module _ {before after : List ℕ} {r : Option ℕ} {k : Keys} (c : k ≡ columns true)
+      (s : Sorts (sorted_rows first second keys k n) before after r) (room : n ≤ length before) where
     abbrev whole : Whole (list first second keys n) before after r
-    whole = sorts-whole (list first second keys n) before after r s (omega (arith, list-few))
+    whole =
+        let l : Sorts (list first second keys n) before after r = rw c at s in
+        sorts-whole (list first second keys n) before after r l (omega (arith, list-few))
 
-    pub not_full : r ≡ Full → ⊥
+    pub not_full : r ≡ None → ⊥
     not_full e = let q = sym e ∙ whole.answer-is in let z : ◌≡◌ {A = ℕ} 0 1 = cc in omega arith
 
-    pub list_count : (m : ℕ) → r ≡ Rows m → m ≤ length after
+    pub list_count : (m : ℕ) → r ≡ Some m → m ≤ length after
     list_count m e =
         let q = sym e ∙ whole.answer-is in
         let k : m ≡ length (list first second keys n) = cc in
         omega (arith, ap length whole.table_is, length-laid (length before) (list first second keys n) (omega (arith, list-few)), list-few)
 
-    pub list-is : (m : ℕ) → r ≡ Rows m → take m after ≡ list first second keys n
+    pub list-is : (m : ℕ) → r ≡ Some m → take m after ≡ list first second keys n
     unfolding laid
     list-is m e =
         let q = sym e ∙ whole.answer-is in
         let k : length (list first second keys n) ≡ m = cc in
-        ap (take m) whole.table_is ∙ take_at (list first second keys n) (replicate (length before - length (list first second keys n)) 0) m k
+        ap (take m) whole.table_is
+        ∙ take_at (list first second keys n) (replicate (length before - length (list first second keys n)) 0) m k
 
     pub list_length : length after ≡ length before
     list_length =
         ap length whole.table_is ∙ length-laid (length before) (list first second keys n) (omega (arith, list-few))
 
-    pub list-fits : (m : ℕ) → r ≡ Rows m → (size : ℕ) → n ≤ size → (i : ℕ) → i ∈ take m after → i < size
+    pub list-fits : (m : ℕ) → r ≡ Some m → (size : ℕ) → n ≤ size → (i : ℕ) → i ∈ take m after → i < size
     list-fits m e size h i k = omega (arith, (of-list first second keys n i (rw (list-is m e) at k)).0)
 
 -- ---- the answer
@@ -122,7 +126,7 @@ module _ (first second keys : List ℕ) (nb n : ℕ) (within : nb ≤ n) (every 
       (e ∙ ap (ranked (same_key first second keys) (list first second keys n)) z))
       ∙ left-sorted first second keys n size h nb within total every
 
-  pub missing-done : (size total : ℕ) → n ≤ size → {zeros rs marks numbers before after : List ℕ} {r : Sorted}
+  pub missing-done : (size total : ℕ) → n ≤ size → {zeros rs marks numbers before after : List ℕ} {r : Option ℕ}
       → zeros ≡ laid size []
       → rs ≡ ranked (same_key first second keys) (list first second keys n) zeros
       → marks ≡ laid total (cells single (rows_of (lonely rs nb n) n))
@@ -134,11 +138,11 @@ module _ (first second keys : List ℕ) (nb n : ℕ) (within : nb ≤ n) (every 
       let w = sorts-whole l numbers after r (rw (left_as size total h z e q) at s) (omega (arith, missing-few)) in
       record { answer-is = w.answer-is; table_is = w.table_is ∙ ap (λ (m : ℕ). laid m l) k }
 
-pub lists-whole : {l zeros before after : List ℕ} {t : Bool} {r : Sorted} → t ≡ true → length zeros ≡ length before
+pub lists-whole : {l zeros before after : List ℕ} {t : Bool} {r : Option ℕ} → t ≡ true → length zeros ≡ length before
     → Whole l zeros after r → Lacks t l before after r
 lists-whole {l = l} e k w = record { answer-is = rw e w.answer-is; table_is = rw e (w.table_is ∙ ap (λ (m : ℕ). laid m l) k) }
 
-pub lists-none : {l before after : List ℕ} {t : Bool} → t ≡ false → after ≡ laid (length before) [] → Lacks t l before after Full
+pub lists-none : {l before after : List ℕ} {t : Bool} → t ≡ false → after ≡ laid (length before) [] → Lacks t l before after None
 lists-none e h = record { answer-is = rw e; table_is = rw e h }
 
 -- a table that was cleared

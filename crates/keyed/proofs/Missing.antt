@@ -11,8 +11,8 @@ use lib.ListN.{length, get_or, get_or-append}
 use lib.Seq.{get_or-append-add}
 use Rattle.refusal.specs.Pick.{pick, both}
 use Rattle.text.specs.Order.{cmp_nat, and_then, cmp_bytes}
-use Rattle.text.specs.declared.order.Order.{Order}
-use Rattle.text.specs.declared.order.Order.TheVariants.{Less, Equal, Greater}
+use Rattle.std.specs.declared.cmp.Ordering.{Ordering}
+use Rattle.std.specs.declared.cmp.Ordering.TheVariants.{Less, Equal, Greater}
 use Rattle.text.proofs.OrderLaws.{cmp-refl}
 use Rattle.table.specs.Table.{cell_of, range_of, laid, cells, rows_of}
 use Rattle.table.proofs.Laws.{length-laid, length-rows, cell-laid, zero-past}
@@ -32,7 +32,7 @@ use Rattle.keyed.proofs.Searching.{like, other-agree}
 never : true ≡ false → ⊥
 never e = let z : ◌≡◌ {A = ℕ} 0 1 = cc in omega arith
 
-then-last : (a b c p : Order) → and_then a (and_then b (and_then c p)) ≡ and_then (and_then a (and_then b (and_then c Equal))) p
+then-last : (a b c p : Ordering) → and_then a (and_then b (and_then c p)) ≡ and_then (and_then a (and_then b (and_then c Equal))) p
 then-last Less b c p = refl
 then-last Equal Less c p = refl
 then-last Equal Equal Less p = refl
@@ -41,7 +41,7 @@ then-last Equal Equal Greater p = refl
 then-last Equal Greater c p = refl
 then-last Greater b c p = refl
 
-less-greater : (o p : Order) → and_then o p ≡ Less → o ≡ Greater → ⊥
+less-greater : (o p : Ordering) → and_then o p ≡ Less → o ≡ Greater → ⊥
 less-greater Less p e h = let z : ◌≡◌ {A = ℕ} 0 1 = cc in omega arith
 less-greater Equal p e h = let z : ◌≡◌ {A = ℕ} 0 1 = cc in omega arith
 less-greater Greater p e h = let z : ◌≡◌ {A = ℕ} 0 1 = cc in omega arith

@@ -9,8 +9,8 @@ use native.Mathlib.Omega.{arith}
 use lib.ListN.{length, get_or, set, drop, length-set}
 use lib.Seq.{get_or-set_same, get_or-set_other}
 use Rattle.text.specs.Order.{cmp_nat, flip}
-use Rattle.text.specs.declared.order.Order.{Order}
-use Rattle.text.specs.declared.order.Order.TheVariants.{Less, Equal, Greater}
+use Rattle.std.specs.declared.cmp.Ordering.{Ordering}
+use Rattle.std.specs.declared.cmp.Ordering.TheVariants.{Less, Equal, Greater}
 use Rattle.text.proofs.OrderLaws.{Tri, below, at, above, tri}
 use Rattle.text.proofs.Laws.{left-next, left-none}
 use Rattle.sorting.specs.Order.{Joins, Lawful}
@@ -21,13 +21,13 @@ use Rattle.differences.specs.Differences.{ties}
 use Rattle.keyed.specs.Keying.{rank_after, ranked_from, ranked}
 
 -- ---- answers of comparisons
-no-greater : {o : Order} → o ≡ Less → o ≡ Greater → ⊥
+no-greater : {o : Ordering} → o ≡ Less → o ≡ Greater → ⊥
 no-greater p q = let z : ◌≡◌ {A = ℕ} 0 1 = cc in omega arith
 
-no_tie : {o : Order} → o ≡ Less → o ≡ Equal → ⊥
+no_tie : {o : Ordering} → o ≡ Less → o ≡ Equal → ⊥
 no_tie p q = let z : ◌≡◌ {A = ℕ} 0 1 = cc in omega arith
 
-tie-no-greater : {o : Order} → o ≡ Equal → o ≡ Greater → ⊥
+tie-no-greater : {o : Ordering} → o ≡ Equal → o ≡ Greater → ⊥
 tie-no-greater p q = let z : ◌≡◌ {A = ℕ} 0 1 = cc in omega arith
 
 less-nat : (x y : ℕ) → cmp_nat x y ≡ Less → x < y
@@ -47,14 +47,14 @@ up-nat x y q = by (tri x y)
     by (above h e) = absurd (q e)
 
 -- the rank that comes next stands to the rank before it as the keys do
-next-is : (o : Order) (r : ℕ) → (o ≡ Greater → ⊥) → cmp_nat r (rank_after (ties o) r) ≡ o
+next-is : (o : Ordering) (r : ℕ) → (o ≡ Greater → ⊥) → cmp_nat r (rank_after (ties o) r) ≡ o
 unfolding rank_after
 next-is Less r h = nat-less r (r + 1) (omega arith)
 next-is Equal r h = nat-same r r refl
 next-is Greater r h = absurd (h refl)
 
 -- and so does every later one
-later-is : (o b c : Order) (r v : ℕ) → Joins o b c → (o ≡ Greater → ⊥) → (b ≡ Greater → ⊥)
+later-is : (o b c : Ordering) (r v : ℕ) → Joins o b c → (o ≡ Greater → ⊥) → (b ≡ Greater → ⊥)
     → cmp_nat (rank_after (ties o) r) v ≡ b → cmp_nat r v ≡ c
 unfolding rank_after
 later-is Less Less c r v j h k e = nat-less r v (omega (arith, less-nat (r + 1) v e)) ∙ sym j
@@ -63,7 +63,7 @@ later-is Less Greater c r v j h k e = absurd (k refl)
 later-is Equal b c r v j h k e = e ∙ sym j
 later-is Greater b c r v j h k e = absurd (h refl)
 
-module _ (cmp : ℕ → ℕ → Order) (laws : Lawful cmp) where
+module _ (cmp : ℕ → ℕ → Ordering) (laws : Lawful cmp) where
   abbrev same : ℕ → ℕ → Bool
   same i j = ties (cmp i j)
 
@@ -125,7 +125,8 @@ module _ (cmp : ℕ → ℕ → Order) (laws : Lawful cmp) where
   both-are p r [] t u f x y m k = absurd (Memᴰ.not-nil m)
   both-are p r (i ∷ l) t u f x y m k =
       by (Memᴰ.cases_cons m) (Memᴰ.cases_cons k)
-      (λ a b. both-are i (rank_after (same p i) r) l (set t i (rank_after (same p i) r)) u.2 (fits-rest i (rank_after (same p i) r) l t f) x y a b)
+      (λ a b. both-are i (rank_after (same p i) r) l (set t i (rank_after (same p i) r)) u.2
+      (fits-rest i (rank_after (same p i) r) l t f) x y a b)
     where
       s : ℕ
       s = rank_after (same p i) r
@@ -140,7 +141,8 @@ module _ (cmp : ℕ → ℕ → Order) (laws : Lawful cmp) where
       tail-is z q = from_is i s l (set t i s) u.0 u.2 (fits-rest i s l t f) z q
 
       by : (x ≡ i) ⊎ (x ∈ l) → (y ≡ i) ⊎ (y ∈ l)
-          → (x ∈ l → y ∈ l → cmp_nat (get_or (ranked_from same i s l (set t i s)) x 0) (get_or (ranked_from same i s l (set t i s)) y 0) ≡ cmp x y)
+          → (x ∈ l → y ∈ l
+          → cmp_nat (get_or (ranked_from same i s l (set t i s)) x 0) (get_or (ranked_from same i s l (set t i s)) y 0) ≡ cmp x y)
           → cmp_nat (at x) (at y) ≡ cmp x y
       by (inl a) (inl b) ih = rw (a, b) (nat-same (at i) (at i) refl ∙ sym (tie-self cmp laws i))
       by (inl a) (inr b) ih = rw a (ap (λ (v : ℕ). cmp_nat v (at y)) head-is ∙ tail-is y b)
@@ -174,7 +176,7 @@ module _ (cmp : ℕ → ℕ → Order) (laws : Lawful cmp) where
     ranks-other (i ∷ l) x n = untouched i 1 (i ∷ l) t x n
 
 -- ---- a list that ascends by a finer order rises
-module _ (cmp fine : ℕ → ℕ → Order) (laws : Lawful cmp) (finer : Lawful fine)
+module _ (cmp fine : ℕ → ℕ → Ordering) (laws : Lawful cmp) (finer : Lawful fine)
     (then : (x y : ℕ) → fine x y ≡ Less → cmp x y ≡ Greater → ⊥) where
   pub ascending-rises : (l : List ℕ) → Ascending fine l → Rising cmp laws l
   ascending-rises [] a = tt

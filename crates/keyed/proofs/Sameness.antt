@@ -1,16 +1,17 @@
 -- Rows with one key, by what the calls on their cells answer; and room for every row. Assumes nothing.
-use mathlib.Core.Path.{◌≡◌, refl, sym, ◌∙◌}
-use mathlib.Core.Bool.{Bool, true, false}
+use mathlib.Core.Path.{◌≡◌, refl, sym, ◌∙◌, ap}
+use mathlib.Core.Bool.{Bool, true, false, ◌&&◌}
 use mathlib.Core.List.{List, [], ◌∷◌}
-use Prim.Native.Nat.{ℕ, ◌+◌, ◌≤◌, ◌<◌}
+use Prim.Native.Nat.{ℕ, ◌+◌, ◌<◌}
 use native.Mathlib.Omega.{arith}
-use borrow.Author.Tests.{eq-eqb, ne_eqb, eqb-true, le-leb, lt-leb}
-use lib.Dec.{eqb, leb}
+use borrow.Author.Tests.{eq-eqb, ne_eqb, eqb-true, lt-leb}
+use lib.Dec.{eqb}
+use Rattle.std.specs.Cmp.Lexicographic.{pointwise}
 use Rattle.refusal.specs.Pick.{both}
 use Rattle.text.specs.Find.{same}
 use Rattle.text.specs.Order.{cmp_nat, and_then, cmp_bytes}
-use Rattle.text.specs.declared.order.Order.{Order}
-use Rattle.text.specs.declared.order.Order.TheVariants.{Less, Equal, Greater}
+use Rattle.std.specs.declared.cmp.Ordering.{Ordering}
+use Rattle.std.specs.declared.cmp.Ordering.TheVariants.{Less, Equal, Greater}
 use Rattle.text.proofs.OrderLaws.{Tri, below, at, above, tri}
 use Rattle.text.proofs.Laws.{both_yes, both-no, both_one, both-two}
 use Rattle.text.proofs.FindLaws.{same-is}
@@ -20,7 +21,7 @@ use Rattle.differences.specs.Differences.{ties}
 use Rattle.keyed.specs.Keying.{name_in, key_order, same_key, rank_after, holds_all}
 
 -- ---- ties
-pub ties-then : (o p : Order) → ties (and_then o p) ≡ both (ties o) (ties p)
+pub ties-then : (o p : Ordering) → ties (and_then o p) ≡ both (ties o) (ties p)
 ties-then Less p = refl
 ties-then Equal p = refl
 ties-then Greater p = refl
@@ -39,6 +40,18 @@ ties-bytes [] [] = refl
 ties-bytes [] (y ∷ t) = refl
 ties-bytes (x ∷ s) [] = refl
 ties-bytes (x ∷ s) (y ∷ t) = ties-then (cmp_nat x y) (cmp_bytes s t) ∙ rw (ties-nat x y, ties-bytes s t)
+
+-- the test of the library says the same
+and-both : (a b : Bool) → (a && b) ≡ both a b
+and-both true b = refl
+and-both false b = refl
+
+pub equal-is : (s t : List ℕ) → pointwise eqb s t ≡ same t s
+unfolding same
+equal-is [] [] = refl
+equal-is [] (y ∷ t) = refl
+equal-is (x ∷ s) [] = refl
+equal-is (x ∷ s) (y ∷ t) = and-both (eqb x y) (pointwise eqb s t) ∙ ap (both (eqb x y)) (equal-is s t)
 
 -- ---- two rows
 module _ (first second keys : List ℕ) (i j : ℕ) where
@@ -117,11 +130,3 @@ module _ (nb nc a b c : ℕ) where
   pub no-ranks : a < nb + nc → false ≡ holds_all (nb + nc) a b c
   unfolding holds_all
   no-ranks h = rw (lt-leb (nb + nc) a h)
-
-  pub no-marks : nb + nc ≤ a → b < nb + nc → false ≡ holds_all (nb + nc) a b c
-  unfolding holds_all
-  no-marks h k = rw (le-leb (nb + nc) a h, lt-leb (nb + nc) b k)
-
-  pub room-numbers : nb + nc ≤ a → nb + nc ≤ b → leb (nb + nc) c ≡ holds_all (nb + nc) a b c
-  unfolding holds_all
-  room-numbers h k = rw (le-leb (nb + nc) a h, le-leb (nb + nc) b k)

@@ -1,20 +1,22 @@
 -- The search by prints. Assumes nothing.
+use Rattle.std.specs.Prelude.{Option, Some}
+use Rattle.std.specs.Int.{from_bool}
 use mathlib.Core.Path.{◌≡◌, refl, sym, ◌∙◌, ap}
 use mathlib.Core.Bool.{Bool, true, false}
 use mathlib.Core.List.{List}
 use Prim.Native.Nat.{ℕ, ◌+◌, ◌-◌, ◌≤◌, ◌<◌}
 use native.Mathlib.Omega.{arith}
-use borrow.Author.Tests.{eq-eqb, ne_eqb, eqb-true, eqb-false, ltb-true, ltb-false}
-use lib.Dec.{eqb, ltb}
+use borrow.Author.Tests.{eq-eqb, ne_eqb, ltb-true, ltb-false}
+use lib.Dec.{ltb}
 use lib.ListN.{get_or}
-use Rattle.refusal.specs.Pick.{both}
+use Rattle.refusal.specs.Pick.{pick, both}
 use Rattle.text.proofs.Laws.{both-no}
 use Rattle.table.specs.Table.{cell_of}
 use Rattle.sorting.specs.Keys.{row_marked}
 use Rattle.differences.specs.Numbers.{some_from}
 use Rattle.keyed.specs.Keying.{wanted, same_key, others_of, some_other}
 use Rattle.keyed.proofs.Searching.{some-pass}
-use Rattle.keyed.specs.declared.marks.Span.{Span}
+use Rattle.std.specs.declared.ops.Range.{Range}
 use Rattle.keyed.specs.declared.quick.Sought.{Sought}
 use Rattle.keyed.specs.Quick.{meets_key, Printed, Unlike, Seeks, found_mark}
 
@@ -23,7 +25,8 @@ module _ (first second keys : List ℕ) (i j : ℕ) where
   unfolding meets_key wanted row_marked
   not-wanted e h = rw (ne_eqb (cell_of keys 6 j 5) 1 (λ q. h (e ∙ q)))
 
-  pub key-decides : {m : ℕ} {r : Bool} → m ≡ cell_of keys 6 j 5 → m ≡ 1 → r ≡ same_key first second keys i j → r ≡ meets_key first second keys i j
+  pub key-decides : {m : ℕ} {r : Bool} → m ≡ cell_of keys 6 j 5 → m ≡ 1 → r ≡ same_key first second keys i j
+      → r ≡ meets_key first second keys i j
   unfolding meets_key wanted row_marked
   key-decides e h q = rw (eq-eqb (cell_of keys 6 j 5) 1 (sym e ∙ h)) q
 
@@ -37,14 +40,7 @@ module _ (first second keys : List ℕ) (i j : ℕ) where
       by true q = absurd (d (sym (h i j l m q) ∙ sym e))
       by false q = both-no (wanted first second keys j)
 
--- one row more, and a run more
-pub unlike-one : (prints : List ℕ) (p from j k : ℕ) → k ≡ j + 1 → Unlike prints p from j → (get_or prints j 0 ≡ p → ⊥) → Unlike prints p from k
-unlike-one prints p from j k e d h m a b = by (eqb m j) refl
-  where
-    by : (t : Bool) → eqb m j ≡ t → get_or prints m 0 ≡ p → ⊥
-    by true q s = h (ap (λ (x : ℕ). get_or prints x 0) (sym (eqb-true m j q)) ∙ s)
-    by false q s = let z : m ≡ j → ⊥ = eqb-false m j q in d m a (omega arith) s
-
+-- a run more
 pub unlike-join : (prints : List ℕ) (p from j k : ℕ) → Unlike prints p from j → Unlike prints p j k → Unlike prints p from k
 unlike-join prints p from j k d f m a b = by (ltb m j) refl
   where
@@ -62,20 +58,16 @@ unlike-pass first second keys i n from j to prints l a b m h e d =
     (λ q x y. prints-differ first second keys i q n prints l (omega arith) h e (d q x (omega arith)))
     ∙ ap (λ (x : ℕ). some_from (meets_key first second keys i) x (to - x)) k
 
--- ---- what a search says
-pub seeks-met : {t : Bool} {x : ℕ} → t ≡ true → Seeks t (record { state = 1; left = x })
-seeks-met e =
-    record { met = λ q. e; none = λ q. absurd (omega arith); ends = λ h. rw e }
-
-pub seeks-none : {t : Bool} {x : ℕ} → t ≡ false → Seeks t (record { state = 0; left = x })
-seeks-none e = record { met = λ q. absurd (omega arith); none = λ q. e; ends = λ h. rw e }
-
-pub seeks-dear : {t : Bool} {x : ℕ} → Seeks t (record { state = 2; left = x })
-seeks-dear = record { met = λ q. absurd (omega arith); none = λ q. absurd (omega arith); ends = λ h. absurd (h refl) }
-
 -- ---- the rows of the other list
-pub found-is : (first second keys : List ℕ) (nb n i : ℕ) {o : Span} {s : Sought} → o ≡ others_of nb n i
-    → Seeks (some_from (meets_key first second keys i) o.from (o.to - o.from)) s → (s.state ≡ 2 → ⊥)
-    → s.state ≡ found_mark first second keys nb n i
+from-bool : (t : Bool) → from_bool t ≡ pick t 1 0
+from-bool true = refl
+from-bool false = refl
+
+pub found-is : (first second keys : List ℕ) (nb n i : ℕ) {o : Range ℕ} {s : Option Sought} {x : Sought} → o ≡ others_of nb n i
+    → Seeks (some_from (meets_key first second keys i) o.start (o.end - o.start)) s → s ≡ Some x
+    → from_bool x.met ≡ found_mark first second keys nb n i
 unfolding found_mark some_other
-found-is first second keys nb n i e k h = rw (← e) (k.ends h)
+found-is first second keys nb n i {x = x} e k h =
+    let q : x.met ≡ some_from (meets_key first second keys i) (others_of nb n i).start ((others_of nb n i).end - (others_of nb n i).start) =
+    rw (e, h) at k in
+    from-bool x.met ∙ rw q

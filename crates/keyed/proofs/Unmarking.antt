@@ -2,21 +2,18 @@
 use mathlib.Core.Path.{◌≡◌, refl, sym, ◌∙◌, ap}
 use mathlib.Core.Bool.{Bool, true, false}
 use mathlib.Core.List.{List}
-use Prim.Native.Nat.{ℕ, ◌+◌, ◌*◌, ◌/◌, ◌≤◌, ◌<◌}
+use Prim.Native.Nat.{ℕ, ◌+◌, ◌*◌, ◌<◌}
 use native.Mathlib.Omega.{arith}
 use borrow.Author.Tests.{lt-ltb, le-ltb, ltb-true, ltb-false, eq-eqb, ne_eqb, eqb-true, eqb-false}
 use lib.Dec.{eqb, ltb}
 use lib.ListN.{length, get_or, set, length-set, get_or-eq_default}
-use lib.Seq.{get_or-set_same, get_or-set_other, set_out}
+use lib.Seq.{get_or-set_same, get_or-set_other}
 use Rattle.refusal.specs.Pick.{pick, both}
 use Rattle.table.specs.Table.{cell_of}
-use Rattle.table.proofs.Cells.{cell-there, row-leaves}
+use Rattle.table.proofs.Cells.{cell-there}
 use Rattle.keyed.specs.Quick.{Unmarked}
 
 -- ---- one row
-pub row_out : (l : List ℕ) (i : ℕ) → length l / 6 ≤ i → l ≡ set l (i * 6 + 5) 0
-row_out l i h = sym (set_out l (i * 6 + 5) 0 (omega (arith, row-leaves (length l) 6 i (omega arith) h)))
-
 module _ (l : List ℕ) (k : ℕ) where
   abbrev less : List ℕ
   less = set l (k * 6 + 5) 0
@@ -98,6 +95,3 @@ module _ (keys found : List ℕ) where
             let v : i ≡ k = eqb-true i k q in
             rw (below i b p true q, q, v, eq-eqb (get_or found k 0) 1 here)
         by i b p false q = rw (below i b p false q, q) (u.marks i ∙ rw p)
-
-pub all-taken : (keys found : List ℕ) (i n : ℕ) {now : List ℕ} → i ≤ n → n ≤ i → Unmarked keys found i now → Unmarked keys found n now
-all-taken keys found i n h k u = let e : n ≡ i = omega arith in rw e u

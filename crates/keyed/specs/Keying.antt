@@ -1,16 +1,14 @@
 -- Two lists of keys as rows of one table, and the rows of each whose key the other lacks. Assumes nothing.
-use Rattle.std.specs.Prelude.{◌≡◌, Bool, false, not, List, [], ◌∷◌, ℕ, ◌+◌, ◌-◌, eqb, leb, ltb, length, get_or, set}
+use Rattle.std.specs.Prelude.{◌≡◌, Bool, false, not, List, [], ◌∷◌, ℕ, ◌+◌, ◌-◌, eqb, leb, ltb, length, get_or, set, Option, Some, None}
 use Rattle.refusal.specs.Pick.{pick, both}
-use Rattle.text.specs.declared.order.Order.{Order}
+use Rattle.std.specs.declared.cmp.Ordering.{Ordering}
 use Rattle.table.specs.Table.{laid}
 use Rattle.sorting.specs.Sort.{sort, selected, up_from}
 use Rattle.sorting.specs.Keys.{name_of, row_order, row_marked}
 use Rattle.sorting.specs.declared.Keys.{Keys}
-use Rattle.sorting.specs.declared.Sorted.{Sorted}
-use Rattle.sorting.specs.declared.Sorted.TheVariants.{Rows, Full}
 use Rattle.differences.specs.Differences.{ties}
 use Rattle.differences.specs.Numbers.{some_from}
-use Rattle.keyed.specs.declared.marks.Span.{Span}
+use Rattle.std.specs.declared.ops.Range.{Range}
 
 -- the cells of a row
 abbrev pub key_width : ℕ
@@ -22,12 +20,12 @@ abbrev pub columns : Bool → Keys
 columns every = record { width = 6; mark = 5; value = 1; major = 3; file = 0; from = 1; len = 2; minor = 4; every = every }
 
 -- where the rows of the other list start, and where they end
-unfoldable pub others_of : ℕ → ℕ → ℕ → Span
-others_of nb n i = pick (ltb i nb) (record { from = nb; to = n }) (record { from = 0; to = nb })
+unfoldable pub others_of : ℕ → ℕ → ℕ → Range ℕ
+others_of nb n i = pick (ltb i nb) (record { start = nb; end = n }) (record { start = 0; end = nb })
 
 -- one of the rows of the other list passes
 unfoldable pub some_other : (ℕ → Bool) → ℕ → ℕ → ℕ → Bool
-some_other p nb n i = let o = others_of nb n i in some_from p o.from (o.to - o.from)
+some_other p nb n i = let o = others_of nb n i in some_from p o.start (o.end - o.start)
 
 module _ (first second keys : List ℕ) where
   -- the name of row i
@@ -35,7 +33,7 @@ module _ (first second keys : List ℕ) where
   name_in i = name_of first second keys (columns false) i
 
   -- by the number before the name, the name, the number after it
-  unfoldable pub key_order : ℕ → ℕ → Order
+  unfoldable pub key_order : ℕ → ℕ → Ordering
   key_order i j = row_order first second keys (columns false) i j
 
   -- rows i and j have one key
@@ -59,13 +57,13 @@ unfoldable pub holds_all : ℕ → ℕ → ℕ → ℕ → Bool
 holds_all n a b c = both (leb n a) (both (leb n b) (leb n c))
 
 -- all of the list, then zeros
-pub record Whole (l before after : List ℕ) (r : Sorted) : Type 0 where
-  pub answer-is : r ≡ Rows (length l)
+pub record Whole (l before after : List ℕ) (r : Option ℕ) : Type 0 where
+  pub answer-is : r ≡ Some (length l)
   pub table_is : after ≡ laid (length before) l
 
 -- all of the list, then zeros; or no room, and zeros throughout
-pub record Lacks (room : Bool) (l before after : List ℕ) (r : Sorted) : Type 0 where
-  pub answer-is : r ≡ pick room (Rows (length l)) Full
+pub record Lacks (room : Bool) (l before after : List ℕ) (r : Option ℕ) : Type 0 where
+  pub answer-is : r ≡ pick room (Some (length l)) None
   pub table_is : after ≡ laid (length before) (pick room l [])
 
 -- ---- how the code goes: ranks

@@ -1,5 +1,6 @@
 -- What the quick path says. Assumes nothing.
 use Rattle.std.specs.Prelude.{◌≡◌, Bool, true, false, List, [], ◌∷◌, ℕ, ◌+◌, ◌-◌, ◌*◌, ◌%◌, ◌≤◌, ◌<◌, eqb, ltb, length, get_or}
+use Rattle.std.specs.Prelude.{Option, Some, None}
 use Rattle.table.specs.Table.{cell_of, range_of}
 use Rattle.refusal.specs.Pick.{pick, both}
 use Rattle.sorting.specs.Keys.{sorted_rows}
@@ -49,10 +50,9 @@ pub record Unmarked (keys found : List ℕ) (n : ℕ) (after : List ℕ) : Type 
   pub marks : (i : ℕ) → cell_of after 6 i 5 ≡ pick (both (ltb i n) (eqb (get_or found i 0) 1)) 0 (cell_of keys 6 i 5)
 
 -- a search that ended says what it found
-pub record Seeks (t : Bool) (s : Sought) : Type 0 where
-  pub met : s.state ≡ 1 → t ≡ true
-  pub none : s.state ≡ 0 → t ≡ false
-  pub ends : (s.state ≡ 2 → ⊥) → s.state ≡ pick t 1 0
+abbrev pub Seeks : Bool → Option Sought → Type 0
+Seeks t (Some s) = s.met ≡ t
+Seeks t None = Unit {0}
 
 -- the rows that selected their marks, sorted, are the missing ones
 pub record Tried (first second keys : List ℕ) (nb n : ℕ) (after : List ℕ) (r : Bool) : Type 0 where

@@ -11,7 +11,7 @@ ghost use Rattle.keyed.specs.Keying.{columns, missing, holds_all, Lacks};
 
 use crate::quick::try_quick;
 use crate::ranks::list_by_rank;
-use sorting::{Keys, Sorted};
+use sorting::Keys;
 
 // A row has six cells: the list, 0 or 1, whose bytes its name lies in; the name's range; a number that counts before the name and one
 // that counts after it; and 1 where the row is wanted.
@@ -50,17 +50,10 @@ pub(crate) fn columns(every: bool) -> Keys
 pub(crate) fn has_room(nb: usize, nc: usize, ranks: usize, lost: usize, numbers: usize) -> bool
     ensures { result ≡ holds_all (nb + nc) ranks lost numbers }
 {
-    if ranks < nb {
-        return false;
+    match nb.checked_add(nc) {
+        Some(n) => n <= ranks && n <= lost && n <= numbers,
+        None => false,
     }
-    if ranks - nb < nc {
-        return false;
-    }
-    let n = nb + nc;
-    if lost < n {
-        return false;
-    }
-    n <= numbers
 }
 
 // By prints, as long as a budget of bytes lasts, and else by ranks.
@@ -74,14 +67,14 @@ fn list_in<'a, 'b, 'c, 'd, 'e>(
     ranks: &'c mut [usize],
     lost: &'d mut [usize],
     numbers: &'e mut [usize],
-) -> Sorted
+) -> Option<usize>
     ensures { Lacks (holds_all (nb + nc) (length ranks.old) (length lost.old) (length numbers.old))
         (missing first.now second.now keys.old nb (nb + nc) every)
         numbers.old numbers.new result }
 {
     if !has_room(nb, nc, ranks.len(), lost.len(), numbers.len()) {
         table::clear(numbers);
-        return Sorted::Full;
+        return None;
     }
     let n = nb + nc;
     if try_quick(first, second, keys, nb, n, ranks, lost) {
@@ -102,7 +95,7 @@ pub fn list_missing<'a, 'b, 'c, 'd, 'e>(
     ranks: &'c mut [usize],
     lost: &'d mut [usize],
     numbers: &'e mut [usize],
-) -> Sorted
+) -> Option<usize>
     ensures { (Lacks (holds_all (nb + nc) (length ranks.old) (length lost.old) (length numbers.old))
         (missing first.now second.now keys.old nb (nb + nc) every)
         numbers.old numbers.new result)

@@ -27,10 +27,8 @@ fn mix(bytes: &[u8], start: usize) -> usize
     ensures { (result ≡ mixed_print start bytes.now) × (result < 4294967296) }
 {
     let mut print = start;
-    let mut i = 0;
-    while i < bytes.len() {
-        print = (print * SPREAD + bytes[i] as usize) % PRINTS;
-        i += 1;
+    for &byte in bytes {
+        print = (print * SPREAD + byte as usize) % PRINTS;
     }
     print
 }
@@ -76,11 +74,8 @@ fn fill_prints<'a, 'b, 'c>(
     ensures { prints.new ≡ laid (length prints.old)
         (cells single (rows_of (print_at first.now second.now keys.now) n)) }
 {
-    let mut i = 0;
-    while i < n {
-        let print = print_at(first, second, keys, i);
-        table::put_row(prints, i, &[print]);
-        i += 1;
+    for i in 0..n {
+        table::put_row(prints, i, &[print_at(first, second, keys, i)]);
     }
 }
 
@@ -90,12 +85,8 @@ fn none_like(prints: &[usize], print: usize, at: usize) -> bool
     ensures { result ≡ true → Unlike prints.now print at (at + 16) }
 {
     let mut met = false;
-    let mut i = 0;
-    while i < BLOCK {
-        if prints[at + i] == print {
-            met = true;
-        }
-        i += 1;
+    for &other in &prints[at..at + BLOCK] {
+        met |= other == print;
     }
     !met
 }
@@ -120,34 +111,30 @@ fn next_like(prints: &[usize], print: usize, from: usize, to: usize) -> usize
     requires { (from ≤ to) × (to ≤ length prints.now) }
     ensures { (from ≤ result) × (result ≤ to) × Unlike prints.now print from result }
 {
-    let mut j = pass_blocks(prints, print, from, to);
-    while j < to {
+    for j in pass_blocks(prints, print, from, to)..to {
         if prints[j] == print {
             return j;
         }
-        j += 1;
     }
-    j
+    to
 }
 
 // Row j is wanted, and its key is that of row i.
 fn meets<'a, 'b>(first: &'a [u8], second: &'a [u8], keys: &'b [usize], i: usize, j: usize) -> bool
     ensures { result ≡ meets_key first.now second.now keys.now i j }
 {
-    if table::cell(keys, KEY_WIDTH, j, KEY_MARK) != 1 {
-        return false;
-    }
-    same_key(first, second, keys, i, j)
+    table::cell(keys, KEY_WIDTH, j, KEY_MARK) == 1 && same_key(first, second, keys, i, j)
 }
 
-// 0 where no row has the key, 1 where one has it, 2 where the budget did not last; and what is left of it.
+// Whether a row has the key, and what is left of the budget.
 #[derive(Clone, Copy)]
 pub(crate) struct Sought {
-    state: usize,
+    met: bool,
     left: usize,
 }
 
-// The key of row i among rows `from` to before `to`. A row of its print with another key costs the length of the name, and one.
+// The key of row i among rows `from` to before `to`; none where the budget did not last. A row of its print with another key costs the
+// length of the name, and one.
 fn seek<'a, 'b, 'c>(
     first: &'a [u8],
     second: &'a [u8],
@@ -158,7 +145,7 @@ fn seek<'a, 'b, 'c>(
     from: usize,
     to: usize,
     budget: usize,
-) -> Sought
+) -> Option<Sought>
     requires i_lt_n { (i < n) × (from ≤ to) × (to ≤ n) × (n ≤ length prints.now) }
     requires printed { Printed first.now second.now keys.now n prints.now }
     ensures { Seeks (some_from (meets_key first.now second.now keys.now i) from (to - from)) result }
@@ -169,15 +156,15 @@ fn seek<'a, 'b, 'c>(
     let mut j = next_like(prints, print, from, to);
     'search: while j < to {
         if meets(first, second, keys, i, j) {
-            return Sought { state: 1, left };
+            return Some(Sought { met: true, left });
         }
         if left <= cost {
-            return Sought { state: 2, left };
+            return None;
         }
-        left = left - cost - 1;
+        left -= cost + 1;
         j = next_like(prints, print, j + 1, to);
     }
-    Sought { state: 0, left }
+    Some(Sought { met: false, left })
 }
 
 // 1 for each row whose key the other list has, else 0; or false where the budget, half the bytes of both lists, did not last.
@@ -196,16 +183,15 @@ fn mark_found<'a, 'b, 'c, 'd>(
         (cells single (rows_of (found_mark first.now second.now keys.now nb n) n)) }
 {
     let mut left = first.len() / 2 + second.len() / 2;
-    let mut i = 0;
-    while i < n {
+    for i in 0..n {
         let span = others(nb, n, i);
-        let s = seek(first, second, keys, prints, n, i, span.from, span.to, left);
-        if s.state == 2 {
+        let Some(sought) = seek(
+            first, second, keys, prints, n, i, span.start, span.end, left,
+        ) else {
             return false;
-        }
-        table::put_row(found, i, &[s.state]);
-        left = s.left;
-        i += 1;
+        };
+        table::put_row(found, i, &[usize::from(sought.met)]);
+        left = sought.left;
     }
     true
 }
@@ -214,24 +200,19 @@ fn mark_found<'a, 'b, 'c, 'd>(
 fn unmark_row(keys: &mut [usize], i: usize)
     ensures { keys.new ≡ set keys.old (i * 6 + 5) 0 }
 {
-    if keys.len() / KEY_WIDTH <= i {
-        return;
+    if i < keys.len() / KEY_WIDTH {
+        keys[i * KEY_WIDTH + KEY_MARK] = 0;
     }
-    keys[i * KEY_WIDTH + KEY_MARK] = 0;
 }
 
 // The rows that are found are no longer wanted.
 fn unmark(keys: &mut [usize], found: &[usize], n: usize)
     ensures { Unmarked keys.old found.now n keys.new }
 {
-    let mut i = 0;
-    'rows: while i < n {
-        if table::cell(found, 1, i, 0) != 1 {
-            i += 1;
-            continue 'rows;
+    for i in 0..n {
+        if table::cell(found, 1, i, 0) == 1 {
+            unmark_row(keys, i);
         }
-        unmark_row(keys, i);
-        i += 1;
     }
 }
 

@@ -6,8 +6,7 @@ ghost use Rattle.keyed.specs.Keying.{name_in, same_key, rank_after, ranked, by_r
 
 use crate::marks::mark_missing;
 use crate::{KEY_FROM, KEY_LEN, KEY_LIST, KEY_MAJOR, KEY_MINOR, KEY_WIDTH, columns, has_room};
-use sorting::{Keys, Sorted};
-use text::order::equal;
+use sorting::Keys;
 
 // The name of row i, a part of its list's bytes.
 pub(crate) fn name_at<'a, 'b>(
@@ -36,16 +35,9 @@ pub(crate) fn same_key<'a, 'b>(
 ) -> bool
     ensures { result ≡ same_key first.now second.now keys.now i j }
 {
-    if table::cell(keys, KEY_WIDTH, i, KEY_MAJOR) != table::cell(keys, KEY_WIDTH, j, KEY_MAJOR) {
-        return false;
-    }
-    if table::cell(keys, KEY_WIDTH, i, KEY_MINOR) != table::cell(keys, KEY_WIDTH, j, KEY_MINOR) {
-        return false;
-    }
-    equal(
-        name_at(first, second, keys, i),
-        name_at(first, second, keys, j),
-    )
+    table::cell(keys, KEY_WIDTH, i, KEY_MAJOR) == table::cell(keys, KEY_WIDTH, j, KEY_MAJOR)
+        && table::cell(keys, KEY_WIDTH, i, KEY_MINOR) == table::cell(keys, KEY_WIDTH, j, KEY_MINOR)
+        && name_at(first, second, keys, i) == name_at(first, second, keys, j)
 }
 
 // The rank of row i, which stands after row `last` with this rank.
@@ -78,18 +70,15 @@ fn number_rows<'a, 'b, 'c, 'd>(
     ensures { ranks.new
         ≡ ranked (same_key first.now second.now keys.now) list.now ranks.old }
 {
-    if list.len() == 0 {
+    if list.is_empty() {
         return;
     }
     let mut last = list[0];
     let mut rank = 1;
-    let mut k = 0;
-    while k < list.len() {
-        let i = list[k];
+    for &i in list {
         rank = next_rank(first, second, keys, last, i, rank);
         ranks[i] = rank;
         last = i;
-        k += 1;
     }
 }
 
@@ -121,17 +110,13 @@ fn sort_missing<'a, 'b, 'c, 'd, 'e>(
     ranks: &'c mut [usize],
     lost: &'d mut [usize],
     numbers: &'e mut [usize],
-) -> Sorted
+) -> Option<usize>
     requires nb_le_n { (nb ≤ n) × (n ≤ length ranks.old) × (n ≤ length lost.old) × (n ≤ length numbers.old) }
     requires ranks_value { (ranks.old ≡ laid (length ranks.old) []) × (lost.old ≡ laid (length lost.old) []) }
     ensures { Whole (missing first.now second.now keys.now nb n every)
         numbers.old numbers.new result }
 {
-    let sorted = sorting::sort(first, second, keys, columns(true), n, numbers);
-    let Sorted::Rows(m) = sorted else {
-        // there is room for every row
-        return Sorted::Full;
-    };
+    let m = sorting::sort(first, second, keys, columns(true), n, numbers)?;
     number_rows(first, second, keys, &numbers[..m], ranks);
     mark_missing(ranks, nb, n, lost);
     sorting::sort_others(first, second, lost, by_rank(every), n, numbers)
@@ -148,7 +133,7 @@ pub(crate) fn list_by_rank<'a, 'b, 'c, 'd, 'e>(
     ranks: &'c mut [usize],
     lost: &'d mut [usize],
     numbers: &'e mut [usize],
-) -> Sorted
+) -> Option<usize>
     ensures { Lacks (holds_all (nb + nc) (length ranks.old) (length lost.old) (length numbers.old))
         (missing first.now second.now keys.now nb (nb + nc) every)
         numbers.old numbers.new result }
@@ -157,7 +142,7 @@ pub(crate) fn list_by_rank<'a, 'b, 'c, 'd, 'e>(
     table::clear(lost);
     table::clear(numbers);
     if !has_room(nb, nc, ranks.len(), lost.len(), numbers.len()) {
-        return Sorted::Full;
+        return None;
     }
     sort_missing(
         first,

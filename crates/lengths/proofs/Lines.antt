@@ -23,8 +23,10 @@ use Rattle.report.proofs.Short.{decimal-short, refused-short}
 use Rattle.reviewed.specs.Escape.{escaped, quoted}
 use Rattle.reviewed.specs.Words.{sections_w, imports_w, exports_w, not_w, required_w, allowed_w}
 use Rattle.reviewed.specs.Words.{not_allowed_w, from_w, offset_w}
-use Rattle.reviewed.specs.Texts.{path_text, name_text, default_text, counts_text, words_of, beside_text, reason_text, nth, whether, mark_text}
-use Rattle.reviewed.specs.Texts.{domain_text, domains_text, violated_text, violated_texts, compliance_text, violation_text, stand_text, kind_text}
+use Rattle.reviewed.specs.Texts.{path_text, name_text, default_text, counts_text, words_of, beside_text, reason_text, nth, whether}
+use Rattle.reviewed.specs.Texts.{mark_text}
+use Rattle.reviewed.specs.Texts.{domain_text, domains_text, violated_text, violated_texts, compliance_text, violation_text, stand_text}
+use Rattle.reviewed.specs.Texts.{kind_text}
 use Rattle.reviewed.specs.Texts.{removed_text, added_text, verdict_text, none_text}
 use Rattle.reviewed.proofs.Escapes.{escaped-long}
 use Rattle.lengths.proofs.Sums.{sum_to, lines-sum, sum-le}

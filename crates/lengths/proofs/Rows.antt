@@ -7,7 +7,7 @@ use native.Mathlib.Omega.{arith}
 use lib.Dec.{eqb}
 use lib.ListN.{length, get_or, drop, length-take}
 use Rattle.refusal.specs.Pick.{pick, both}
-use Rattle.text.specs.declared.order.Order.{Order}
+use Rattle.std.specs.declared.cmp.Ordering.{Ordering}
 use Rattle.table.specs.Table.{laid, cells, inside, range_of}
 use Rattle.table.specs.Shape.{width, cell_in}
 use Rattle.table.proofs.Laws.{cell-laid}
@@ -24,7 +24,8 @@ use Rattle.requirements.specs.Requirements.{row_domain}
 use Rattle.differences.specs.declared.Change.{Change}
 use Rattle.differences.specs.declared.Change.TheVariants.{Removed, Added}
 use Rattle.differences.specs.View.{ExportKey, Need, Row, View, row, export_key_at, need_at, export_rows, need_rows}
-use Rattle.differences.specs.Differences.{Entry, entry, has_key, without, changes, is_change, cmp_export, cmp_need, export_order, export_diff}
+use Rattle.differences.specs.Differences.{Entry, entry, has_key, without, changes, is_change, cmp_export, cmp_need, export_order}
+use Rattle.differences.specs.Differences.{export_diff}
 use Rattle.differences.specs.Differences.{need_order, need_diff}
 use Rattle.differences.specs.Compared.{change_number, export_diff_cells, need_diff_cells}
 use Rattle.reasons.specs.Reasons.{reason_lines}
@@ -135,7 +136,7 @@ exports-sum file n (r ∷ rs) = exports-by file n (r ∷ rs) r
 abbrev weigh : {K : Type 0} → Change → (ℕ → ℕ) → Entry K → ℕ
 weigh side size e = pick (is_change side e.change) (size e.row.at) 0
 
-module _ {K : Type 0} (cmp : K → K → Order) (order : Entry K → Entry K → Order) (size : ℕ → ℕ) (b c : List (Row K)) where
+module _ {K : Type 0} (cmp : K → K → Ordering) (order : Entry K → Entry K → Ordering) (size : ℕ → ℕ) (b c : List (Row K)) where
   abbrev row_size : Row K → ℕ
   row_size r = size r.at
 

@@ -7,8 +7,8 @@ use native.Mathlib.Nat.{zero-mul, suc-mul}
 use native.Mathlib.Omega.{arith}
 use lib.ListN.{length, get_or, length-append}
 use Rattle.refusal.specs.Pick.{pick}
-use Rattle.text.specs.declared.order.Order.{Order}
-use Rattle.text.specs.declared.order.Order.TheVariants.{Less, Equal, Greater}
+use Rattle.std.specs.declared.cmp.Ordering.{Ordering}
+use Rattle.std.specs.declared.cmp.Ordering.TheVariants.{Less, Equal, Greater}
 use Rattle.sorting.specs.Sort.{place, put_in_order, sort, selected, up_from}
 use Rattle.reasons.specs.Reasons.{reason_lines}
 use Rattle.conform.specs.Sound.{total}
@@ -35,13 +35,13 @@ module _ {E : Type 0} (size : E → ℕ) where
   total-none h [] = refl
   total-none h (x ∷ l) = omega (arith, h x, total-none h l)
 
-  module _ (cmp : E → E → Order) where
+  module _ (cmp : E → E → Ordering) where
     put-total : (x : E) (l : List E) → total size (put_in_order cmp x l) ≤ size x + total size l
     unfolding total
     put-total x [] = omega arith
     put-total x (y ∷ l) = by (cmp x y) (put-total x l)
       where
-        by : (o : Order) → total size (put_in_order cmp x l) ≤ size x + total size l
+        by : (o : Ordering) → total size (put_in_order cmp x l) ≤ size x + total size l
             → total size (place o x y l (put_in_order cmp x l)) ≤ size x + (size y + total size l)
         by Less h = omega arith
         by Equal h = omega arith

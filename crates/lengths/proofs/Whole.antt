@@ -24,18 +24,22 @@ use Rattle.conform.proofs.Together.{names-together}
 use Rattle.policy.specs.Reader.{read_policy, read_with}
 use Rattle.policy.specs.View.{no_name, range, says}
 use Rattle.policy.specs.declared.Policy.{Policy}
-use Rattle.verdicts.specs.Evaluate.{Outcome, outcome_of, outcome, seven_of, verdict_for, how_many, no_verdict, no_outcome, domains_test, first_past}
+use Rattle.verdicts.specs.Evaluate.{Outcome, outcome_of, outcome, seven_of, verdict_for, how_many, no_verdict, no_outcome, domains_test}
+use Rattle.verdicts.specs.Evaluate.{first_past}
 use Rattle.verdicts.specs.Evaluate.{evaluated}
 use Rattle.verdicts.specs.declared.Verdict.{Verdict}
 use Rattle.checking.specs.Checking.{weighed, held_to, read_then, checked_of}
-use Rattle.differences.specs.Compared.{Given, Lists, lists, viewed, verdict_on, export_diff_cells, need_diff_cells, tables_tested, roomed, compared}
+use Rattle.differences.specs.Compared.{Given, Lists, lists, viewed, verdict_on, export_diff_cells, need_diff_cells, tables_tested}
+use Rattle.differences.specs.Compared.{roomed, compared}
 use Rattle.output.specs.Bytes.{most}
 use Rattle.reasons.specs.Reasons.{reason_lines}
 use Rattle.rewritten.proofs.Long.{whole-short}
 use Rattle.reviewed.specs.Words.{policy_path_w, baseline_w, candidate_w, none_w, of_policy_w, of_baseline_w, of_comparison_w, unread_w}
 use Rattle.reviewed.specs.Texts.{path_text, name_text, reason_text, nth, domains_text, compliance_text, stand_text, verdict_text, none_text}
-use Rattle.reviewed.specs.Review.{File, or_reason, policy_text, lent_rows, rows, lent, read_build, counts_in, build_text, build_of, compliant_in, violation_row}
-use Rattle.reviewed.specs.Review.{check_text, removed_row, added_row, lists_text, compared_text, judged_text, against_text, builds_text, verdict_of}
+use Rattle.reviewed.specs.Review.{File, or_reason, policy_text, lent_rows, rows, lent, read_build, counts_in, build_text, build_of}
+use Rattle.reviewed.specs.Review.{compliant_in, violation_row}
+use Rattle.reviewed.specs.Review.{check_text, removed_row, added_row, lists_text, compared_text, judged_text, against_text, builds_text}
+use Rattle.reviewed.specs.Review.{verdict_of}
 use Rattle.reviewed.specs.Review.{review_of, unread_of, or_no_room}
 use Rattle.lengths.specs.Claims.{longest_report, path_limit, HandedOver, Lengths}
 use Rattle.lengths.proofs.Lines.{path-long, name-long, counts-long, reason-long, none-long, domains-long, compliance-long, stand-long}

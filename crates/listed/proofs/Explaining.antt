@@ -1,4 +1,5 @@
 -- The reasons that are put after the rows of the differences, and what is told of both. Assumes nothing.
+use Rattle.std.specs.Prelude.{Result, Ok, Err}
 use Prim.Native.Nat.{ℕ, ◌+◌, ◌-◌, ◌*◌, ◌≤◌}
 use native.Mathlib.Omega.{arith}
 use mathlib.Core.Path.{◌≡◌, refl, sym, ap, ◌∙◌}
@@ -9,9 +10,8 @@ use lib.ListN.{length, take, drop, length-append}
 use lib.Seq.{length-take-le, drop_at}
 use borrow.Author.Tests.{ltb-false, le-ltb}
 use Rattle.refusal.specs.Pick.{pick}
-use Rattle.refusal.specs.Said.{Said, accepted, refused, number_of, where_of, refused_by, follow, said_written, spot, Place}
+use Rattle.refusal.specs.Said.{Said, accepted, refused, number_of, where_of, refused_by, follow, said_by, spot, Place}
 use Rattle.refusal.specs.declared.Refusal.{Refusal}
-use Rattle.refusal.specs.declared.Written.{Written}
 use Rattle.refusal.proofs.Following.{never}
 use Rattle.table.specs.Shape.{width}
 use Rattle.output.proofs.CellLaws.{length-bytes}
@@ -90,21 +90,21 @@ told-some : (first : ℕ) (o : Said (List ℕ)) {n : ℕ} → written_count_from
 told-some first (accepted w) e = record { text = w; is = refl; end = cc }
 told-some first (refused n p) e = absurd (never e)
 
-module _ (b c : Given) (d : Diffs) {first : ℕ} (rows : first ≡ length (taken_bytes d)) {before after : List ℕ} {s : Written}
+module _ (b c : Given) (d : Diffs) {first : ℕ} (rows : first ≡ length (taken_bytes d)) {before after : List ℕ} {s : Result ℕ Refusal}
     (f : ReasonsFrom first b c d before s after) where
-  pub explains-none : (fine : Bool) {why : Refusal} {r : ComparisonTold} → s ≡ Written.Refused why
+  pub explains-none : (fine : Bool) {why : Refusal} {r : ComparisonTold} → s ≡ Err why
       → r ≡ no_comparison (number_of why) (where_of why)
       → Explains b c d fine before r after
   unfolding reasoned_from explained_bytes
   explains-none fine {why} e q =
-      let o : reasoned_from first b c d (length before) ≡ refused_by why = told_none first _ (sym f.answer ∙ ap said_written e) in
+      let o : reasoned_from first b c d (length before) ≡ refused_by why = told_none first _ (sym f.answer ∙ ap said_by e) in
       let x : explained_bytes b c d (length before) ≡ refused_by why =
       none-full (taken_bytes d) (reasons_of b c d) (length before) rows (reasons_tested b c d) o in
       record { answer-is = rw x q; output-is = rw x (f.output ∙ rw o) }
 
-  module _ {n : ℕ} (e : s ≡ Written.Bytes n) where
+  module _ {n : ℕ} (e : s ≡ Ok n) where
     some : Some first (reasoned_from first b c d (length before)) n
-    some = told-some first _ (sym f.answer ∙ ap said_written e)
+    some = told-some first _ (sym f.answer ∙ ap said_by e)
 
     fit : Fits (taken_bytes d) (reasons_of b c d) (length before) rows (reasons_tested b c d) some.text
     unfolding reasoned_from
@@ -113,7 +113,7 @@ module _ (b c : Given) (d : Diffs) {first : ℕ} (rows : first ≡ length (taken
     pub rows_before : first ≤ n
     rows_before = omega (arith, some.end)
 
-    pub explains : (fine : Bool) {u : Written} {y : List ℕ} {r : ComparisonTold} → Formed (taken_bytes d) after u y
+    pub explains : (fine : Bool) {u : Result ℕ Refusal} {y : List ℕ} {r : ComparisonTold} → Formed (taken_bytes d) after u y
         → r ≡ comparison_by (verdict d.export_count d.need_count fine) (n - first) (accepted n) → Explains b c d fine before r y
     unfolding explained_bytes room_for
     explains fine {u} {y} {r} g q =

@@ -1,4 +1,5 @@
 -- Lists of cells that are put into a buffer one after another, and what is told of it. Assumes nothing.
+use Rattle.std.specs.Prelude.{Result, Ok, Err}
 use Prim.Native.Nat.{ℕ, ◌+◌, ◌*◌, ◌≤◌, ◌<◌}
 use native.Mathlib.Nat.{zero-add}
 use native.Mathlib.Omega.{arith}
@@ -8,9 +9,9 @@ use mathlib.Core.List.{List, [], ◌++◌}
 use lib.Dec.{leb, ltb}
 use lib.ListN.{length, drop, length-append}
 use borrow.Author.Tests.{le-leb, lt-ltb, le-ltb}
-use Rattle.refusal.specs.Said.{Said, accepted, refused, follow, said_written, spot, Place}
+use Rattle.refusal.specs.Said.{Said, accepted, refused, follow, said_by, spot, Place}
+use Rattle.refusal.specs.declared.Refusal.{Refusal}
 use Rattle.refusal.specs.declared.Refusal.TheVariants.{NoRoom}
-use Rattle.refusal.specs.declared.Written.{Written}
 use Rattle.table.specs.Table.{cells, put}
 use Rattle.table.proofs.Laws.{length-put}
 use Rattle.output.specs.Cells.{cell_bytes, Puts}
@@ -49,19 +50,21 @@ module _ (d : List ℕ) where
       }
 
   -- the whole, where it fits
-  pub whole : (l : List ℕ) {r : ℕ} {y : List ℕ} → length l * 8 ≤ length d → Begins d l r y → Formed (cell_bytes l) d (Written.Bytes r) y
+  pub whole : (l : List ℕ) {r : ℕ} {y : List ℕ} → length l * 8 ≤ length d → Begins d l r y → Formed (cell_bytes l) d (Ok r) y
   unfolding room_for put
   whole l {r} {y} h b =
-      let fits : ltb (length d) (length (cell_bytes l)) ≡ false = le-ltb (length d) (length (cell_bytes l)) (omega (arith, length-bytes l)) in
+      let fits : ltb (length d) (length (cell_bytes l)) ≡ false =
+      le-ltb (length d) (length (cell_bytes l)) (omega (arith, length-bytes l)) in
       record {
         answer = rw fits (ap accepted (b.next ∙ sym (length-bytes l)));
         output = rw fits (b.output ∙ ap (λ (k : ℕ). cell_bytes l ++ drop k d) (zero-add (length (cell_bytes l))));
       }
 
-  pub no_room : (l : List ℕ) {n : ℕ} → n ≡ length l * 8 → length d < n → Formed (cell_bytes l) d (Written.Refused (NoRoom n)) d
+  pub no_room : (l : List ℕ) {n : ℕ} → n ≡ length l * 8 → length d < n → Formed (cell_bytes l) d (Err (NoRoom n)) d
   unfolding room_for
   no_room l {n} e h =
-      let full : ltb (length d) (length (cell_bytes l)) ≡ true = lt-ltb (length d) (length (cell_bytes l)) (omega (arith, length-bytes l)) in
+      let full : ltb (length d) (length (cell_bytes l)) ≡ true =
+      lt-ltb (length d) (length (cell_bytes l)) (omega (arith, length-bytes l)) in
       let needed : n ≡ length (cell_bytes l) = e ∙ sym (length-bytes l) in
       record { answer = rw full (ap (λ (i : ℕ). refused 16 (spot i)) needed); output = rw full }
 
@@ -71,11 +74,11 @@ module _ (d a b c e : List ℕ) where
   cells-long = simp length-append
 
   pub four-full : {n : ℕ} → n ≡ (length a + length b + length c + length e) * 8 → length d < n
-      → Formed (cell_bytes (a ++ b ++ c ++ e)) d (Written.Refused (NoRoom n)) d
+      → Formed (cell_bytes (a ++ b ++ c ++ e)) d (Err (NoRoom n)) d
   four-full q h = no_room d (a ++ b ++ c ++ e) (q ∙ ap (λ (k : ℕ). k * 8) (sym cells-long)) h
 
   pub four : {p q r s : ℕ} {w x y z : List ℕ} → (length a + length b + length c + length e) * 8 ≤ length d
-      → Puts a 0 d p w → Puts b p w q x → Puts c q x r y → Puts e r y s z → Formed (cell_bytes (a ++ b ++ c ++ e)) d (Written.Bytes s) z
+      → Puts a 0 d p w → Puts b p w q x → Puts c q x r y → Puts e r y s z → Formed (cell_bytes (a ++ b ++ c ++ e)) d (Ok s) z
   four h i j k l =
       let ab : length (a ++ b) ≡ length a + length b = length-append a b in
       let abc : length (a ++ b ++ c) ≡ length a + length b + length c = length-append (a ++ b) c ∙ ap (λ (n : ℕ). n + length c) ab in
@@ -84,20 +87,9 @@ module _ (d a b c e : List ℕ) where
       (more d (a ++ b) c
       (more d a b (more d [] a (none_yet d) (omega arith) i) (omega arith) j) (omega arith) k) (omega (arith, cells-long)) l)
 
--- two lists, one after another
-module _ (d a b : List ℕ) where
-  pub two-full : {n : ℕ} → n ≡ (length a + length b) * 8 → length d < n → Formed (cell_bytes (a ++ b)) d (Written.Refused (NoRoom n)) d
-  two-full q h = no_room d (a ++ b) (q ∙ ap (λ (k : ℕ). k * 8) (sym (length-append a b))) h
-
-  pub two : {p q : ℕ} {w x : List ℕ} → (length a + length b) * 8 ≤ length d → Puts a 0 d p w → Puts b p w q x
-      → Formed (cell_bytes (a ++ b)) d (Written.Bytes q) x
-  two h i j =
-      let ab : length (a ++ b) ≡ length a + length b = length-append a b in
-      whole d (a ++ b) (omega arith) (more d a b (more d [] a (none_yet d) (omega arith) i) (omega arith) j)
-
 -- what is told of bytes that were written, or not
-pub lays : {R : Type 0} (told : Said ℕ → R) {o : Said (List ℕ)} {d y : List ℕ} {w : Written} {r : R} → WriterTells o d w y
-    → r ≡ told (said_written w) → Lays told o d r y
+pub lays : {R : Type 0} (told : Said ℕ → R) {o : Said (List ℕ)} {d y : List ℕ} {w : Result ℕ Refusal} {r : R} → WriterTells o d w y
+    → r ≡ told (said_by w) → Lays told o d r y
 lays told t e = record { answer-is = e ∙ ap told t.answer; output-is = t.output }
 
 -- what is delivered: a refusal, or a value by its bytes

@@ -1,4 +1,5 @@
 -- The tokens of a list, counted and put one after another. Assumes nothing.
+use Rattle.std.specs.Prelude.{Option, Some, None, Result, Ok, Err}
 use Prim.Native.Nat.{ℕ, ◌+◌, ◌*◌, ◌≤◌, ◌<◌}
 use native.Mathlib.Omega.{arith}
 use mathlib.Core.Path.{◌≡◌, refl, sym, ap, ◌∙◌, subst}
@@ -7,11 +8,10 @@ use mathlib.Core.List.{List, [], ◌∷◌, ◌++◌}
 use lib.ListN.{length}
 use lib.Dec.{leb}
 use borrow.Author.Tests.{le-leb}
-use Rattle.refusal.specs.Said.{Said, accepted, refused_by, said_answer, spot}
-use Rattle.refusal.specs.declared.Answer.{Answer}
+use Rattle.refusal.specs.Said.{Said, accepted, refused_by, said_by, spot}
 use Rattle.refusal.specs.declared.Part.{Part}
 use Rattle.refusal.specs.declared.Refusal.{Refusal}
-use Rattle.refusal.proofs.Following.{never, follow-stops, follow-goes}
+use Rattle.refusal.proofs.Following.{follow-stops, follow-goes}
 use Rattle.refusal.specs.Sizes.{text_limit}
 use Rattle.table.specs.Table.{cells, put}
 use Rattle.table.proofs.Laws.{length-cells, length-put}
@@ -22,15 +22,14 @@ use Rattle.text.specs.Piece as pieces
 use Rattle.domains.specs.Domain.{nothing, just, domain_number, numbered}
 use Rattle.domains.specs.declared.Domain.{Domain}
 use Rattle.policy.specs.Eight.{policy_test}
-use Rattle.policy.specs.Reader.{read_policy, PolicyReadAs}
+use Rattle.policy.specs.Reader.{read_policy}
 use Rattle.policy.specs.declared.Policy.{Policy}
-use Rattle.policy.specs.declared.PolicyRead.{PolicyRead}
 use Rattle.policy.proofs.EightLaws.{tested}
 use Rattle.verdicts.specs.Evaluate.{effective_of}
 use Rattle.verdicts.specs.declared.Rule.{Rule}
 use Rattle.output.specs.Bytes.{room_for}
 use Rattle.policy_text.specs.Token as tokens
-use Rattle.policy_text.specs.Token.{token, token_from, said_token, tokens_in, all_tokens}
+use Rattle.policy_text.specs.Token.{token, token_from, found_token, tokens_in, all_tokens}
 use Rattle.policy_text.specs.declared.token.Token.{Token}
 use Rattle.policy_text.proofs.Asking.{no-domain, a-domain, read-stops, read_goes}
 use Rattle.policy_text.proofs.TokenLaws.{list-fits}
@@ -42,19 +41,18 @@ use Rattle.listed.proofs.Laying.{Begins, whole, no_room, lays, delivers}
 
 -- ---- the first token of what is left, or none
 module _ (s : List ℕ) (i e : ℕ) where
-  abbrev Told : Token → Type 0
-  Told t = said_token t ≡ accepted (token_from i 0 (pieces.bytes_between s i e))
+  abbrev Told : Option Token → Type 0
+  Told t = found_token t ≡ token_from i 0 (pieces.bytes_between s i e)
 
-  pub found-more : {t : Token} {x : Part} {next : ℕ} → Told t → t ≡ Token.At x next → More s i e x.from x.len next
-  found-more {t} {x} {next} h q =
-      let z : token_from i 0 (pieces.bytes_between s i e) ≡ token x.from x.len next = cc (ap said_token q) in
+  pub found-more : {t : Option Token} {x : Token} → Told t → t ≡ Some x → More s i e x.part.from x.part.len x.next
+  found-more {t} {x} h q =
+      let z : token_from i 0 (pieces.bytes_between s i e) ≡ token x.part.from x.part.len x.next = sym h ∙ ap found_token q in
       tokens-more s i e z
 
-  -- not the first variant
-  pub found_none : (t : Token) → Told t → ((x : Part) (next : ℕ) → t ≡ Token.At x next → ⊥) → tokens_in s i e ≡ []
-  found_none Token.Done h k = let z : token_from i 0 (pieces.bytes_between s i e) ≡ tokens.nothing = cc in tokens-done s i e z
-  found_none (Token.Refused w) h k = absurd (never h)
-  found_none (Token.At x next) h k = absurd (k x next refl)
+  pub found_none : {t : Option Token} → Told t → t ≡ None → tokens_in s i e ≡ []
+  found_none h q =
+      let z : token_from i 0 (pieces.bytes_between s i e) ≡ tokens.nothing = sym h ∙ ap found_token q in
+      tokens-done s i e z
 
 -- ---- their ranges as bytes
 pub tokens-long : (xs : List Part) → length (tokens_bytes xs) ≡ length xs * 16
@@ -112,20 +110,22 @@ module _ (xs : List Part) (d : List ℕ) {k n : ℕ} (counted : k ≡ length xs)
       (ap (λ (j : ℕ). record { number = 0; place = 0; count = j; bytes = n }) counted)
 
 -- of a rule's list
-module _ (s : List ℕ) (p : Policy) (d : Domain) {a : Answer} (said : said_answer a ≡ policy_test s p) where
-  pub rule-refused : {w : Refusal} → a ≡ Answer.Refused w → all_tokens s p (domain_number d) ≡ refused_by w
+module _ (s : List ℕ) (p : Policy) (d : Domain) {a : Result (Unit {0}) Refusal} (said : said_by a ≡ policy_test s p) where
+  pub rule-refused : {w : Refusal} → a ≡ Err w → all_tokens s p (domain_number d) ≡ refused_by w
   unfolding all_tokens
-  rule-refused e = sym (follow-stops _ (sym said ∙ ap said_answer e))
+  rule-refused e = sym (follow-stops _ (sym said ∙ ap said_by e))
 
-  pub rule-short : a ≡ Answer.Accepted → {r : Rule} → r ≡ effective_of p (domain_number d) → r.from + r.len ≤ text_limit
-  rule-short e q = omega (arith, list-fits s p d said e q, (tested s p (sym said ∙ ap said_answer e)).short)
+  pub rule-short : a ≡ (Ok tt) → {r : Rule} → r ≡ effective_of p (domain_number d) → r.from + r.len ≤ text_limit
+  rule-short e q =
+      let t : policy_test s p ≡ accepted tt = sym said ∙ ap said_by e in
+      omega (arith, list-fits s p d t q, (tested s p t).short)
 
-  pub rule-listed : a ≡ Answer.Accepted → {r : Rule} → r ≡ effective_of p (domain_number d)
+  pub rule-listed : a ≡ (Ok tt) → {r : Rule} → r ≡ effective_of p (domain_number d)
       → all_tokens s p (domain_number d) ≡ accepted (tokens_in s r.from (r.from + r.len))
   unfolding all_tokens
   rule-listed e {r} q =
       let l : Rule → List Part = λ (x : Rule). tokens_in s x.from (x.from + x.len) in
-      sym (follow-goes _ (sym said ∙ ap said_answer e) (ap (λ (x : Rule). accepted (l x)) q))
+      sym (follow-goes _ (sym said ∙ ap said_by e) (ap (λ (x : Rule). accepted (l x)) q))
 
 -- of a value that is known
 pub tokens-delivered : {x : Said (List Part)} (xs : List Part) {d y : List ℕ} {r : TokensTold} → x ≡ accepted xs
@@ -137,18 +137,18 @@ pub tokens-as : {x z : Said (List Part)} {d y : List ℕ} {r : TokensTold} → x
 tokens-as {d = d} {y = y} {r = r} e k = subst (λ (v : Said (List Part)). Delivers tokens_bytes tokens_told v d r y) e k
 
 -- of a text that was read
-module _ (s : List ℕ) (k : ℕ) (r : PolicyRead) (h : PolicyReadAs (read_policy s) r) where
-  pub text-refused : {w : Refusal} → r.answer ≡ Answer.Refused w → tokens_read s k ≡ refused_by w
+module _ (s : List ℕ) (k : ℕ) (r : Result Policy Refusal) (h : said_by r ≡ read_policy s) where
+  pub text-refused : {w : Refusal} → r ≡ Err w → tokens_read s k ≡ refused_by w
   unfolding tokens_read
   text-refused e = sym (read-stops (λ (p : Policy). tokens_asked s p k) (read_policy s) r h e)
 
-  module _ (e : r.answer ≡ Answer.Accepted) where
-    text-asked : tokens_asked s r.policy k ≡ tokens_read s k
+  module _ {p : Policy} (e : r ≡ Ok p) where
+    text-asked : tokens_asked s p k ≡ tokens_read s k
     unfolding tokens_read
     text-asked = read_goes (λ (p : Policy). tokens_asked s p k) (read_policy s) r h e
 
     pub text-none : nothing ≡ numbered k → tokens_read s k ≡ accepted []
-    text-none q = sym (no-domain k (accepted []) (all_tokens s r.policy k) q ∙ text-asked)
+    text-none q = sym (no-domain k (accepted []) (all_tokens s p k) q ∙ text-asked)
 
-    pub text-rule : {n : ℕ} → just n ≡ numbered k → all_tokens s r.policy n ≡ tokens_read s k
-    text-rule q = a-domain k (accepted []) (all_tokens s r.policy) q ∙ text-asked
+    pub text-rule : {n : ℕ} → just n ≡ numbered k → all_tokens s p n ≡ tokens_read s k
+    text-rule q = a-domain k (accepted []) (all_tokens s p) q ∙ text-asked

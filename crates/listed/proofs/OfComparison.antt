@@ -1,10 +1,12 @@
 -- Two builds that were compared, and the rows of their differences. Assumes nothing.
+use Rattle.std.specs.Prelude.{Result, Ok, Err}
 use Prim.Native.Nat.{ℕ, ◌*◌, ◌≤◌, ◌<◌}
 use mathlib.Core.Path.{◌≡◌, refl, sym, ap, ◌∙◌, subst}
 use mathlib.Core.Bool.{Bool}
 use mathlib.Core.List.{List, ◌++◌}
 use lib.ListN.{length, take}
 use borrow.Author.Tests.{lt-ltb, le-ltb}
+use mathlib.Core.Logic.{◌⊎◌, inl, inr}
 use Rattle.refusal.specs.Said.{Said, accepted, refused, refused_by, follow, spot, Place}
 use Rattle.refusal.specs.declared.Refusal.{Refusal}
 use Rattle.refusal.proofs.Following.{followed, follow-stops, follow-goes}
@@ -16,9 +18,10 @@ use Rattle.wasm.specs.declared.Module.{Module}
 use Rattle.conform.specs.Sound.{limits}
 use Rattle.differences.specs.View.{ExportKey, Need}
 use Rattle.differences.specs.Differences.{Entry}
-use Rattle.differences.specs.Compared.{Given, given, Lists, compared, Verdict, verdict_on, export_diff_cells, need_diff_cells, listed, Compares}
+use Rattle.differences.specs.Compared.{Given, given, Lists, compared, Verdict, verdict_on, export_diff_cells, need_diff_cells}
+use Rattle.differences.specs.Compared.{listed, Compares}
 use Rattle.compat.specs.Answer.{said_compared}
-use Rattle.compat.specs.declared.Compared.{Compared}
+use Rattle.compat.specs.declared.Lists as code
 use Rattle.output.specs.Bytes.{room_for}
 use Rattle.reasons.specs.Reasons.{Diffs, diffs, reasons_tested, reasons_of}
 use Rattle.listed.specs.declared.comparison.ComparisonTold.{ComparisonTold}
@@ -49,7 +52,8 @@ rooms : (b c : Given) → compared b c (capacity_in 8 (full_cells 8)) (capacity_
 unfolding capacity_of
 rooms b c = refl
 
-module _ (b c : Given) {xd0 xd cd0 cd : List ℕ} (r : Compared) (long8 : length xd0 ≡ full_cells 8) (long9 : length cd0 ≡ full_cells 9)
+module _ (b c : Given) {xd0 xd cd0 cd : List ℕ} (r : Result code.Lists Refusal) (long8 : length xd0 ≡ full_cells 8)
+    (long9 : length cd0 ≡ full_cells 9)
     (h : Compares (compared b c (capacity_in 8 (length xd0)) (capacity_in 9 (length cd0))) xd0 xd cd0 cd (said_compared r)) where
   same : compared b c (capacity_in 8 (length xd0)) (capacity_in 9 (length cd0)) ≡ compared b c (limit 8) (limit 9)
   same =
@@ -60,11 +64,12 @@ module _ (b c : Given) {xd0 xd cd0 cd : List ℕ} (r : Compared) (long8 : length
   answer : said_compared r ≡ follow (compared b c (limit 8) (limit 9)) (λ l. accepted (verdict_on l))
   answer = h.answer-is ∙ ap (λ (y : Said Lists). follow y (λ l. accepted (verdict_on l))) same
 
-  pub lists-refused : {why : Refusal} → r ≡ Compared.Refused why → compared b c (limit 8) (limit 9) ≡ refused_by why
+  pub lists-refused : {why : Refusal} → r ≡ Err why → compared b c (limit 8) (limit 9) ≡ refused_by why
   lists-refused e = first-refused (compared b c (limit 8) (limit 9)) verdict_on (sym answer ∙ ap said_compared e)
 
-  pub lists-found : {m n : ℕ} {fine : Bool} → r ≡ Compared.Lists m n fine → ListsFound (compared b c (limit 8) (limit 9)) xd cd m n fine
-  lists-found {m} {n} {fine} e =
+  pub lists-found : {l : code.Lists} → r ≡ Ok l
+      → ListsFound (compared b c (limit 8) (limit 9)) xd cd l.exports l.capabilities l.compatible
+  lists-found {l} e =
       let f = followed (compared b c (limit 8) (limit 9)) (λ l. accepted (verdict_on l)) (sym answer ∙ ap said_compared e) in
       record {
         what = f.what;
@@ -164,7 +169,8 @@ build-is {file} {l} {m} q =
     (many-exports q)
 
 module _ {d y : List ℕ} {r : ComparisonTold} where
-  so : {x z : Said Comparison} → x ≡ z → Delivers comparison_bytes comparison_told x d r y → Delivers comparison_bytes comparison_told z d r y
+  so : {x z : Said Comparison} → x ≡ z → Delivers comparison_bytes comparison_told x d r y
+      → Delivers comparison_bytes comparison_told z d r y
   so e h = subst (λ (w : Said Comparison). Delivers comparison_bytes comparison_told w d r y) e h
 
   pub candidate-read : (b : Given) {file : List ℕ} {l : Lent} {m : Module} → Found file limits l m
@@ -194,10 +200,15 @@ pub baseline-stops : (file candidate : List ℕ) {n : ℕ} {p : Place} → modul
 unfolding builds
 baseline-stops file candidate e = sym (follow-stops _ e)
 
-pub baseline-long : (b c : List ℕ) → file_limit < length b → comparison b c ≡ refused 14 (spot 0)
+baseline-long : (b c : List ℕ) → file_limit < length b → comparison b c ≡ refused 14 (spot 0)
 unfolding comparison
 baseline-long b c h = rw (lt-ltb file_limit (length b) h)
 
-pub candidate-long : (b c : List ℕ) → length b ≤ file_limit → file_limit < length c → comparison b c ≡ refused 14 (spot 0)
+candidate-long : (b c : List ℕ) → length b ≤ file_limit → file_limit < length c → comparison b c ≡ refused 14 (spot 0)
 unfolding comparison
 candidate-long b c h k = rw (le-ltb file_limit (length b) h, lt-ltb file_limit (length c) k)
+
+pub either-long : (b c : List ℕ) → (file_limit < length b) ⊎ ((length b ≤ file_limit) × (file_limit < length c))
+    → comparison b c ≡ refused 14 (spot 0)
+either-long b c (inl h) = baseline-long b c h
+either-long b c (inr h) = candidate-long b c h.0 h.1

@@ -1,12 +1,12 @@
 -- A manifest that was read, its rows, and its paths. Assumes nothing.
+use Rattle.std.specs.Prelude.{Result, Ok, Err}
 use Prim.Native.Nat.{ℕ, ◌≤◌}
 use native.Mathlib.Omega.{arith}
 use mathlib.Core.Path.{◌≡◌, refl, sym, ap, ◌∙◌, subst}
 use mathlib.Core.Bool.{true, false}
 use mathlib.Core.List.{List}
 use lib.ListN.{length, take, length-take}
-use Rattle.refusal.specs.Said.{Said, accepted, refused, refused_by, said_count, Place}
-use Rattle.refusal.specs.declared.Count.{Count}
+use Rattle.refusal.specs.Said.{Said, accepted, refused, refused_by, said_by, Place}
 use Rattle.refusal.specs.declared.Part.{Part}
 use Rattle.refusal.specs.declared.Refusal.{Refusal}
 use Rattle.refusal.proofs.Following.{followed, follow-stops, follow-goes}
@@ -17,7 +17,6 @@ use Rattle.wit.specs.Shapes.{Reference}
 use Rattle.wit.specs.Manifest.{State, manifest_at, manifest_of, known_of, said_manifest, world_cells, reference_cells}
 use Rattle.wit.specs.Manifest.{ManifestLent, ManifestHolds, manifest_held, ManifestIs}
 use Rattle.wit.specs.declared.Manifest.{Manifest}
-use Rattle.wit.specs.declared.ManifestRead.{ManifestRead}
 use Rattle.reference_rows.specs.Queries.{paths_of}
 use Rattle.output.specs.Bytes.{room_for}
 use Rattle.listed.specs.declared.manifests.ManifestTold.{ManifestTold}
@@ -44,13 +43,13 @@ pub record PathsFound (x : Said (List ℕ)) (table : List ℕ) (k : ℕ) : Type 
   pub many : k ≡ length what
   pub held : table ≡ laid (limit 15) what
 
-module _ {x : Said (List ℕ)} {before after : List ℕ} {r : Count} (h : ListsRows x before after (said_count r)) where
-  pub paths-refused : {why : Refusal} → r ≡ Count.Refused why → x ≡ refused_by why
-  paths-refused e = first-refused x length (sym h.answer-is ∙ ap said_count e)
+module _ {x : Said (List ℕ)} {before after : List ℕ} {r : Result ℕ Refusal} (h : ListsRows x before after (said_by r)) where
+  pub paths-refused : {why : Refusal} → r ≡ Err why → x ≡ refused_by why
+  paths-refused e = first-refused x length (sym h.answer-is ∙ ap said_by e)
 
-  pub paths-found : {k : ℕ} → length before ≡ limit 15 → r ≡ Count.Rows k → PathsFound x after k
+  pub paths-found : {k : ℕ} → length before ≡ limit 15 → r ≡ Ok k → PathsFound x after k
   paths-found {k} long e =
-      let f = followed x (λ l. accepted (length l)) (sym h.answer-is ∙ ap said_count e) in
+      let f = followed x (λ l. accepted (length l)) (sym h.answer-is ∙ ap said_by e) in
       record {
         what = f.what;
         first = f.first;
@@ -114,14 +113,14 @@ pub record ManifestFound (s : List ℕ) (l : ManifestLent) (m : Manifest) : Type
   pub is : m ≡ manifest_of what
   pub held : ManifestHolds l manifest_limits what
 
-module _ (s : List ℕ) {l : ManifestLent} {r : ManifestRead} (h : ManifestIs manifest_limits (manifest_at s manifest_limits) l
+module _ (s : List ℕ) {l : ManifestLent} {r : Result Manifest Refusal} (h : ManifestIs manifest_limits (manifest_at s manifest_limits) l
     (said_manifest r)) where
-  pub manifest-refused : {why : Refusal} → r ≡ ManifestRead.Refused why → manifest_listed s ≡ refused_by why
+  pub manifest-refused : {why : Refusal} → r ≡ Err why → manifest_listed s ≡ refused_by why
   unfolding manifest_listed
   manifest-refused e = sym (follow-stops _ (first-refused (manifest_at s manifest_limits) manifest_of
       (sym h.answer-is ∙ ap said_manifest e)))
 
-  pub manifest-found : {m : Manifest} → r ≡ ManifestRead.Manifest m → ManifestFound s l m
+  pub manifest-found : {m : Manifest} → r ≡ Ok m → ManifestFound s l m
   unfolding manifest_held
   manifest-found {m} e =
       let f = followed (manifest_at s manifest_limits) (λ t. accepted (manifest_of t)) (sym h.answer-is ∙ ap said_manifest e) in

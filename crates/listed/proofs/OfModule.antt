@@ -4,17 +4,22 @@ use native.Mathlib.Omega.{arith}
 use mathlib.Core.Path.{◌≡◌, refl, sym, ap, ◌∙◌, subst}
 use mathlib.Core.List.{List}
 use lib.ListN.{length}
-use Rattle.refusal.specs.Said.{Said, accepted, refused, follow, Place}
-use Rattle.table.proofs.Larger.{Sure, same, spare, Full}
+use Rattle.refusal.specs.Said.{Said, accepted, refused_by, number_of, where_of}
+use Rattle.refusal.specs.declared.Refusal.{Refusal}
+use Rattle.refusal.specs.declared.Refusal.TheVariants.{UnexpectedEof, BadMagic, BadUtf8, MalformedSection, Directive, BadDefault}
+use Rattle.refusal.specs.declared.Refusal.TheVariants.{BadDomain, PackageInWorld, NoName, Unmatched, Outside, Full, TooLong, BadTable}
+use Rattle.refusal.specs.declared.Refusal.TheVariants.{NoRoom, TooManyBytes, TenthByte, AboveU32, NotStrict}
+use Rattle.refusal.specs.contracts.Refusal.{the_type as refusals}
+use denote.Enum.Declared.{tag_of}
 use Rattle.wasm.specs.Module.{Sizes, Parsed, module_at, Lent}
 use Rattle.wasm.specs.declared.Module.{Module}
-use Rattle.conform.specs.Sound.{few, limits}
+use Rattle.conform.specs.Sound.{limits}
 use Rattle.conform.proofs.Found.{Found, sections-in, imports-in, exports-in, names_in}
 use Rattle.conform.proofs.Found.{sections-taken, imports-taken, exports-taken, names-taken}
-use Rattle.conform.proofs.Larger.{larger-sure, limits-largest, limits-decide, refused-same}
-use Rattle.output.specs.Bytes.{room_for, left}
+use Rattle.conform.proofs.Larger.{limits-largest, limits-decide, refused-same}
+use Rattle.output.specs.Bytes.{room_for}
 use Rattle.listed.specs.declared.modules.ModuleTold.{ModuleTold}
-use Rattle.listed.specs.Delivered.{housed, Lays, Delivers}
+use Rattle.listed.specs.Delivered.{Lays, Delivers}
 use Rattle.listed.specs.Modules.{no_module, module_by, module_bytes, module_told, taken_bytes, TablesWithin, ModuleCounted}
 use Rattle.listed.proofs.Laying.{delivers, delivers-none}
 
@@ -45,36 +50,32 @@ module _ {file : List ℕ} {z : Sizes} {l : Lent} {m : Module} (q : Found file z
       subst (λ (x : Said Parsed). Delivers module_bytes (module_told (length file)) x d r y)
       (q.first ∙ sym (limits-decide file z q.what q.first)) (module-delivered k)
 
+-- 13 is what `Full` says
+full-tagged : (w : Refusal) → number_of w ≡ 13 → tag_of refusals w ≡ 11
+full-tagged (Full p) e = refl
+full-tagged (UnexpectedEof p) e = absurd (omega (arith, e))
+full-tagged (BadMagic p) e = absurd (omega (arith, e))
+full-tagged (BadUtf8 p) e = absurd (omega (arith, e))
+full-tagged (MalformedSection p o) e = absurd (omega (arith, e))
+full-tagged (Directive p) e = absurd (omega (arith, e))
+full-tagged (BadDefault p) e = absurd (omega (arith, e))
+full-tagged (BadDomain p) e = absurd (omega (arith, e))
+full-tagged (PackageInWorld p) e = absurd (omega (arith, e))
+full-tagged (NoName p) e = absurd (omega (arith, e))
+full-tagged (Unmatched p) e = absurd (omega (arith, e))
+full-tagged (Outside p) e = absurd (omega (arith, e))
+full-tagged TooLong e = absurd (omega (arith, e))
+full-tagged (BadTable p) e = absurd (omega (arith, e))
+full-tagged (NoRoom p) e = absurd (omega (arith, e))
+full-tagged (TooManyBytes p) e = absurd (omega (arith, e))
+full-tagged (TenthByte p) e = absurd (omega (arith, e))
+full-tagged (AboveU32 p) e = absurd (omega (arith, e))
+full-tagged (NotStrict p) e = absurd (omega (arith, e))
+
 -- what is refused with any tables, but for want of room, is refused with those at the limits
-pub refusal-settled : (file : List ℕ) (z : Sizes) {n : ℕ} {p : Place} {d : List ℕ} {r : ModuleTold} → module_at file z ≡ refused n p
-    → (n ≡ 13 → ⊥) → r ≡ no_module n p → Delivers module_bytes (module_told (length file)) (module_at file limits) d r d
-refusal-settled file z {n} {p} e other k =
-    delivers-none module_bytes (module_told (length file)) (refused-same file z limits n p (limits-largest z) other e) k
-
--- ---- tables for few rows: what is not refused for want of room is the answer, and what is leaves the buffer as it was
-module _ (file : List ℕ) {d y : List ℕ} {r : ModuleTold} (h : Delivers module_bytes (module_told (length file)) (module_at file few) d r y)
-  where
-    pub few-settles : (r.number ≡ 13 → ⊥) → Delivers module_bytes (module_told (length file)) (module_at file limits) d r y
-    unfolding housed follow
-    few-settles other = by (larger-sure file few limits (limits-largest few))
-      where
-        by : Sure Full (module_at file few) (module_at file limits)
-            → Delivers module_bytes (module_told (length file)) (module_at file limits) d r y
-        by (same e) = subst (λ (x : Said Parsed). Delivers module_bytes (module_told (length file)) x d r y) e h
-        by (spare n p full e) =
-            absurd (other (ap (λ (t : ModuleTold). t.number)
-            (h.answer-is ∙ ap (λ (x : Said Parsed). module_told (length file) (housed module_bytes (length d) x)) e) ∙ full))
-
-    few-leaves : r.number ≡ 13 → y ≡ d
-    unfolding follow
-    few-leaves e = by (housed module_bytes (length d) (module_at file few)) h.answer-is h.output-is
-      where
-        by : (x : Said Parsed) → r ≡ module_told (length file) x → y ≡ left d (follow x (λ v. accepted (module_bytes v))) → y ≡ d
-        by (accepted v) a o = let z : ◌≡◌ {A = ℕ} 13 0 = sym e ∙ ap (λ (t : ModuleTold). t.number) a in absurd (omega (arith, z))
-        by (refused n p) a o = o
-
-    pub few-full : {r1 : ModuleTold} {y1 : List ℕ} → r.number ≡ 13
-        → Delivers module_bytes (module_told (length file)) (module_at file limits) y r1 y1
-        → Delivers module_bytes (module_told (length file)) (module_at file limits) d r1 y1
-    few-full {r1} {y1} e k =
-        subst (λ (x : List ℕ). Delivers module_bytes (module_told (length file)) (module_at file limits) x r1 y1) (few-leaves e) k
+pub refusal-settled : (file : List ℕ) (z : Sizes) (w : Refusal) {d : List ℕ} {r : ModuleTold} → module_at file z ≡ refused_by w
+    → (tag_of refusals w ≡ 11 → ⊥) → r ≡ no_module (number_of w) (where_of w)
+    → Delivers module_bytes (module_told (length file)) (module_at file limits) d r d
+refusal-settled file z w e other k =
+    delivers-none module_bytes (module_told (length file))
+    (refused-same file z limits (number_of w) (where_of w) (limits-largest z) (λ n. other (full-tagged w n)) e) k

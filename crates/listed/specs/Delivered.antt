@@ -2,8 +2,13 @@
 -- Stated once over the value, its bytes and the struct. Assumes nothing.
 use Rattle.std.specs.Prelude.{ℕ, ◌+◌, ◌≡◌, List, length}
 use Rattle.refusal.specs.Said.{Said, accepted, follow}
+use Rattle.refusal.specs.declared.Part.{Part}
 use Rattle.table.specs.Shape.{full_cells}
 use Rattle.output.specs.Bytes.{room_for, written_count, left}
+
+-- where a name stands that there is not
+abbrev pub no_part : Part
+no_part = record { from = 0; len = 0 }
 
 -- x, whose value's bytes have to go into so much room: 16, with the bytes needed
 unfoldable pub housed : {A : Type 0} → (A → List ℕ) → ℕ → Said A → Said A

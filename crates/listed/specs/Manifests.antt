@@ -1,5 +1,6 @@
 -- docs/RULES.md, "Texts": a manifest's text, told in a struct of numbers, and its rows and lists of paths as bytes. Assumes nothing.
-use Rattle.std.specs.Prelude.{ℕ, ◌*◌, ◌≤◌, true, false, List, ◌++◌, length, take}
+use Rattle.std.specs.Prelude.{ℕ, ◌*◌, ◌≤◌, true, false, is_some, List, ◌++◌, length, take}
+use Rattle.std.specs.Option.{unwrap_or}
 use Rattle.refusal.specs.Said.{Said, accepted, refused, follow, Place, number_at}
 use Rattle.table.specs.Table.{laid, cells}
 use Rattle.table.specs.Shape.{width, limit, full_cells}
@@ -7,6 +8,7 @@ use Rattle.output.specs.Cells.{cell_bytes}
 use Rattle.wit.specs.Manifest.{ManifestSizes, manifest_at, manifest_of, world_cells, reference_cells}
 use Rattle.wit.specs.declared.Manifest.{Manifest}
 use Rattle.reference_rows.specs.Queries.{paths_of}
+use Rattle.listed.specs.Delivered.{no_part}
 use Rattle.listed.specs.declared.manifests.ManifestTold.{ManifestTold}
 
 -- what is listed: the rows of tables 5 and 6, and the rows of table 6 by the paths that are imported and by those that are exported
@@ -45,9 +47,9 @@ manifest_by m i e (accepted n) =
     record {
       number = 0;
       place = 0;
-      packaged = m.packaged;
-      start = m.start;
-      size = m.size;
+      packaged = is_some m.package;
+      start = (unwrap_or m.package no_part).from;
+      size = (unwrap_or m.package no_part).len;
       worlds = m.worlds;
       references = m.references;
       imported = i;

@@ -1,12 +1,15 @@
 -- docs/RULES.md, "The module": a module's file, told in a struct of numbers, and its rows as bytes. Assumes nothing.
-use Rattle.std.specs.Prelude.{ℕ, ◌*◌, ◌≤◌, false, List, ◌++◌, length, take}
+use Rattle.std.specs.Prelude.{ℕ, ◌*◌, ◌≤◌, ◌≡◌, false, Option, Some, None, is_some, List, ◌++◌, length, take}
+use Rattle.std.specs.Option.{unwrap_or}
 use Rattle.refusal.specs.Said.{Said, accepted, refused, Place, number_at, beside_at}
 use Rattle.table.specs.Table.{cells}
 use Rattle.table.specs.Shape.{width, full_cells}
 use Rattle.output.specs.Cells.{cell_bytes}
 use Rattle.wasm.specs.Rows.{import_cells, export_cells, symbol_cells}
-use Rattle.wasm.specs.Module.{Parsed, module_of, section_cells}
+use Rattle.wasm.specs.Module.{Parsed, module_at, module_of, section_cells}
 use Rattle.wasm.specs.declared.Module.{Module}
+use Rattle.conform.specs.Sound.{limits}
+use Rattle.listed.specs.Delivered.{no_part, Delivers}
 use Rattle.listed.specs.declared.modules.ModuleTold.{ModuleTold}
 
 -- a refusal: all but number, place and the offset beside it is zero
@@ -37,9 +40,9 @@ module_by m (accepted n) =
       offset = 0;
       version = m.version;
       length = m.length;
-      named = m.named;
-      start = m.start;
-      size = m.size;
+      named = is_some m.name;
+      start = (unwrap_or m.name no_part).from;
+      size = (unwrap_or m.name no_part).len;
       sections = m.sections;
       imports = m.imports;
       exports = m.exports;
@@ -86,3 +89,8 @@ taken_bytes m sections imports exports names =
     ++ take (m.imports * width 2) imports
     ++ take (m.exports * width 3) exports
     ++ take (m.symbols * width 4) names)
+
+-- a file that was read with some tables: it is told as with tables at the limits; or a table was full, and the buffer is as it was
+abbrev pub Tried : List ℕ → List ℕ → Option ModuleTold → List ℕ → Type 0
+Tried file d (Some r) y = Delivers module_bytes (module_told (length file)) (module_at file limits) d r y
+Tried file d None y = y ≡ d

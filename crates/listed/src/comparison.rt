@@ -9,15 +9,15 @@ ghost use Rattle.listed.specs.Comparisons.{no_comparison, comparison_bytes, comp
 ghost use Rattle.listed.specs.Comparisons.{explained, against};
 ghost use Rattle.listed.specs.Comparisons.{builds, comparison, RowsRead};
 
-use crate::lists::lay_two;
-use compat::{Compared, compare_modules};
+use crate::lists::lay_four;
+use compat::{Lists, compare_modules};
 use reasons::reasons_from;
-use refusal::{MAX_FILE, Refusal, Written};
+use refusal::{MAX_FILE, Refusal};
 use table::shape::{
     EXPORT_CELLS, EXPORT_DIFF_CELLS, EXPORT_DIFF_WIDTH, IMPORT_CELLS, NAME_CELLS, NEED_DIFF_CELLS,
     NEED_DIFF_WIDTH, SECTION_CELLS,
 };
-use wasm::ModuleRead;
+use wasm::Module;
 
 // The offset beside 5, how long the lists of differences are, whether nothing is broken, how many bytes the reasons are, and how many were
 // written in all.
@@ -62,19 +62,18 @@ fn lay_comparison<'a, 'b, 'c, 'd, 'e, 'f, 'g, 'h>(
     ce: &'e [usize],
     nce: usize,
     xd: &'f [usize],
-    exports: usize,
     cd: &'g [usize],
-    capabilities: usize,
-    compatible: bool,
+    lists: Lists,
     out: &'h mut [u8],
 ) -> ComparisonTold
-    requires { ComparisonCounted exports capabilities xd.now cd.now }
+    requires { ComparisonCounted lists.exports lists.capabilities xd.now cd.now }
     ensures { Explains (given baseline.now bi.now nbi be.now nbe)
         (given candidate.now ci.now nci ce.now nce)
-        (diffs xd.now exports cd.now capabilities) compatible out.old result out.new }
+        (diffs xd.now lists.exports cd.now lists.capabilities) lists.compatible
+        out.old result out.new }
 {
-    let a = exports * EXPORT_DIFF_WIDTH;
-    let b = capabilities * NEED_DIFF_WIDTH;
+    let a = lists.exports * EXPORT_DIFF_WIDTH;
+    let b = lists.capabilities * NEED_DIFF_WIDTH;
     let first = (a + b) * 8;
     match reasons_from(
         baseline,
@@ -88,22 +87,22 @@ fn lay_comparison<'a, 'b, 'c, 'd, 'e, 'f, 'g, 'h>(
         ce,
         nce,
         xd,
-        exports,
+        lists.exports,
         cd,
-        capabilities,
+        lists.capabilities,
         out,
         first as u32,
     ) {
-        Written::Refused(why) => no_comparison(why),
-        Written::Bytes(bytes) => {
-            lay_two(&xd[..a], &cd[..b], out);
+        Err(why) => no_comparison(why),
+        Ok(bytes) => {
+            let _ = lay_four(&xd[..a], &cd[..b], &[], &[], out);
             ComparisonTold {
                 number: 0,
                 place: 0,
                 offset: 0,
-                exports,
-                capabilities,
-                compatible,
+                exports: lists.exports,
+                capabilities: lists.capabilities,
+                compatible: lists.compatible,
                 reasons: bytes - first,
                 bytes,
             }
@@ -133,34 +132,15 @@ fn list_differences<'a, 'b, 'c, 'd, 'e, 'f>(
     let mut xd = [0usize; EXPORT_DIFF_CELLS];
     let mut cd = [0usize; NEED_DIFF_CELLS];
     match compare_modules(b, bi, nbi, be, nbe, c, ci, nci, ce, nce, &mut xd, &mut cd) {
-        Compared::Refused(why) => no_comparison(why),
-        Compared::Lists {
-            exports,
-            capabilities,
-            compatible,
-        } => lay_comparison(
-            b,
-            bi,
-            nbi,
-            be,
-            nbe,
-            c,
-            ci,
-            nci,
-            ce,
-            nce,
-            &xd,
-            exports,
-            &cd,
-            capabilities,
-            compatible,
-            out,
+        Err(why) => no_comparison(why),
+        Ok(lists) => lay_comparison(
+            b, bi, nbi, be, nbe, c, ci, nci, ce, nce, &xd, &cd, lists, out,
         ),
     }
 }
 
 // A module's imports and exports. What else a reader notes takes room only while it reads.
-fn read_rows(file: &[u8], imports: &mut [usize], exports: &mut [usize]) -> ModuleRead
+fn read_rows(file: &[u8], imports: &mut [usize], exports: &mut [usize]) -> Result<Module, Refusal>
     ensures { RowsRead file.now (length imports.old) (length exports.old)
         imports.new exports.new (said_module result) }
 {
@@ -186,8 +166,8 @@ fn list_against<'a, 'b, 'c, 'd>(
     let mut imports = [0usize; IMPORT_CELLS];
     let mut exports = [0usize; EXPORT_CELLS];
     match read_rows(candidate, &mut imports, &mut exports) {
-        ModuleRead::Refused(why) => no_comparison(why),
-        ModuleRead::Module(m) => list_differences(
+        Err(why) => no_comparison(why),
+        Ok(m) => list_differences(
             baseline, bi, nbi, be, nbe, candidate, &imports, m.imports, &exports, m.exports, out,
         ),
     }
@@ -201,8 +181,8 @@ fn list_builds<'a, 'b>(baseline: &'a [u8], candidate: &'a [u8], out: &'b mut [u8
     let mut imports = [0usize; IMPORT_CELLS];
     let mut exports = [0usize; EXPORT_CELLS];
     match read_rows(baseline, &mut imports, &mut exports) {
-        ModuleRead::Refused(why) => no_comparison(why),
-        ModuleRead::Module(m) => list_against(
+        Err(why) => no_comparison(why),
+        Ok(m) => list_against(
             baseline, &imports, m.imports, &exports, m.exports, candidate, out,
         ),
     }
@@ -217,10 +197,7 @@ pub fn list_comparison<'a, 'b>(
     ensures { Delivers comparison_bytes comparison_told (comparison baseline.now candidate.now)
         out.old result out.new }
 {
-    if baseline.len() > MAX_FILE {
-        return no_comparison(Refusal::TooLong);
-    }
-    if candidate.len() > MAX_FILE {
+    if baseline.len() > MAX_FILE || candidate.len() > MAX_FILE {
         return no_comparison(Refusal::TooLong);
     }
     list_builds(baseline, candidate, out)

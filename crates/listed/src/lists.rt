@@ -5,7 +5,7 @@ ghost use Rattle.output.specs.Bytes.{Formed};
 ghost use Rattle.listed.specs.Delivered.{most_cells};
 
 use output::cells::put_cells;
-use refusal::{Refusal, Written};
+use refusal::Refusal;
 
 // Four lists into the buffer, where it has room for all of them.
 pub(crate) fn lay_four(
@@ -14,32 +14,17 @@ pub(crate) fn lay_four(
     c: &[usize],
     d: &[usize],
     out: &mut [u8],
-) -> Written
+) -> Result<usize, Refusal>
     requires { length a.now + length b.now + length c.now + length d.now ≤ most_cells }
     ensures { Formed (cell_bytes (a.now ++ b.now ++ c.now ++ d.now))
         out.old result out.new }
 {
     let needed = (a.len() + b.len() + c.len() + d.len()) * 8;
     if out.len() < needed {
-        return Written::Refused(Refusal::NoRoom(needed));
+        return Err(Refusal::NoRoom(needed));
     }
     let first = put_cells(a, out, 0);
     let second = put_cells(b, out, first);
     let third = put_cells(c, out, second);
-    let bytes = put_cells(d, out, third);
-    Written::Bytes(bytes)
-}
-
-// Two lists.
-pub(crate) fn lay_two(a: &[usize], b: &[usize], out: &mut [u8]) -> Written
-    requires { length a.now + length b.now ≤ most_cells }
-    ensures { Formed (cell_bytes (a.now ++ b.now)) out.old result out.new }
-{
-    let needed = (a.len() + b.len()) * 8;
-    if out.len() < needed {
-        return Written::Refused(Refusal::NoRoom(needed));
-    }
-    let first = put_cells(a, out, 0);
-    let bytes = put_cells(b, out, first);
-    Written::Bytes(bytes)
+    Ok(put_cells(d, out, third))
 }

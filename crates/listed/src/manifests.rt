@@ -1,6 +1,6 @@
 // wit.rs: a manifest's text, as the rows of tables 5 and 6 and the two sorted lists of paths.
 ghost use Rattle.std.specs.Prelude.{◌≡◌, length};
-ghost use Rattle.refusal.specs.Said.{number_of, where_of, said_written};
+ghost use Rattle.refusal.specs.Said.{number_of, where_of, said_by};
 ghost use Rattle.output.specs.Bytes.{room_for};
 ghost use Rattle.listed.specs.Delivered.{Lays, Delivers};
 ghost use Rattle.listed.specs.Manifests.{no_manifest, manifest_by, manifest_bytes, manifest_told, worlds_in, references_in};
@@ -8,9 +8,9 @@ ghost use Rattle.listed.specs.Manifests.{ManifestCounted, Short, laid_bytes, pat
 
 use crate::lists::lay_four;
 use reference_rows::{all_exports, all_imports};
-use refusal::{Count, Refusal, Written};
+use refusal::{Part, Refusal};
 use table::shape::{MAX_SORTED, REFERENCE_CELLS, REFERENCE_WIDTH, WORLD_CELLS, WORLD_WIDTH};
-use wit::{Manifest, ManifestRead};
+use wit::Manifest;
 
 // The package, how many rows the tables have, how long the lists of imported and exported paths are, and how many bytes these are.
 #[repr(C)]
@@ -45,23 +45,29 @@ fn no_manifest(why: Refusal) -> ManifestTold
     }
 }
 
-fn manifest_of(m: Manifest, imported: usize, exported: usize, w: Written) -> ManifestTold
-    ensures { result ≡ manifest_by m imported exported (said_written w) }
+fn manifest_of(
+    m: Manifest,
+    imported: usize,
+    exported: usize,
+    w: Result<usize, Refusal>,
+) -> ManifestTold
+    ensures { result ≡ manifest_by m imported exported (said_by w) }
 {
+    let package = m.package.unwrap_or(Part { from: 0, len: 0 });
     match w {
-        Written::Bytes(bytes) => ManifestTold {
+        Ok(bytes) => ManifestTold {
             number: 0,
             place: 0,
-            packaged: m.packaged,
-            start: m.start,
-            size: m.size,
+            packaged: m.package.is_some(),
+            start: package.from,
+            size: package.len,
             worlds: m.worlds,
             references: m.references,
             imported,
             exported,
             bytes,
         },
-        Written::Refused(why) => no_manifest(why),
+        Err(why) => no_manifest(why),
     }
 }
 
@@ -105,17 +111,10 @@ fn list_paths(
     let mut imported = [0usize; MAX_SORTED];
     let mut exported = [0usize; MAX_SORTED];
     match all_imports(text, worlds, n, references, k, &mut imported) {
-        Count::Refused(why) => no_manifest(why),
-        Count::Rows(i) => match all_exports(text, worlds, n, references, k, &mut exported) {
-            Count::Refused(why) => no_manifest(why),
-            Count::Rows(e) => lay_manifest(
-                m,
-                worlds,
-                references,
-                &imported[..i],
-                &exported[..e],
-                out,
-            ),
+        Err(why) => no_manifest(why),
+        Ok(i) => match all_exports(text, worlds, n, references, k, &mut exported) {
+            Err(why) => no_manifest(why),
+            Ok(e) => lay_manifest(m, worlds, references, &imported[..i], &exported[..e], out),
         },
     }
 }
@@ -127,7 +126,7 @@ pub fn list_manifest(text: &[u8], out: &mut [u8]) -> ManifestTold
     let mut worlds = [0usize; WORLD_CELLS];
     let mut references = [0usize; REFERENCE_CELLS];
     match wit::read_manifest(text, &mut worlds, &mut references) {
-        ManifestRead::Refused(why) => no_manifest(why),
-        ManifestRead::Manifest(m) => list_paths(text, m, &worlds, &references, out),
+        Err(why) => no_manifest(why),
+        Ok(m) => list_paths(text, m, &worlds, &references, out),
     }
 }

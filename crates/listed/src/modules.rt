@@ -1,20 +1,21 @@
 // wasm.rs: a module's file, as the rows of tables 1 to 4.
-ghost use Rattle.std.specs.Prelude.{◌≡◌, length};
-ghost use Rattle.refusal.specs.Said.{number_of, where_of, said_written};
-ghost use Rattle.wasm.specs.Module.{module_at, sizes};
-ghost use Rattle.conform.specs.Sound.{few, limits};
+ghost use Rattle.std.specs.Prelude.{◌≡◌, ◌≤◌, length};
+ghost use Rattle.refusal.specs.Said.{number_of, where_of, said_by};
+ghost use Rattle.table.specs.Shape.{full_cells};
+ghost use Rattle.wasm.specs.Module.{module_at};
+ghost use Rattle.conform.specs.Sound.{limits};
 ghost use Rattle.output.specs.Bytes.{room_for};
 ghost use Rattle.listed.specs.Delivered.{Lays, Delivers};
-ghost use Rattle.listed.specs.Modules.{no_module, module_by, module_bytes, module_told, TablesWithin, ModuleCounted, taken_bytes};
+ghost use Rattle.listed.specs.Modules.{no_module, module_by, module_bytes, module_told, Tried, ModuleCounted, taken_bytes};
 
 use crate::lists::lay_four;
-use refusal::{Refusal, Written};
+use refusal::{Part, Refusal};
 use table::shape::{
     EXPORT_CELLS, EXPORT_WIDTH, FEW_EXPORT_CELLS, FEW_IMPORT_CELLS, FEW_NAME_CELLS,
     FEW_SECTION_CELLS, IMPORT_CELLS, IMPORT_WIDTH, NAME_CELLS, NAME_WIDTH, SECTION_CELLS,
     SECTION_WIDTH,
 };
-use wasm::{Module, ModuleRead};
+use wasm::Module;
 
 // The cells of tables for the smallest modules: 8 sections, 4 imports, 4 exports, no function name.
 const LEAST_SECTIONS: usize = 8 * SECTION_WIDTH;
@@ -62,26 +63,27 @@ fn no_module(why: Refusal) -> ModuleTold
     }
 }
 
-fn module_of(m: Module, w: Written) -> ModuleTold
-    ensures { result ≡ module_by m (said_written w) }
+fn module_of(m: Module, w: Result<usize, Refusal>) -> ModuleTold
+    ensures { result ≡ module_by m (said_by w) }
 {
+    let name = m.name.unwrap_or(Part { from: 0, len: 0 });
     match w {
-        Written::Bytes(bytes) => ModuleTold {
+        Ok(bytes) => ModuleTold {
             number: 0,
             place: 0,
             offset: 0,
             version: m.version,
             length: m.length,
-            named: m.named,
-            start: m.start,
-            size: m.size,
+            named: m.name.is_some(),
+            start: name.from,
+            size: name.len,
             sections: m.sections,
             imports: m.imports,
             exports: m.exports,
             symbols: m.symbols,
             bytes,
         },
-        Written::Refused(why) => no_module(why),
+        Err(why) => no_module(why),
     }
 }
 
@@ -115,44 +117,29 @@ fn lay_module(
     )
 }
 
-// The file is read with the tables that are lent, and its rows are laid out.
-fn list_with(
+// The file is read with tables of so many cells, and its rows are laid out; none where a table is full. Not merged with what calls it:
+// so the pages of tables that are not used are not touched.
+#[inline(never)]
+fn list_in<const S: usize, const I: usize, const E: usize, const N: usize>(
     file: &[u8],
-    sections: &mut [usize],
-    imports: &mut [usize],
-    exports: &mut [usize],
-    names: &mut [usize],
     out: &mut [u8],
-) -> ModuleTold
-    requires { TablesWithin sections.old imports.old exports.old names.old }
-    ensures { Delivers module_bytes (module_told (length file.now)) (module_at file.now
-        (sizes sections.old imports.old exports.old names.old))
-        out.old result out.new }
+) -> Option<ModuleTold>
+    requires { (S ≤ full_cells 1) × (I ≤ full_cells 2) × (E ≤ full_cells 3) × (N ≤ full_cells 4) }
+    ensures { Tried file.now out.old result out.new }
 {
-    match wasm::read_module(file, sections, imports, exports, names) {
-        ModuleRead::Refused(why) => no_module(why),
-        ModuleRead::Module(m) => lay_module(m, sections, imports, exports, names, out),
+    let mut sections = [0usize; S];
+    let mut imports = [0usize; I];
+    let mut exports = [0usize; E];
+    let mut names = [0usize; N];
+    match wasm::read_module(file, &mut sections, &mut imports, &mut exports, &mut names) {
+        Ok(m) => Some(lay_module(m, &sections, &imports, &exports, &names, out)),
+        Err(Refusal::Full(_)) => None,
+        Err(why) => Some(no_module(why)),
     }
 }
 
-fn list_few(file: &[u8], out: &mut [u8]) -> ModuleTold
-    ensures { Delivers module_bytes (module_told (length file.now)) (module_at file.now few)
-        out.old result out.new }
-{
-    let mut sections = [0usize; FEW_SECTION_CELLS];
-    let mut imports = [0usize; FEW_IMPORT_CELLS];
-    let mut exports = [0usize; FEW_EXPORT_CELLS];
-    let mut names = [0usize; FEW_NAME_CELLS];
-    list_with(
-        file,
-        &mut sections,
-        &mut imports,
-        &mut exports,
-        &mut names,
-        out,
-    )
-}
-
+// With tables at the limits, where a full one is an answer.
+#[inline(never)]
 fn list_all(file: &[u8], out: &mut [u8]) -> ModuleTold
     ensures { Delivers module_bytes (module_told (length file.now)) (module_at file.now limits)
         out.old result out.new }
@@ -161,56 +148,29 @@ fn list_all(file: &[u8], out: &mut [u8]) -> ModuleTold
     let mut imports = [0usize; IMPORT_CELLS];
     let mut exports = [0usize; EXPORT_CELLS];
     let mut names = [0usize; NAME_CELLS];
-    list_with(
-        file,
-        &mut sections,
-        &mut imports,
-        &mut exports,
-        &mut names,
-        out,
-    )
-}
-
-// Tables for few rows, 16 to a table, and those at the limits where these are full.
-fn list_more(file: &[u8], out: &mut [u8]) -> ModuleTold
-    ensures { Delivers module_bytes (module_told (length file.now)) (module_at file.now limits)
-        out.old result out.new }
-{
-    let first = list_few(file, out);
-    if first.number == 13 {
-        return list_all(file, out);
-    }
-    first
-}
-
-// Tables for the smallest modules, and more where these are full. A function that calls itself is not merged with the ones that it
-// calls: so the pages of larger tables are not touched where they are not used.
-fn list_from(file: &[u8], more: bool, out: &mut [u8]) -> ModuleTold
-    ensures { Delivers module_bytes (module_told (length file.now)) (module_at file.now limits)
-        out.old result out.new }
-{
-    if more {
-        return list_more(file, out);
-    }
-    let mut sections = [0usize; LEAST_SECTIONS];
-    let mut imports = [0usize; LEAST_IMPORTS];
-    let mut exports = [0usize; LEAST_EXPORTS];
-    let mut names = [0usize; 0];
     match wasm::read_module(file, &mut sections, &mut imports, &mut exports, &mut names) {
-        ModuleRead::Module(m) => lay_module(m, &sections, &imports, &exports, &names, out),
-        ModuleRead::Refused(why) => {
-            if refusal::number(why) == 13 {
-                return list_from(file, true, out);
-            }
-            no_module(why)
-        }
+        Ok(m) => lay_module(m, &sections, &imports, &exports, &names, out),
+        Err(why) => no_module(why),
     }
 }
 
-// What the reader refuses with tables at the limits, then 16. Small tables come first: those are cleared in no time.
+// What the reader refuses with tables at the limits, then 16. Small tables come first, and those for few rows, 16 to a table: these are
+// cleared in no time.
 pub fn list_module(file: &[u8], out: &mut [u8]) -> ModuleTold
     ensures { Delivers module_bytes (module_told (length file.now)) (module_at file.now limits)
         out.old result out.new }
 {
-    list_from(file, false, out)
+    if let Some(told) = list_in::<LEAST_SECTIONS, LEAST_IMPORTS, LEAST_EXPORTS, 0>(file, out) {
+        return told;
+    }
+    if let Some(told) = list_in::<
+        FEW_SECTION_CELLS,
+        FEW_IMPORT_CELLS,
+        FEW_EXPORT_CELLS,
+        FEW_NAME_CELLS,
+    >(file, out)
+    {
+        return told;
+    }
+    list_all(file, out)
 }

@@ -9,12 +9,12 @@ ghost use Rattle.policy_text.specs.Token.{tokens_in, all_tokens};
 ghost use Rattle.listed.specs.Delivered.{Lays, Delivers};
 ghost use Rattle.listed.specs.Tokens.{no_tokens, tokens_by, tokens_bytes, tokens_told, tokens_read};
 
-use domains::{Domain, DomainFound, domain_of};
+use domains::{Domain, domain_of};
 use output::cells::put_cells;
 use policy::Policy;
 use policy::ranges::test_policy;
-use policy_text::token::{Token, first_token};
-use refusal::{Answer, Refusal};
+use policy_text::token::first_token;
+use refusal::Refusal;
 use verdicts::effective;
 
 // How many tokens there are, and how many bytes their ranges are: sixteen each.
@@ -45,13 +45,11 @@ fn count_tokens(s: &[u8], from: usize, end: usize) -> usize
 {
     let mut i = from;
     let mut n = 0;
-    loop {
-        let Token::At(_, next) = first_token(s, i, end) else {
-            return n;
-        };
+    while let Some(token) = first_token(s, i, end) {
         n += 1;
-        i = next;
+        i = token.next;
     }
+    n
 }
 
 // Their ranges at the start of a buffer, which has room for them all.
@@ -61,13 +59,10 @@ fn put_tokens(s: &[u8], from: usize, end: usize, out: &mut [u8])
 {
     let mut i = from;
     let mut o = 0;
-    loop {
-        let Token::At(part, next) = first_token(s, i, end) else {
-            return;
-        };
-        let row = [part.from, part.len];
+    while let Some(token) = first_token(s, i, end) {
+        let row = [token.part.from, token.part.len];
         o = put_cells(&row, out, o);
-        i = next;
+        i = token.next;
     }
 }
 
@@ -97,8 +92,8 @@ fn list_rule(text: &[u8], p: Policy, d: Domain, out: &mut [u8]) -> TokensTold
         out.old result out.new }
 {
     match test_policy(text, p) {
-        Answer::Refused(why) => no_tokens(why),
-        Answer::Accepted => {
+        Err(why) => no_tokens(why),
+        Ok(()) => {
             let rule = effective(p, d);
             let from = rule.from;
             let end = from + rule.len;
@@ -111,21 +106,16 @@ fn list_rule(text: &[u8], p: Policy, d: Domain, out: &mut [u8]) -> TokensTold
 pub fn list_tokens(text: &[u8], domain: usize, out: &mut [u8]) -> TokensTold
     ensures { Delivers tokens_bytes tokens_told (tokens_read text.now domain) out.old result out.new }
 {
-    let read = policy::read_policy(text);
-    let answer = read.answer;
-    match answer {
-        Answer::Refused(why) => no_tokens(why),
-        Answer::Accepted => {
-            let DomainFound::Domain(d) = domain_of(domain) else {
-                return TokensTold {
-                    number: 0,
-                    place: 0,
-                    count: 0,
-                    bytes: 0,
-                };
-            };
-            let p = read.policy;
-            list_rule(text, p, d, out)
-        }
+    match policy::read_policy(text) {
+        Err(why) => no_tokens(why),
+        Ok(p) => match domain_of(domain) {
+            Some(d) => list_rule(text, p, d, out),
+            None => TokensTold {
+                number: 0,
+                place: 0,
+                count: 0,
+                bytes: 0,
+            },
+        },
     }
 }

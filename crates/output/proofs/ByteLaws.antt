@@ -1,18 +1,20 @@
 -- Bytes written one after the other. Assumes nothing.
+use Rattle.std.specs.Prelude.{Result, Ok, Err}
 use mathlib.Core.Path.{◌≡◌, refl, sym, ap, ◌∙◌}
 use mathlib.Core.Bool.{Bool, true, false}
 use mathlib.Core.List.{List, [], ◌++◌, append-nil, append_assoc}
-use Prim.Native.Nat.{ℕ, ◌+◌, ◌≤◌, ◌<◌}
+use Prim.Native.Nat.{ℕ, ◌+◌, ◌-◌, ◌≤◌, ◌<◌}
 use native.Mathlib.Omega.{arith}
 use native.Mathlib.Nat.{add-zero, zero-add}
 use lib.ListN.{length, take, drop, length-append, length-drop, take-append-drop}
-use lib.Seq.{length-take-le, take-length, take_at, drop_at, drop-drop, paste}
+use lib.Seq.{length-take-le, take-length, take_at, drop_at, drop-drop}
 use lib.Dec.{ltb, leb}
 use borrow.Author.Tests.{ltb-false, leb-true, le-leb, lt-leb, lt-ltb, le-ltb}
+use borrow.Rule.Slice.PartMut.{put_mid}
+use Rattle.std.proofs.lemmas.Slice.{put_mid-paste}
 use Rattle.refusal.specs.Pick.{pick, both}
+use Rattle.refusal.specs.declared.Refusal.{Refusal}
 use Rattle.refusal.specs.Said.{refused, accepted, spot}
-use Rattle.refusal.specs.declared.Written.{Written}
-use Rattle.refusal.specs.declared.Written.TheVariants.{Bytes, Refused}
 use Rattle.refusal.specs.declared.Refusal.TheVariants.{NoRoom}
 use Rattle.output.specs.Bytes.{most, place_after, overlaid, put_at, Puts, Wrote, room_for, Formed, room_from, left_from, FormedFrom}
 
@@ -76,19 +78,21 @@ module _ (d : List ℕ) (at : ℕ) (go : Bool) (w : List ℕ) where
   unfolding place_after
   puts-over h k = record { next-is = omega arith; output-is = put-stays (omega arith) }
 
-  pub puts-no : go ≡ false → at + length w ≤ most → Puts d at go w (at + length w) d
+  pub puts-no : {r : ℕ} → go ≡ false → r < most + 1 → r ≡ at + length w → Puts d at go w r d
   unfolding place_after put_at
-  puts-no e m = record { next-is = omega arith; output-is = rw e }
+  puts-no e m n = record { next-is = omega arith; output-is = rw e }
 
-  pub puts-full : length d < at + length w → at + length w ≤ most → Puts d at go w (at + length w) d
+  pub puts-full : {r : ℕ} → length d < r → r < most + 1 → r ≡ at + length w → Puts d at go w r d
   unfolding place_after
-  puts-full k m = record { next-is = omega arith; output-is = put-stays k }
+  puts-full k m n = record { next-is = omega arith; output-is = put-stays (omega arith) }
 
-  pub puts-all : {r : ℕ} {x : List ℕ} → go ≡ true → at + length w ≤ length d → at + length w ≤ most
-      → r ≡ at + length w → x ≡ paste d at w (length w) → Puts d at go w r x
+  pub puts-all : {r : ℕ} {x : List ℕ} → go ≡ true → r ≤ length d → r < most + 1 → r ≡ at + length w → x ≡ w
+      → Puts d at go w r (put_mid at (r - at) d x)
   unfolding place_after put_at
-  puts-all e k m n p =
-      record { next-is = omega arith; output-is = p ∙ rw (take-length w) (rw (e, le-leb (at + length w) (length d) k)) }
+  puts-all {r} e k m n q =
+      let p = put_mid-paste at (r - at) d w w (length w) refl (omega arith) refl in
+      let t = le-leb (at + length w) (length d) (omega arith) in
+      record { next-is = omega arith; output-is = rw q (p ∙ rw (take-length w) (rw (e, t))) }
 
   pub puts-long : {r : ℕ} {x : List ℕ} → Puts d at go w r x → length x ≡ length d
   unfolding put_at
@@ -111,14 +115,14 @@ module _ (d : List ℕ) (at : ℕ) (go : Bool) (w : List ℕ) where
 
 -- ---- the writer's answers
 module _ (w d : List ℕ) (at : ℕ) {m : ℕ} {x : List ℕ} (counted : Wrote d at false w m x) (few : at + length w ≤ most) where
-  pub form-full : length d < m → FormedFrom at w d (Refused (NoRoom m)) x
+  pub form-full : length d < m → FormedFrom at w d (Err (NoRoom m)) x
   unfolding room_from place_after
   form-full h =
       let z : m ≡ at + length w = omega (arith, counted.next) in
       let t = lt-ltb (length d) (at + length w) (omega arith) in
       record { answer = rw (t, z); output = counted.kept refl ∙ rw t }
 
-  pub form-done : m ≤ length d → {j : ℕ} {y : List ℕ} → Wrote x at true w j y → FormedFrom at w d (Bytes j) y
+  pub form-done : m ≤ length d → {j : ℕ} {y : List ℕ} → Wrote x at true w j y → FormedFrom at w d (Ok j) y
   unfolding room_from place_after
   form-done h {j} {y} v =
       let z : j ≡ at + length w = omega (arith, v.next) in
@@ -128,7 +132,7 @@ module _ (w d : List ℕ) (at : ℕ) {m : ℕ} {x : List ℕ} (counted : Wrote d
       record { answer = rw (t, z); output = a ∙ rw (b, t) }
 
 -- the buffer keeps its length
-pub formed-long : (w d : List ℕ) (at : ℕ) {r : Written} {x : List ℕ} → FormedFrom at w d r x → length x ≡ length d
+pub formed-long : (w d : List ℕ) (at : ℕ) {r : Result ℕ Refusal} {x : List ℕ} → FormedFrom at w d r x → length x ≡ length d
 unfolding room_from
 formed-long w d at f = ap length f.output ∙ by (ltb (length d) (at + length w)) refl
   where
@@ -138,7 +142,7 @@ formed-long w d at f = ap length f.output ∙ by (ltb (length d) (at + length w)
     by false q = laid-long d at w [] (ltb-false (length d) (at + length w) q)
 
 -- from the start of the buffer on
-pub formed-first : (w d : List ℕ) {r : Written} {x : List ℕ} → FormedFrom 0 w d r x → Formed w d r x
+pub formed-first : (w d : List ℕ) {r : Result ℕ Refusal} {x : List ℕ} → FormedFrom 0 w d r x → Formed w d r x
 unfolding room_from room_for
 formed-first w d {r} {x} f = by (ltb (length d) (length w)) refl
   where

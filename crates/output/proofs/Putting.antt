@@ -1,9 +1,12 @@
 -- Laws of bytes that are put into a buffer one after another. Assumes nothing.
-use Prim.Native.Nat.{ℕ, suc, ◌+◌, ◌-◌, ◌*◌, ◌/◌, ◌%◌, ◌≤◌, ◌<◌}
-use native.Mathlib.Nat.{add_assoc, add-zero}
+use Prim.Native.Nat.{ℕ, zero, suc, ◌+◌, ◌-◌, ◌*◌, ◌/◌, ◌%◌, ◌^◌, ◌≤◌, ◌<◌}
+use native.Mathlib.Nat.{add-zero, div-one, div-div-eq-div-mul, pow-suc}
+use borrow.Rule.Slice.PartMut.{put_mid}
+use Rattle.std.specs.Int.{to_le_bytes, bytes_low_first}
+use Rattle.std.proofs.Common.{w64}
 use native.Mathlib.Numerals.{add-one}
 use native.Mathlib.Omega.{arith}
-use mathlib.Core.Path.{◌≡◌, sym, ap, ◌∙◌}
+use mathlib.Core.Path.{◌≡◌, refl, sym, ap, ◌∙◌}
 use mathlib.Core.List.{List, [], ◌∷◌, ◌++◌, append_assoc, append-nil}
 use lib.ListN.{length, take, drop, set, get_or, length-append, take-append-drop, drop_of_length-le}
 use lib.Seq.{take-suc-set, drop-set-lt, drop-cons, take_at, drop-append-add, drop-drop, length-take-le, append_snoc}
@@ -50,21 +53,25 @@ put-append d at xs ys h =
     ∙ ap (λ (l : List ℕ). l ++ drop (at + length xs + length ys) (front ++ back)) (append_assoc (take at d) xs ys)
     ∙ ap (λ (l : List ℕ). take at d ++ (xs ++ ys) ++ l) past
 
--- the lowest byte of what is left of a cell is put, then those of the rest
-pub low_turn : (m : ℕ) (d : List ℕ) (at k rest : ℕ) → k < m → at + k < length d
-    → put (set d (at + k) (rest % 256)) (at + (k + 1)) (low_bytes (m - (k + 1)) (rest / 256)) ≡ put d (at + k) (low_bytes (m - k) rest)
+-- ---- a cell's bytes, as the library gives them
+low-from : (i k n : ℕ) → bytes_low_first i k n ≡ low_bytes k (n / 256 ^ i)
 unfolding low_bytes
-low_turn m d at k rest h i =
-    let left : suc (m - (k + 1)) ≡ m - k = omega arith in
-    ap (λ (o : ℕ). put (set d (at + k) (rest % 256)) o (low_bytes (m - (k + 1)) (rest / 256))) (sym (add_assoc at k 1))
-    ∙ put-cons d (at + k) (rest % 256) (low_bytes (m - (k + 1)) (rest / 256)) i
-    ∙ ap (λ (j : ℕ). put d (at + k) (low_bytes j rest)) left
+low-from i zero n = refl
+low-from zero (suc k) n = rw (div-one n) (ap (λ (l : List ℕ). n % 256 ∷ l) (low-from 1 k n))
+low-from (suc i) (suc k) n =
+    let z : n / 256 ^ suc i / 256 ≡ n / 256 ^ suc (suc i) =
+    div-div-eq-div-mul n (256 ^ suc i) 256 ∙ ap (λ (m : ℕ). n / m) (sym (pow-suc 256 (suc i))) in
+    rw z (ap (λ (l : List ℕ). n / 256 ^ suc i % 256 ∷ l) (low-from (suc (suc i)) k n))
 
-pub low-done : (m : ℕ) (d : List ℕ) (at k rest : ℕ) → m ≤ k → put d at (low_bytes (m - k) rest) ≡ d
-unfolding low_bytes
-low-done m d at k rest h =
-    let none : m - k ≡ 0 = omega arith in
-    ap (λ (j : ℕ). put d at (low_bytes j rest)) none ∙ put-none d at
+pub low-first : (n : ℕ) → to_le_bytes w64 n ≡ low_bytes 8 n
+low-first n = low-from 0 8 n ∙ ap (low_bytes 8) (div-one n)
+
+-- and put over eight bytes of the buffer
+pub put-over : (d : List ℕ) (at k n : ℕ) {x : List ℕ} → k ≡ 8 → x ≡ to_le_bytes w64 n → put_mid at k d x ≡ put d at (low_bytes 8 n)
+unfolding put
+put-over d at k n {x} e q =
+    let z : x ≡ low_bytes 8 n = q ∙ low-first n in
+    rw (z, e, length-low 8 n, ← drop-drop 8 at d) (sym (append_assoc (take at d) (low_bytes 8 n) (drop 8 (drop at d))))
 
 -- a cell is put, then those after it
 module _ (l : List ℕ) where

@@ -12,8 +12,7 @@ use Rattle.refusal.specs.Slug.{slug_of, padded, word_of}
 use Rattle.refusal.specs.declared.Slug.{Slug}
 use Rattle.domains.specs.Domain.{domain_number, found, numbered, nothing, just, slugs, slug}
 use Rattle.domains.specs.declared.Domain.{Domain}
-use Rattle.domains.specs.declared.DomainFound.{DomainFound}
-use Rattle.domains.specs.declared.DomainFound.TheVariants as df
+use Rattle.std.specs.Prelude.{Option, Some, None}
 
 padded-word : (n : ℕ) (w : List ℕ) → length w ≤ n → take (length w) (padded n w) ≡ w
 unfolding padded
@@ -53,8 +52,8 @@ slug-long (suc (suc (suc (suc (suc zero))))) = omega arith
 slug-long (suc (suc (suc (suc (suc (suc zero)))))) = omega arith
 slug-long (suc (suc (suc (suc (suc (suc (suc d))))))) = omega arith
 
-module _ (n : ℕ) {f : DomainFound} (e : found f ≡ numbered n) where
-  number_is : {d : Domain} → f ≡ df.Domain d → domain_number d ≡ n
+module _ (n : ℕ) {f : Option Domain} (e : found f ≡ numbered n) where
+  number_is : {d : Domain} → f ≡ Some d → domain_number d ≡ n
   unfolding numbered
   number_is {d} q = by (ltb n 7) (sym (ap found q) ∙ e)
     where
@@ -62,11 +61,11 @@ module _ (n : ℕ) {f : DomainFound} (e : found f ≡ numbered n) where
       by true z = cc
       by false z = absurd (let y : ◌≡◌ {A = ℕ} 0 1 = cc in omega arith)
 
-  pub domain-is : {d : Domain} {w : Slug} → f ≡ df.Domain d → w ≡ slug_of (slug (domain_number d)) → SlugIs (slug n) w
+  pub domain-is : {d : Domain} {w : Slug} → f ≡ Some d → w ≡ slug_of (slug (domain_number d)) → SlugIs (slug n) w
   domain-is {d} q r = rw (number_is q) at (slug-is (slug (domain_number d)) (omega (arith, slug-long (domain_number d))) r)
 
   -- a number that is no domain's has no slug
-  pub domain-none : f ≡ df.Nothing → [] ≡ slug n
+  pub domain-none : f ≡ None → [] ≡ slug n
   unfolding numbered slug slugs
   domain-none q = by (ltb n 7) refl (sym (ap found q) ∙ e)
     where

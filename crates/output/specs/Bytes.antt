@@ -1,8 +1,8 @@
 -- docs/RULES.md, "Policy writer" and "Differences": bytes written into a lent buffer one after the other, or only counted. Assumes nothing.
-use Rattle.std.specs.Prelude.{Bool, true, false, ◌≡◌, List, ◌++◌, ℕ, ◌+◌, ◌≤◌, min, leb, ltb, length, take, drop}
+use Rattle.std.specs.Prelude.{Bool, true, false, ◌≡◌, List, ◌++◌, ℕ, ◌+◌, ◌≤◌, min, leb, ltb, length, take, drop, Result}
+use Rattle.refusal.specs.declared.Refusal.{Refusal}
 use Rattle.refusal.specs.Pick.{pick, both}
-use Rattle.refusal.specs.Said.{Said, accepted, refused, said_written, spot}
-use Rattle.refusal.specs.declared.Written.{Written}
+use Rattle.refusal.specs.Said.{Said, accepted, refused, said_by, spot}
 
 -- the last number that a place can be
 abbrev pub most : ℕ
@@ -47,12 +47,12 @@ left d (accepted w) = w ++ drop (length w) d
 left d (refused n p) = d
 
 -- ---- the promise: the answer, and the buffer, which was d and is x
-pub record WriterTells (o : Said (List ℕ)) (d : List ℕ) (r : Written) (x : List ℕ) : Type 0 where
-  pub answer : said_written r ≡ written_count o
+pub record WriterTells (o : Said (List ℕ)) (d : List ℕ) (r : Result ℕ Refusal) (x : List ℕ) : Type 0 where
+  pub answer : said_by r ≡ written_count o
   pub output : x ≡ left d o
 
 -- for the code: of bytes that are known
-abbrev pub Formed : List ℕ → List ℕ → Written → List ℕ → Type 0
+abbrev pub Formed : List ℕ → List ℕ → Result ℕ Refusal → List ℕ → Type 0
 Formed w d r x = WriterTells (room_for w (length d)) d r x
 
 -- ---- the same after the first `at` bytes of the buffer, which stay: 16, with the bytes needed for both
@@ -68,9 +68,9 @@ abbrev pub left_from : ℕ → List ℕ → Said (List ℕ) → List ℕ
 left_from at d (accepted w) = overlaid d at w
 left_from at d (refused n p) = d
 
-pub record WriterTellsFrom (at : ℕ) (o : Said (List ℕ)) (d : List ℕ) (r : Written) (x : List ℕ) : Type 0 where
-  pub answer : said_written r ≡ written_count_from at o
+pub record WriterTellsFrom (at : ℕ) (o : Said (List ℕ)) (d : List ℕ) (r : Result ℕ Refusal) (x : List ℕ) : Type 0 where
+  pub answer : said_by r ≡ written_count_from at o
   pub output : x ≡ left_from at d o
 
-abbrev pub FormedFrom : ℕ → List ℕ → List ℕ → Written → List ℕ → Type 0
+abbrev pub FormedFrom : ℕ → List ℕ → List ℕ → Result ℕ Refusal → List ℕ → Type 0
 FormedFrom at w d r x = WriterTellsFrom at (room_from at w (length d)) d r x

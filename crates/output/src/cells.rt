@@ -3,16 +3,15 @@ ghost use Rattle.std.specs.Prelude.{◌+◌, ◌*◌, ◌≤◌, ◌≡◌, leng
 ghost use Rattle.table.specs.Table.{put};
 ghost use Rattle.output.specs.Cells.{low_bytes, cell_bytes, Puts};
 
+// How many bytes a cell has.
+const CELL: usize = 8;
+
 // The bytes of one cell, from `at` on.
 fn put_cell(n: usize, out: &mut [u8], at: usize)
     requires { at + 8 ≤ length out.old }
     ensures { out.new ≡ put out.old at (low_bytes 8 n) }
 {
-    let mut rest = n;
-    for k in 0..8 {
-        out[at + k] = (rest % 256) as u8;
-        rest = rest / 256;
-    }
+    out[at..at + CELL].copy_from_slice(&n.to_le_bytes());
 }
 
 // The bytes of all cells, one cell after another, and the place after them.
@@ -22,9 +21,9 @@ fn put_all(cells: &[usize], out: &mut [u8], at: usize) -> usize
     ensures out_after { out.new ≡ put out.old at (cell_bytes cells.now) }
 {
     let mut o = at;
-    for i in 0..cells.len() {
-        put_cell(cells[i], out, o);
-        o += 8;
+    for cell in cells {
+        put_cell(*cell, out, o);
+        o += CELL;
     }
     o
 }
@@ -37,7 +36,7 @@ pub fn put_cells(cells: &[usize], out: &mut [u8], at: usize) -> usize
         return at;
     }
     // by division, as eight times the cells may be no usize
-    if (out.len() - at) / 8 < cells.len() {
+    if (out.len() - at) / CELL < cells.len() {
         return at;
     }
     put_all(cells, out, at)

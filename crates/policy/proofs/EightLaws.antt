@@ -1,21 +1,20 @@
 -- A policy's eight ranges. Assumes nothing.
-use mathlib.Core.Path.{◌≡◌, refl, sym, ap, ◌∙◌}
+use Rattle.std.specs.Prelude.{Some, None}
+use mathlib.Core.Path.{◌≡◌, refl}
 use mathlib.Core.Bool.{Bool, true, false}
 use mathlib.Core.List.{List, [], ◌∷◌}
 use Prim.Native.Nat.{ℕ, zero, suc, ◌+◌, ◌≤◌, ◌<◌}
 use native.Mathlib.Omega.{arith}
 use lib.ListN.{length, get_or, drop}
 use lib.Dec.{ltb, leb}
-use borrow.Author.Tests.{ltb-false, leb-true, lt-ltb, le-ltb}
+use borrow.Author.Tests.{ltb-false, leb-true, lt-ltb}
 use Rattle.refusal.specs.Pick.{pick}
 use Rattle.refusal.specs.Sizes.{text_limit}
-use Rattle.refusal.specs.Said.{accepted, refused, Said, refused_by, follow, said_answer, offset, spot}
+use Rattle.refusal.specs.Said.{accepted, refused, Said, offset, spot}
 use Rattle.refusal.proofs.Following.{never, followed}
-use Rattle.refusal.specs.declared.Answer.{Answer}
-use Rattle.refusal.specs.declared.Refusal.{Refusal}
 use Rattle.text.specs.Utf8.{up_to}
 use Rattle.policy.specs.declared.Slot.{Slot}
-use Rattle.policy.specs.Eight.{no_slot, first_bad, SlotsFit, slot_of, eight, ranges_test, policy_test}
+use Rattle.policy.specs.Eight.{no_slot, first_bad, bad_row, SlotsFit, slot_of, eight, ranges_test, policy_test}
 use Rattle.policy.specs.declared.Policy.{Policy}
 use Rattle.text.specs.Whole.{whole_text}
 
@@ -92,24 +91,34 @@ module _ (n : ℕ) (p : Policy) where
   pub bad-most : first_bad n (eight p) ≤ 8
   bad-most = unfold eight in bad-le (eight p)
 
--- ---- what test_policy answers, and what is known where it accepts
-module _ (s : List ℕ) (p : Policy) {a : Answer} (tested : said_answer a ≡ whole_text s) where
-  pub test-text : {w : Refusal} → a ≡ Answer.Refused w → refused_by w ≡ policy_test s p
-  unfolding policy_test follow
-  test-text {w} e = let z : whole_text s ≡ refused_by w = sym tested ∙ ap said_answer e in rw z
+  -- ---- the row that the code finds
+  pub row-here : (i : ℕ) → i < 8 → first_bad n (eight p) ≡ i + first_bad n (drop i (eight p)) → first_bad n (drop i (eight p)) ≡ 0
+      → Some i ≡ bad_row n p
+  unfolding bad_row
+  row-here i h e z = let q : first_bad n (eight p) ≡ i = omega arith in rw (q, lt-ltb i 8 h)
 
-  module _ (e : a ≡ Answer.Accepted) (k : ℕ) (f : k ≡ first_bad (length s) (eight p)) where
-    good : policy_test s p ≡ ranges_test (length s) p
-    unfolding policy_test follow
-    good = let z : whole_text s ≡ accepted tt = sym tested ∙ ap said_answer e in rw z
+  pub row-none : first_bad n (eight p) ≡ 8 → None ≡ bad_row n p
+  unfolding bad_row
+  row-none e = rw e
 
-    pub test-range : k < 8 → refused 15 (spot k) ≡ policy_test s p
-    unfolding ranges_test
-    test-range h = sym (good ∙ rw (← f, lt-ltb k 8 h))
+  -- ---- and what is said of it
+  pub said-row : {i : ℕ} → bad_row n p ≡ Some i → ranges_test n p ≡ refused 15 (spot i)
+  unfolding bad_row ranges_test
+  said-row e = by (ltb (first_bad n (eight p)) 8) (first_bad n (eight p)) e
+    where
+      by : (t : Bool) (k : ℕ) {i : ℕ} → pick t (Some k) None ≡ Some i
+          → ◌≡◌ {A = Said (Unit {0})} (pick t (refused 15 (spot k)) (accepted tt)) (refused 15 (spot i))
+      by true k q = cc
+      by false k q = cc
 
-    pub test_good : 8 ≤ k → accepted tt ≡ policy_test s p
-    unfolding ranges_test
-    test_good h = sym (good ∙ rw (← f, le-ltb k 8 h))
+  pub said-none : bad_row n p ≡ None → ranges_test n p ≡ accepted tt
+  unfolding bad_row ranges_test
+  said-none e = by (ltb (first_bad n (eight p)) 8) (first_bad n (eight p)) e
+    where
+      by : (t : Bool) (k : ℕ) → pick t (Some k) None ≡ None
+          → ◌≡◌ {A = Said (Unit {0})} (pick t (refused 15 (spot k)) (accepted tt)) (accepted tt)
+      by true k q = cc
+      by false k q = refl
 
 pub record Tested (s : List ℕ) (p : Policy) : Type 0 where
   pub short : length s ≤ text_limit

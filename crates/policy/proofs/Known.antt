@@ -1,14 +1,10 @@
 -- An answer is known by what its promise says of it, so no two satisfy it. Assumes nothing.
-use mathlib.Core.Path.{◌≡◌, sym, ap₂, ◌∙◌}
-use Rattle.refusal.specs.Said.{Said}
-use Rattle.refusal.specs.declared.Answer.{Answer}
-use Rattle.refusal.proofs.Known.{answer-known}
-use Rattle.policy.specs.Reader.{PolicyReadAs}
+use Rattle.std.specs.Prelude.{Result}
+use mathlib.Core.Path.{◌≡◌, sym, ◌∙◌}
+use Rattle.refusal.specs.Said.{Said, said_by}
+use Rattle.refusal.specs.declared.Refusal.{Refusal}
+use Rattle.refusal.proofs.Known.{result-known}
 use Rattle.policy.specs.declared.Policy.{Policy}
-use Rattle.policy.specs.declared.PolicyRead.{PolicyRead}
 
-pub read_known : {d : Said Policy} (x y : PolicyRead) → PolicyReadAs d x → PolicyReadAs d y → x ≡ y
-read_known x y p q =
-    let a = answer-known x.answer y.answer (p.answer ∙ sym q.answer) in
-    let b : x.policy ≡ y.policy = p.policy ∙ sym q.policy in
-    ap₂ {C = PolicyRead} (λ (r : Answer) (v : Policy). record { answer = r; policy = v }) a b
+pub read_known : {d : Said Policy} (x y : Result Policy Refusal) → said_by x ≡ d → said_by y ≡ d → x ≡ y
+read_known x y p q = result-known x y (p ∙ sym q)

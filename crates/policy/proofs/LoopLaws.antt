@@ -1,4 +1,5 @@
 -- The loop over the lines. Assumes nothing.
+use Rattle.refusal.proofs.Following.{never, one_value}
 use mathlib.Core.Path.{◌≡◌, refl, sym, ap, ◌∙◌}
 use mathlib.Core.Bool.{Bool, true, false}
 use mathlib.Core.List.{List, ◌∷◌}
@@ -8,71 +9,48 @@ use lib.Dec.{eqb, ltb}
 use lib.ListN.{length, drop, length-drop}
 use lib.Seq.{drop-drop}
 use Rattle.refusal.specs.Pick.{pick}
-use Rattle.refusal.specs.declared.Answer.{Answer}
-use Rattle.refusal.specs.Said.{said_answer, Said, accepted, refused, spot, follow, refused_by}
-use Rattle.refusal.specs.declared.Refusal.{Refusal}
+use Rattle.refusal.specs.Said.{Said, Place, accepted, refused, spot}
 use Rattle.text.specs.Find.{index_of, begins, same}
 use Rattle.text.specs.Lines.{line_len, line_step}
 use Rattle.text.proofs.Laws.{left-none}
-use Rattle.policy.specs.declared.PolicyRead.{PolicyRead}
-use Rattle.policy.specs.Reader.{PolicyReadAs, run, read_with, obey, zero_policy, read_policy}
+use Rattle.policy.specs.Reader.{run, obey}
 use Rattle.domains.specs.Domain.{Perhaps, nothing, just, domain_of}
 use Rattle.text.specs.Piece.{Piece, beyond, trim, piece}
-use Rattle.policy.specs.Piece.{until, past_byte, bare, lines_from, lines_of}
+use Rattle.policy.specs.Piece.{until, past_byte, bare, lines_from}
 use Rattle.policy.specs.Directive.{policy_w, default_w, allow_w, deny_w, allow, deny, Directive, blank, wrong, called, preset, plain}
 use Rattle.policy.specs.Directive.{listed, defaulted, plain_by, listed_by, rule_directive, policy_worded, policy_spoken}
 use Rattle.policy.specs.Directive.{policy_core, policy_directive, fault}
-use Rattle.text.specs.Whole.{whole_text}
-use Rattle.policy.specs.Heard.{ranged, fault_of, obeyed, Small}
+use Rattle.policy.specs.Heard.{ranged, obeyed, Small}
 use Rattle.policy.specs.declared.reader.Heard.{Heard}
 use Rattle.policy.specs.declared.Policy.{Policy}
 use Rattle.domains.proofs.DomainLaws.{domain-small, no, yes}
 use Rattle.policy.proofs.Lines.{lines_next}
-use Rattle.policy.specs.declared.reader.Heard.TheVariants as h
 use Rattle.domains.proofs.DomainLaws as domain-laws
 
-pub fault-ranged : (d : Directive) → fault_of (ranged d) ≡ fault d
-unfolding fault
-fault-ranged blank = refl
-fault-ranged (wrong k) = refl
-fault-ranged (called p) = refl
-fault-ranged (preset t) = refl
-fault-ranged (plain t d) = refl
-fault-ranged (listed t d p) = refl
-
-pub obey-ranged : (d : Directive) (v : Policy) → obeyed (ranged d) v ≡ obey d v
-unfolding obey
-obey-ranged blank v = refl
-obey-ranged (wrong k) v = refl
-obey-ranged (called p) v = refl
-obey-ranged (preset t) v = refl
-obey-ranged (plain t d) v = refl
-obey-ranged (listed t d p) v = refl
-
-pub small-fault : (x : Heard) → Small x → (fault_of x ≡ 0 → ⊥) → (6 ≤ fault_of x) × (fault_of x ≤ 8)
-small-fault h.Blank s f = absurd (f refl)
-small-fault (h.Wrong k) s f = s
-small-fault (h.Called a n) s f = absurd (f refl)
-small-fault (h.Preset t) s f = absurd (f refl)
-small-fault (h.Plain t d) s f = absurd (f refl)
-small-fault (h.Listed t d a n) s f = absurd (f refl)
-
 -- ---- faults are 6, 7, 8 and domains below 7
-choose : (t : Bool) (a b : Directive) → Small (ranged a) → Small (ranged b) → Small (ranged (pick t a b))
+abbrev Fine : Directive → Type 0
+Fine blank = 0 ≤ 0
+Fine (wrong k) = (6 ≤ k) × (k ≤ 8)
+Fine (called p) = 0 ≤ 0
+Fine (preset t) = 0 ≤ 0
+Fine (plain t d) = d < 7
+Fine (listed t d p) = d < 7
+
+choose : (t : Bool) (a b : Directive) → Fine a → Fine b → Fine (pick t a b)
 choose true a b f g = f
 choose false a b f g = g
 
-plain-small : (t : Bool) (d : Perhaps) → domain-laws.Small d → Small (ranged (plain_by t d))
+plain-small : (t : Bool) (d : Perhaps) → domain-laws.Small d → Fine (plain_by t d)
 unfolding plain_by
 plain-small t nothing no = omega arith
 plain-small t (just d) (yes k) = k
 
-listed_small : (t : Bool) (d : Perhaps) (p : Piece) → domain-laws.Small d → Small (ranged (listed_by t d p))
+listed_small : (t : Bool) (d : Perhaps) (p : Piece) → domain-laws.Small d → Fine (listed_by t d p)
 unfolding listed_by
 listed_small t nothing p no = omega arith
 listed_small t (just d) p (yes k) = k
 
-ruled-small : (t : Bool) (b : Piece) → Small (ranged (rule_directive t b))
+ruled-small : (t : Bool) (b : Piece) → Fine (rule_directive t b)
 unfolding rule_directive
 ruled-small t b =
     choose (ltb (index_of 58 b.bytes) (length b.bytes)) (listed_by t (domain_of (trim (until 58 b)).bytes) (past_byte 58 b))
@@ -80,12 +58,12 @@ ruled-small t b =
     (listed_small t (domain_of (trim (until 58 b)).bytes) (past_byte 58 b) (domain-small (trim (until 58 b)).bytes))
     (plain-small t (domain_of (trim b).bytes) (domain-small (trim b).bytes))
 
-defaulted-small : (s : List ℕ) → Small (ranged (defaulted s))
+defaulted-small : (s : List ℕ) → Fine (defaulted s)
 unfolding defaulted
 defaulted-small s = choose (same allow s) (preset true) (pick (same deny s) (preset false) (wrong 7)) (omega arith)
     (choose (same deny s) (preset false) (wrong 7) (omega arith) (omega arith))
 
-worded-small : (c : Piece) → Small (ranged (policy_worded c))
+worded-small : (c : Piece) → Fine (policy_worded c)
 unfolding policy_worded
 worded-small c =
     choose (begins policy_w c.bytes) (called (bare (trim (beyond 7 c))))
@@ -102,10 +80,57 @@ worded-small c =
     (ruled-small true (beyond 6 c))
     (choose (begins deny_w c.bytes) (rule_directive false (beyond 5 c)) (wrong 6) (ruled-small false (beyond 5 c)) (omega arith))))
 
-pub directive-small : (p : Piece) → Small (ranged (policy_directive p))
+directive-small : (p : Piece) → Fine (policy_directive p)
 unfolding policy_directive policy_spoken
 directive-small p = choose (eqb (length (policy_core p).bytes) 0) blank (policy_worded (policy_core p)) (omega arith)
     (worded-small (policy_core p))
+
+-- ---- what a line says, by the directive that it is
+module _ (n : ℕ) where
+  heard-fault : (d : Directive) {x : Heard} → ranged n d ≡ accepted x → fault d ≡ 0
+  unfolding fault
+  heard-fault blank e = refl
+  heard-fault (wrong k) e = absurd (never e)
+  heard-fault (called p) e = refl
+  heard-fault (preset t) e = refl
+  heard-fault (plain t d) e = refl
+  heard-fault (listed t d p) e = refl
+
+  heard-obeyed : (d : Directive) {x : Heard} (v : Policy) → ranged n d ≡ accepted x → obeyed x v ≡ obey d v
+  unfolding obey
+  heard-obeyed blank v e = rw (← one_value e)
+  heard-obeyed (wrong k) v e = absurd (never e)
+  heard-obeyed (called p) v e = rw (← one_value e)
+  heard-obeyed (preset t) v e = rw (← one_value e)
+  heard-obeyed (plain t d) v e = rw (← one_value e)
+  heard-obeyed (listed t d p) v e = rw (← one_value e)
+
+  heard-small : (d : Directive) {x : Heard} → Fine d → ranged n d ≡ accepted x → Small x
+  heard-small blank f e = rw (← one_value e) f
+  heard-small (wrong k) f e = absurd (never e)
+  heard-small (called p) f e = rw (← one_value e) f
+  heard-small (preset t) f e = rw (← one_value e) f
+  heard-small (plain t d) f e = rw (← one_value e) f
+  heard-small (listed t d p) f e = rw (← one_value e) f
+
+  -- a fault is that of the directive, and no number 0
+  faulty : (d : Directive) {m : ℕ} {p : Place} → ranged n d ≡ refused m p → ◌≡◌ {A = Said Policy} (refused (fault d) (spot n)) (refused m p)
+  unfolding fault
+  faulty blank e = absurd (never (sym e))
+  faulty (wrong k) e = cc
+  faulty (called p) e = absurd (never (sym e))
+  faulty (preset t) e = absurd (never (sym e))
+  faulty (plain t d) e = absurd (never (sym e))
+  faulty (listed t d p) e = absurd (never (sym e))
+
+  fault-some : (d : Directive) {m : ℕ} {p : Place} → Fine d → ranged n d ≡ refused m p → fault d ≡ 0 → ⊥
+  unfolding fault
+  fault-some blank f e z = absurd (never (sym e))
+  fault-some (wrong k) f e z = omega arith
+  fault-some (called p) f e z = absurd (never (sym e))
+  fault-some (preset t) f e z = absurd (never (sym e))
+  fault-some (plain t d) f e z = absurd (never (sym e))
+  fault-some (listed t d p) f e z = absurd (never (sym e))
 
 -- ---- a turn of the loop
 module _ (s : List ℕ) (at n : ℕ) (v : Policy) where
@@ -137,39 +162,28 @@ module _ (s : List ℕ) (at n : ℕ) (v : Policy) where
   run_end k = rw (left-none s at k)
 
 -- ---- a turn, by what the calls found
-module _ (s : List ℕ) (at e x : ℕ) (hd : Heard) (ke : e ≡ at + line_len (drop at s)) (kx : x ≡ at + line_step (drop at s))
-    (kh : hd ≡ ranged (policy_directive (piece s at e))) where
-  pub turn_small : Small hd
-  turn_small = rw kh (directive-small (piece s at e))
+module _ (s : List ℕ) (at n e next : ℕ) (ke : e ≡ at + line_len (drop at s)) (kx : next ≡ at + line_step (drop at s)) where
+  abbrev heard : Said Heard
+  heard = ranged n (policy_directive (piece s at e))
 
-  pub turn-fault : (k : ℕ) → k ≡ fault_of hd → (k ≡ 0 → ⊥) → (6 ≤ k) × (k ≤ 8)
-  turn-fault k q z =
-      let f = small-fault hd turn_small (λ y. z (q ∙ y)) in
-      omega (arith, q, f)
+  pub turn_small : {x : Heard} → heard ≡ accepted x → Small x
+  turn_small q = heard-small n (policy_directive (piece s at e)) (directive-small (piece s at e)) q
 
-  module _ (n : ℕ) (v : Policy) (b : at < length s) (k : ℕ) (q : k ≡ fault_of hd) where
-    here : fault (policy_directive (piece s at (at + line_len (drop at s)))) ≡ k
-    here = sym (q ∙ ap fault_of kh ∙ fault-ranged (policy_directive (piece s at e))
-        ∙ ap (λ (m : ℕ). fault (policy_directive (piece s at m))) ke)
+  pub turn-stop : (v : Policy) {m : ℕ} {p : Place} → at < length s → heard ≡ refused m p
+      → refused m p ≡ run obey n v (lines_from at 0 (drop at s))
+  turn-stop v b q =
+      let d = policy_directive (piece s at e) in
+      let z = fault-some n d (directive-small (piece s at e)) q in
+      sym (run-stop s at n v (fault d) b z (ap (λ (m : ℕ). fault (policy_directive (piece s at m))) (sym ke)) ∙ faulty n d q)
 
-    pub turn-stop : (k ≡ 0 → ⊥) → run obey n v (lines_from at 0 (drop at s)) ≡ refused k (spot n)
-    turn-stop z = run-stop s at n v k b z here
-
-    pub turn_on : k ≡ 0 → (w : Policy) → w ≡ obeyed hd v → run obey n v (lines_from at 0 (drop at s)) ≡ run obey (n + 1) w
-        (lines_from x 0 (drop x s))
-    turn_on z w p =
-        let o : w ≡ obey (policy_directive (piece s at (at + line_len (drop at s)))) v = p ∙ ap (λ (y : Heard). obeyed y v) kh
-        ∙ obey-ranged (policy_directive (piece s at e)) v ∙ ap (λ (m : ℕ). obey (policy_directive (piece s at m)) v) ke in
-        run_on s at n v b (here ∙ z)
-        ∙ ap (λ (w : Policy). run obey (n + 1) w (lines_from (at + line_step (drop at s)) 0 (drop (at + line_step (drop at s)) s)))
-        (sym o) ∙ ap (λ (m : ℕ). run obey (n + 1) w (lines_from m 0 (drop m s))) (sym kx)
-
--- ---- the whole text
-module _ (s : List ℕ) {a : Answer} {r : PolicyRead} (tested : said_answer a ≡ whole_text s) where
-  pub read-good : a ≡ Answer.Accepted → PolicyReadAs (run obey 1 zero_policy (lines_of s)) r → PolicyReadAs (read_policy s) r
-  unfolding read_policy read_with follow
-  read-good e q = let z : whole_text s ≡ accepted tt = sym tested ∙ ap said_answer e in rw z q
-
-  pub read-bad : {w : Refusal} → a ≡ Answer.Refused w → PolicyReadAs (refused_by w) r → PolicyReadAs (read_policy s) r
-  unfolding read_policy read_with follow
-  read-bad {w} e q = let z : whole_text s ≡ refused_by w = sym tested ∙ ap said_answer e in rw z q
+  pub turn_on : {x : Heard} (v w : Policy) → at < length s → heard ≡ accepted x → w ≡ obeyed x v
+      → run obey n v (lines_from at 0 (drop at s)) ≡ run obey (n + 1) w (lines_from next 0 (drop next s))
+  turn_on v w b q p =
+      let d = policy_directive (piece s at e) in
+      let z : fault (policy_directive (piece s at (at + line_len (drop at s)))) ≡ 0 =
+      ap (λ (m : ℕ). fault (policy_directive (piece s at m))) (sym ke) ∙ heard-fault n d q in
+      let o : obey (policy_directive (piece s at (at + line_len (drop at s)))) v ≡ w =
+      ap (λ (m : ℕ). obey (policy_directive (piece s at m)) v) (sym ke) ∙ sym (p ∙ heard-obeyed n d v q) in
+      run_on s at n v b z
+      ∙ ap (λ (y : Policy). run obey (n + 1) y (lines_from (at + line_step (drop at s)) 0 (drop (at + line_step (drop at s)) s))) o
+      ∙ ap (λ (m : ℕ). run obey (n + 1) w (lines_from m 0 (drop m s))) (sym kx)

@@ -1,6 +1,6 @@
 -- docs/RULES.md, "Numbered answers": a policy handed in with its text. Of 15, rows 0 to 6 are its rules' ranges and row 7 its name's.
 -- Assumes nothing.
-use Rattle.std.specs.Prelude.{List, [], ◌∷◌, ℕ, zero, suc, ◌+◌, ◌≤◌, ◌<◌, ltb, get_or, length}
+use Rattle.std.specs.Prelude.{List, [], ◌∷◌, Option, Some, None as Nothing, ℕ, zero, suc, ◌+◌, ◌≤◌, ◌<◌, ltb, get_or, length}
 use Rattle.refusal.specs.Pick.{pick}
 use Rattle.refusal.specs.Sizes.{fits_in}
 use Rattle.refusal.specs.Said.{Said, accepted, refused, follow, spot}
@@ -34,6 +34,10 @@ eight p =
 unfoldable pub first_bad : ℕ → List Slot → ℕ
 first_bad n [] = zero
 first_bad n (x ∷ xs) = pick (fits_in n x.from x.len) (suc (first_bad n xs)) zero
+
+-- for the code: its row, of the eight
+unfoldable pub bad_row : ℕ → Policy → Option ℕ
+bad_row n p = pick (ltb (first_bad n (eight p)) 8) (Some (first_bad n (eight p))) Nothing
 
 -- 15 for n bytes of text
 unfoldable pub ranges_test : ℕ → Policy → Said (Unit {0})

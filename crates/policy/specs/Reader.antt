@@ -1,7 +1,7 @@
 -- docs/RULES.md, "Texts": a policy's text read, line after line, into the port's policy: ranges of the text. Assumes nothing.
-use Rattle.std.specs.Prelude.{Bool, true, false, ◌≡◌, List, [], ◌∷◌, ℕ, zero, suc, ◌+◌, length, set, replicate}
-use Rattle.refusal.specs.Said.{Said, accepted, refused, spot, follow, said_answer}
-use Rattle.text.specs.Whole.{whole_text, without_value}
+use Rattle.std.specs.Prelude.{Bool, true, false, List, [], ◌∷◌, ℕ, zero, suc, ◌+◌, length, set, replicate}
+use Rattle.refusal.specs.Said.{Said, accepted, refused, spot, follow}
+use Rattle.text.specs.Whole.{whole_text}
 use Rattle.text.specs.Piece.{Piece}
 use Rattle.policy.specs.Piece.{lines_of}
 use Rattle.policy.specs.Directive.{Directive, blank, wrong, called, preset, plain, listed, policy_directive, fault}
@@ -9,7 +9,6 @@ use Rattle.policy.specs.declared.Stance.{Stance}
 use Rattle.policy.specs.declared.Stance.TheVariants.{None, Allow, Deny}
 use Rattle.policy.specs.declared.Slot.{Slot}
 use Rattle.policy.specs.declared.Policy.{Policy}
-use Rattle.policy.specs.declared.PolicyRead.{PolicyRead}
 
 -- line after line from number n, with a state; the first fault ends it, at its line
 module _ {S : Type 0} (obey : Directive → S → S) where
@@ -49,11 +48,7 @@ obey (listed t d p) v = with_rule d (slot (stance_of t) p.at (length p.bytes)) v
 unfoldable pub read_policy : List ℕ → Said Policy
 read_policy s = read_with obey zero_policy s
 
--- ---- the promise: the answer, and the policy beside it, the zero policy after a refusal
+-- the policy that was read, the zero policy where none was
 abbrev pub policy_of : Said Policy → Policy
 policy_of (accepted p) = p
 policy_of (refused n p) = zero_policy
-
-pub record PolicyReadAs (d : Said Policy) (r : PolicyRead) : Type 0 where
-  pub answer : said_answer r.answer ≡ without_value d
-  pub policy : r.policy ≡ policy_of d

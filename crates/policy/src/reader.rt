@@ -1,142 +1,134 @@
 // A line of a policy's text: what it says, by ranges of the text.
 ghost use Rattle.std.specs.Prelude.{◌≡◌, ◌≤◌, length};
+ghost use Rattle.refusal.specs.Said.{said_by};
 ghost use Rattle.policy.specs.Piece.{quotes, bare};
 ghost use Rattle.text.specs.Piece.{trim, piece};
-ghost use Rattle.policy.specs.Directive.{called, defaulted, rule_directive, policy_worded, policy_directive};
-ghost use Rattle.policy.specs.Heard.{ranged, fault_of};
-ghost use Rattle.domains.specs.Domain.{found, domain_of};
+ghost use Rattle.policy.specs.Directive.{defaulted, rule_directive, policy_worded, policy_directive};
+ghost use Rattle.policy.specs.Reader.{stance_of};
+ghost use Rattle.policy.specs.Heard.{part_of, ranged, named};
+ghost use Rattle.domains.specs.Domain.{domain_of};
 
-use domains::DomainFound;
+use crate::{Slot, Stance};
+use domains::{domain_number, from_slug};
+use refusal::{Part, Refusal};
+use text::find::find;
+use text::order::{equal, starts};
 use text::pieces::{shorn_of, trimmed_at};
 
-// Nothing; a fault, by its number; the range of a name; whether the default is to allow; a rule, whether it allows, its domain's
-// number, and the range of its list.
+// Nothing; the range of a name; whether the default is to allow; a rule for the domain with a number.
 #[derive(Clone, Copy)]
 pub(crate) enum Heard {
     Blank,
-    Wrong(usize),
-    Called(usize, usize),
+    Called(Part),
     Preset(bool),
-    Plain(bool, usize),
-    Listed(bool, usize, usize, usize),
+    Ruled(usize, Slot),
 }
 
 // How many quotes stand at the front.
 fn quotes_of(s: &[u8]) -> usize
     ensures { result ≡ quotes s.now }
 {
-    let mut i = 0;
-    while i < s.len() {
-        if s[i] != b'"' {
-            return i;
-        }
-        i += 1;
-    }
-    i
+    s.iter().position(|c| *c != b'"').unwrap_or(s.len())
 }
 
-fn called_at(s: &[u8], a: usize, e: usize) -> Heard
+// The name of a policy, without the quotes around it.
+fn name_at(s: &[u8], a: usize, e: usize) -> Part
     requires { (a ≤ e) × (e ≤ length s.now) }
-    ensures { result ≡ ranged (called (bare (trim (piece s.now a e)))) }
+    ensures { result ≡ part_of (bare (trim (piece s.now a e))) }
 {
     let t = trimmed_at(s, a, e);
-    let f = t.from;
-    let g = t.past;
-    let q = f + quotes_of(&s[f..g]);
-    let n = shorn_of(&s[q..g], b'"');
-    Heard::Called(q, n)
+    let from = t.from + quotes_of(&s[t.from..t.past]);
+    let len = shorn_of(&s[from..t.past], b'"');
+    Part { from, len }
 }
 
-fn preset_at(s: &[u8], a: usize, e: usize) -> Heard
+// Fault 7 of the line, where it is neither of the two words.
+fn preset_at(s: &[u8], a: usize, e: usize, line: usize) -> Result<Heard, Refusal>
     requires { (a ≤ e) × (e ≤ length s.now) }
-    ensures { result ≡ ranged (defaulted (trim (piece s.now a e)).bytes) }
+    ensures { said_by result ≡ ranged line (defaulted (trim (piece s.now a e)).bytes) }
 {
     let t = trimmed_at(s, a, e);
-    let f = t.from;
-    let g = t.past;
-    if text::order::equal(&s[f..g], b"allow") {
-        return Heard::Preset(true);
+    let word = &s[t.from..t.past];
+    if equal(word, b"allow") {
+        return Ok(Heard::Preset(true));
     }
-    if text::order::equal(&s[f..g], b"deny") {
-        return Heard::Preset(false);
+    if equal(word, b"deny") {
+        return Ok(Heard::Preset(false));
     }
-    Heard::Wrong(7)
+    Err(Refusal::BadDefault(line))
 }
 
-// The domain that the part names.
-fn domain_at(s: &[u8], a: usize, e: usize) -> DomainFound
+// The number of the domain that the part names; fault 8 of the line where it names none.
+fn domain_at(s: &[u8], a: usize, e: usize, line: usize) -> Result<usize, Refusal>
     requires { (a ≤ e) × (e ≤ length s.now) }
-    ensures { found result ≡ domain_of (trim (piece s.now a e)).bytes }
+    ensures { said_by result ≡ named line (domain_of (trim (piece s.now a e)).bytes) }
 {
     let t = trimmed_at(s, a, e);
-    let f = t.from;
-    let g = t.past;
-    domains::from_slug(&s[f..g])
+    match from_slug(&s[t.from..t.past]) {
+        Some(d) => Ok(domain_number(d)),
+        None => Err(Refusal::BadDomain(line)),
+    }
 }
 
-fn ruled_at(s: &[u8], a: usize, e: usize, t: bool) -> Heard
+fn stance_of(allow: bool) -> Stance
+    ensures { result ≡ stance_of allow }
+{
+    if allow { Stance::Allow } else { Stance::Deny }
+}
+
+// The rule for a domain, up to the first `:`, with the list after it.
+fn ruled_at(s: &[u8], a: usize, e: usize, allow: bool, line: usize) -> Result<Heard, Refusal>
     requires { (a ≤ e) × (e ≤ length s.now) }
-    ensures { result ≡ ranged (rule_directive t (piece s.now a e)) }
+    ensures { said_by result ≡ ranged line (rule_directive allow (piece s.now a e)) }
 {
-    let i = a + text::find::find(&s[a..e], b':');
-    if i < e {
-        let DomainFound::Domain(d) = domain_at(s, a, i) else {
-            return Heard::Wrong(8);
-        };
-        let n = domains::domain_number(d);
-        return Heard::Listed(t, n, i + 1, e - (i + 1));
+    let colon = a + find(&s[a..e], b':');
+    let d = domain_at(s, a, colon, line)?;
+    let stance = stance_of(allow);
+    if colon < e {
+        let from = colon + 1;
+        let len = e - from;
+        return Ok(Heard::Ruled(d, Slot { stance, from, len }));
     }
-    let DomainFound::Domain(d) = domain_at(s, a, e) else {
-        return Heard::Wrong(8);
-    };
-    let n = domains::domain_number(d);
-    Heard::Plain(t, n)
+    Ok(Heard::Ruled(
+        d,
+        Slot {
+            stance,
+            from: 0,
+            len: 0,
+        },
+    ))
 }
 
-fn worded_at(s: &[u8], a: usize, e: usize) -> Heard
+// Fault 6 of the line, where it begins with no directive's word.
+fn worded_at(s: &[u8], a: usize, e: usize, line: usize) -> Result<Heard, Refusal>
     requires { (a ≤ e) × (e ≤ length s.now) }
-    ensures { result ≡ ranged (policy_worded (piece s.now a e)) }
+    ensures { said_by result ≡ ranged line (policy_worded (piece s.now a e)) }
 {
-    if text::order::starts(&s[a..e], b"policy ") {
-        return called_at(s, a + 7, e);
+    let said = &s[a..e];
+    if starts(said, b"policy ") {
+        return Ok(Heard::Called(name_at(s, a + 7, e)));
     }
-    if text::order::starts(&s[a..e], b"default ") {
-        return preset_at(s, a + 8, e);
+    if starts(said, b"default ") {
+        return preset_at(s, a + 8, e, line);
     }
-    if text::order::starts(&s[a..e], b"allow ") {
-        return ruled_at(s, a + 6, e, true);
+    if starts(said, b"allow ") {
+        return ruled_at(s, a + 6, e, true, line);
     }
-    if text::order::starts(&s[a..e], b"deny ") {
-        return ruled_at(s, a + 5, e, false);
+    if starts(said, b"deny ") {
+        return ruled_at(s, a + 5, e, false, line);
     }
-    Heard::Wrong(6)
+    Err(Refusal::Directive(line))
 }
 
-// What the line from a to e says.
-pub(crate) fn heard_at(s: &[u8], a: usize, e: usize) -> Heard
+// What the line from a to e says, the line's number beside it.
+pub(crate) fn heard_at(s: &[u8], a: usize, e: usize, line: usize) -> Result<Heard, Refusal>
     requires { (a ≤ e) × (e ≤ length s.now) }
-    ensures { result ≡ ranged (policy_directive (piece s.now a e)) }
+    ensures { said_by result ≡ ranged line (policy_directive (piece s.now a e)) }
 {
-    let h = a + text::find::find(&s[a..e], b'#');
-    let t = trimmed_at(s, a, h);
-    let f = t.from;
-    let g = t.past;
-    if f < g {
-        return worded_at(s, f, g);
+    let hash = a + find(&s[a..e], b'#');
+    let t = trimmed_at(s, a, hash);
+    if t.from < t.past {
+        return worded_at(s, t.from, t.past, line);
     }
-    Heard::Blank
-}
-
-// The number of a fault, 0 where there is none.
-pub(crate) fn fault_of(h: Heard) -> usize
-    ensures { result ≡ fault_of h }
-{
-    match h {
-        Heard::Blank => 0,
-        Heard::Wrong(k) => k,
-        Heard::Called(_, _) => 0,
-        Heard::Preset(_) => 0,
-        Heard::Plain(_, _) => 0,
-        Heard::Listed(_, _, _, _) => 0,
-    }
+    Ok(Heard::Blank)
 }

@@ -1,19 +1,16 @@
 -- What is asked of a policy that was read, and of a domain that is named by its number. Assumes nothing.
+use Rattle.std.specs.Prelude.{Result, Ok, Err}
 use Prim.Native.Nat.{ℕ}
 use native.Mathlib.Omega.{arith}
 use mathlib.Core.Bool.{Bool, true, false}
 use mathlib.Core.Path.{◌≡◌, refl, sym, ◌∙◌, ap}
 use lib.Dec.{ltb}
 use Rattle.refusal.specs.Pick.{pick}
-use Rattle.refusal.specs.Said.{Said, accepted, refused, refused_by, follow, said_answer, Place}
-use Rattle.refusal.proofs.Following.{never}
-use Rattle.refusal.specs.declared.Answer.{Answer}
+use Rattle.refusal.specs.Said.{Said, refused_by, follow, said_by}
+use Rattle.refusal.proofs.Following.{follow-stops, follow-goes}
 use Rattle.refusal.specs.declared.Refusal.{Refusal}
 use Rattle.domains.specs.Domain.{nothing, just, numbered}
-use Rattle.text.specs.Whole.{without_value}
-use Rattle.policy.specs.Reader.{policy_of, PolicyReadAs}
 use Rattle.policy.specs.declared.Policy.{Policy}
-use Rattle.policy.specs.declared.PolicyRead.{PolicyRead}
 
 -- a number above 6 names no domain, another names its own
 apart : {n : ℕ} → nothing ≡ just n → ⊥
@@ -36,21 +33,10 @@ module _ {X : Type 0} (k : ℕ) (y : X) where
   unfolding numbered
   a-domain f h = known f (ltb k 7) h
 
--- what follows a policy that was read, by the answer that came with it
+-- what follows a policy that was read, by the answer
 module _ {Y : Type 0} (f : Policy → Said Y) where
-  stop : (x : Said Policy) {n : ℕ} {p : Place} → without_value x ≡ refused n p → refused n p ≡ follow x f
-  unfolding follow
-  stop (accepted v) e = absurd (never (sym e))
-  stop (refused m k) {n} {p} e = let a : n ≡ m = cc in let b : p ≡ k = cc in rw (a, b)
+  pub read-stops : (d : Said Policy) (r : Result Policy Refusal) {w : Refusal} → said_by r ≡ d → r ≡ Err w → refused_by w ≡ follow d f
+  read-stops d r h e = follow-stops f (sym h ∙ ap said_by e)
 
-  go : (x : Said Policy) → without_value x ≡ accepted tt → f (policy_of x) ≡ follow x f
-  unfolding follow
-  go (accepted v) e = refl
-  go (refused n p) e = absurd (never e)
-
-  pub read-stops : (d : Said Policy) (r : PolicyRead) {w : Refusal} → PolicyReadAs d r → r.answer ≡ Answer.Refused w
-      → refused_by w ≡ follow d f
-  read-stops d r h e = stop d (sym h.answer ∙ ap said_answer e)
-
-  pub read_goes : (d : Said Policy) (r : PolicyRead) → PolicyReadAs d r → r.answer ≡ Answer.Accepted → f r.policy ≡ follow d f
-  read_goes d r h e = ap f h.policy ∙ go d (sym h.answer ∙ ap said_answer e)
+  pub read_goes : (d : Said Policy) (r : Result Policy Refusal) {p : Policy} → said_by r ≡ d → r ≡ Ok p → f p ≡ follow d f
+  read_goes d r h e = follow-goes f (sym h ∙ ap said_by e) refl

@@ -2,7 +2,7 @@
 use mathlib.Core.Path.{◌≡◌, refl, sym, ap, ◌∙◌}
 use mathlib.Core.Bool.{Bool, true, false}
 use mathlib.Core.List.{List, [], ◌∷◌}
-use Prim.Native.Nat.{ℕ, zero, suc, ◌+◌, ◌-◌, ◌≤◌, ◌<◌}
+use Prim.Native.Nat.{ℕ, zero, suc, ◌+◌, ◌-◌, ◌≤◌, ◌<◌, min, max}
 use native.Mathlib.Omega.{arith}
 use native.Mathlib.Nat.{add-zero, suc-add, add-suc}
 use native.Mathlib.Numerals.{add-one}
@@ -11,10 +11,8 @@ use lib.ListN.{length, take, drop, length-drop}
 use lib.Seq.{take_all}
 use borrow.Author.Tests.{eq-eqb, ne_eqb, lt-ltb, le-ltb, ltb-true, ltb-false}
 use Rattle.refusal.specs.Pick.{pick}
-use Rattle.refusal.specs.Said.{Said, accepted, refused_by, said_answer, follow}
-use Rattle.refusal.specs.declared.Answer.{Answer}
+use Rattle.refusal.specs.Said.{Said, accepted, follow}
 use Rattle.refusal.specs.declared.Part.{Part}
-use Rattle.refusal.specs.declared.Refusal.{Refusal}
 use Rattle.text.specs.Find.{index_of}
 use Rattle.text.specs.Trim.{trimmed}
 use Rattle.text.proofs.FindLaws.{index-le}
@@ -76,7 +74,8 @@ module _ (s : List ℕ) (i e : ℕ) (more : i < e) (inside : e ≤ length s) (k 
     pub token-next : t.len ≡ 0 → token_from i 0 (bytes_between s i e) ≡ token_from (i + k + 1) 0 (bytes_between s (i + k + 1) e)
     token-next z =
         let a = empty-part i (bytes_between s i e) some (ap (λ (x : Part). x.len) trims ∙ z) in
-        let b : token_from (i + (index_of 44 (bytes_between s i e) + 1)) 0 (drop (index_of 44 (bytes_between s i e) + 1) (bytes_between s i e))
+        let b : token_from (i + (index_of 44 (bytes_between s i e) + 1)) 0
+        (drop (index_of 44 (bytes_between s i e) + 1) (bytes_between s i e))
         ≡ token_from (i + (k + 1)) 0 (drop (k + 1) (bytes_between s i e)) =
         ap (λ (n : ℕ). token_from (i + (n + 1)) 0 (drop (n + 1) (bytes_between s i e))) (sym at) in
         let d : drop (k + 1) (bytes_between s i e) ≡ bytes_between s (i + (k + 1)) e = ap (λ (p : Piece). p.bytes)
@@ -84,10 +83,10 @@ module _ (s : List ℕ) (i e : ℕ) (more : i < e) (inside : e ≤ length s) (k 
         let y : i + (k + 1) ≡ i + k + 1 = omega arith in
         a ∙ b ∙ ap (token_from (i + (k + 1)) 0) d ∙ ap (λ (n : ℕ). token_from n 0 (bytes_between s n e)) y
 
-    stepped : i + step (bytes_between s i e) ≡ pick (ltb (i + k) e) (i + k + 1) e
+    stepped : i + step (bytes_between s i e) ≡ min (i + k + 1) e
     stepped = by (ltb (i + k) e) refl
       where
-        by : (b : Bool) → ltb (i + k) e ≡ b → i + step (bytes_between s i e) ≡ pick b (i + k + 1) e
+        by : (b : Bool) → ltb (i + k) e ≡ b → i + step (bytes_between s i e) ≡ min (i + k + 1) e
         by true q =
             let l = piece-long s i e inside in
             let z = ltb-true (i + k) e q in
@@ -95,9 +94,10 @@ module _ (s : List ℕ) (i e : ℕ) (more : i < e) (inside : e ≤ length s) (k 
         by false q =
             let l = piece-long s i e inside in
             let z = ltb-false (i + k) e q in
+            let y = comma-near in
             rw (le-ltb (index_of 44 (bytes_between s i e)) (length (bytes_between s i e)) (omega arith)) (omega arith)
 
-    pub token-found : (t.len ≡ 0 → ⊥) → {next : ℕ} → next ≡ pick (ltb (i + k) e) (i + k + 1) e
+    pub token-found : (t.len ≡ 0 → ⊥) → {next : ℕ} → next ≡ min (i + k + 1) e
         → token_from i 0 (bytes_between s i e) ≡ token (i + t.from) t.len next
     token-found z {next} q =
         some-part i (bytes_between s i e) some (λ y. z (sym (ap (λ (x : Part). x.len) trims) ∙ y))
@@ -114,6 +114,15 @@ pub token-none : (s : List ℕ) (i e : ℕ) → e ≤ i → token_from i 0 (byte
 unfolding token_from
 token-none s i e h = let z : e - i ≡ 0 = omega arith in rw z
 
+-- an offset clamped into a range, as the library does it
+clamped : (a e from : ℕ) → a ≤ e → max a (min from e) ≡ clamp_to a e from
+clamped a e from h = by (ltb from a) refl (ltb e from) refl
+  where
+    by : (t : Bool) → ltb from a ≡ t → (u : Bool) → ltb e from ≡ u → max a (min from e) ≡ pick t a (pick u e from)
+    by true p u q = omega (arith, ltb-true from a p)
+    by false p true q = omega (arith, ltb-false from a p, ltb-true e from q)
+    by false p false q = omega (arith, ltb-false from a p, ltb-false e from q)
+
 -- ---- the list of a domain
 pub rule_fits : (n : ℕ) (p : Policy) (d : ℕ) → SlotsFit n p.rules → d < 7 → (effective_of p d).from + (effective_of p d).len ≤ n
 rule_fits n p d f h = by (slot_of p d).stance refl
@@ -123,24 +132,20 @@ rule_fits n p d f h = by (slot_of p d).stance refl
     by Allow e = unfold effective_of in rw (e, effective_of) (f d h)
     by Deny e = unfold effective_of in rw (e, effective_of) (f d h)
 
-module _ (s : List ℕ) (p : Policy) (d : Domain) {a : Answer} (said : said_answer a ≡ policy_test s p) where
-  pub list-fits : a ≡ Answer.Accepted → {r : Rule} → r ≡ effective_of p (domain_number d) → r.from + r.len ≤ length s
+module _ (s : List ℕ) (p : Policy) (d : Domain) where
+  pub list-fits : policy_test s p ≡ accepted tt → {r : Rule} → r ≡ effective_of p (domain_number d) → r.from + r.len ≤ length s
   list-fits e {r} f =
-      let z = tested s p (sym said ∙ ap said_answer e) in
+      let z = tested s p e in
       rw f (rule_fits (length s) p (domain_number d) z.rules (number_small d))
 
-  pub token-refused : (from : ℕ) {w : Refusal} → a ≡ Answer.Refused w → refused_by w ≡ next_token s p (domain_number d) from
-  unfolding next_token follow
-  token-refused from {w} e = let z : policy_test s p ≡ refused_by w = sym said ∙ ap said_answer e in rw z
-
-  pub token-given : (from : ℕ) → a ≡ Answer.Accepted → {r : Rule} → r ≡ effective_of p (domain_number d)
-      → {at : ℕ} → at ≡ clamp_to r.from (r.from + r.len) from
-      → {x : Said Found} → x ≡ accepted (token_from at 0 (bytes_between s at (r.from + r.len))) → x ≡ next_token s p (domain_number d) from
+  pub token-given : (from : ℕ) → policy_test s p ≡ accepted tt → {r : Rule} → r ≡ effective_of p (domain_number d)
+      → {at : ℕ} → at ≡ max r.from (min from (r.from + r.len))
+      → {x : Found} → x ≡ token_from at 0 (bytes_between s at (r.from + r.len)) → accepted x ≡ next_token s p (domain_number d) from
   unfolding next_token follow token_in
   token-given from e {r} f {at} c m =
       let whole : (x : Rule) → Said Found =
       λ (x : Rule). accepted (token_in s x.from (x.from + x.len) from) in
-      let z : policy_test s p ≡ accepted tt = sym said ∙ ap said_answer e in
-      let y : whole (effective_of p (domain_number d)) ≡ next_token s p (domain_number d) from = rw z in
-      let w : accepted (token_from at 0 (bytes_between s at (r.from + r.len))) ≡ whole r = rw c in
-      m ∙ w ∙ ap whole f ∙ y
+      let y : whole (effective_of p (domain_number d)) ≡ next_token s p (domain_number d) from = rw e in
+      let w : accepted (token_from at 0 (bytes_between s at (r.from + r.len))) ≡ whole r =
+      rw (c, clamped r.from (r.from + r.len) from (omega arith)) in
+      ap accepted m ∙ w ∙ ap whole f ∙ y

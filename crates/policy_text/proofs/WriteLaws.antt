@@ -1,4 +1,5 @@
 -- The text of a policy, part by part, and how long it is. Assumes nothing.
+use Rattle.std.specs.Prelude.{Result, Err}
 use mathlib.Core.Path.{◌≡◌, refl, sym, ap, ◌∙◌}
 use mathlib.Core.Bool.{Bool, true, false}
 use mathlib.Core.List.{List, [], ◌∷◌, ◌++◌, map, append-nil, append_assoc}
@@ -10,11 +11,8 @@ use lib.Dec.{ltb, leb}
 use borrow.Author.Tests.{ltb-true, ltb-false, leb-true, leb-false, le-leb, lt-leb}
 use native.Mathlib.Numerals.{add-one}
 use Rattle.refusal.specs.declared.Part.{Part}
-use Rattle.refusal.specs.Said.{accepted, refused_by, said_answer, follow}
-use Rattle.refusal.specs.declared.Answer.{Answer}
+use Rattle.refusal.specs.Said.{accepted, refused_by, follow}
 use Rattle.refusal.specs.declared.Refusal.{Refusal}
-use Rattle.refusal.specs.declared.Written.{Written}
-use Rattle.refusal.specs.declared.Written.TheVariants.{Refused}
 use Rattle.refusal.specs.Pick.{pick}
 use Rattle.refusal.specs.Sizes.{text_limit}
 use Rattle.text.specs.Trim.{trim_start, trim_end, started, trimmed, trim_of}
@@ -24,7 +22,8 @@ use Rattle.domains.specs.Domain.{slug}
 use Rattle.text.specs.Piece.{bytes_between, piece, TrimTo, Piece}
 use Rattle.policy.specs.Eight.{slot_of, policy_test}
 use Rattle.policy.specs.declared.Policy.{Policy}
-use Rattle.policy.specs.View.{Parts, split, commas, full, tokens, RuleView, silent, ruling, rule_of, PolicyView, range, no_name, seven, says}
+use Rattle.policy.specs.View.{Parts, split, commas, full, tokens, RuleView, silent, ruling, rule_of, PolicyView}
+use Rattle.policy.specs.View.{range, no_name, seven, says}
 use Rattle.policy.specs.Directive.{policy_w, default_w}
 use Rattle.policy.specs.declared.Slot.{Slot}
 use Rattle.policy.specs.declared.Stance.{Stance}
@@ -46,14 +45,6 @@ token-none some (x ∷ t) e = absurd (omega arith)
 pub token-some : (some : Bool) (t : List ℕ) → (length t ≡ 0 → ⊥) → token_form some t ≡ separator some ++ t
 token-some some [] e = absurd (e refl)
 token-some some (x ∷ t) e = refl
-
-pub marked-none : (t : List ℕ) → length t ≡ 0 → false ≡ any_token false t
-marked-none [] e = refl
-marked-none (x ∷ t) e = absurd (omega arith)
-
-pub marked-some : (t : List ℕ) → (length t ≡ 0 → ⊥) → true ≡ any_token false t
-marked-some [] e = absurd (e refl)
-marked-some (x ∷ t) e = refl
 
 same_test : (a b c d : ℕ) → (a < b → c ≤ d) → (c ≤ d → a < b) → ltb a b ≡ leb c d
 same_test a b c d f g = by (ltb a b) refl (leb c d) refl
@@ -364,15 +355,12 @@ module _ (s : List ℕ) (h : length s ≤ text_limit) where
       )
 
 -- ---- the writer's answers
-module _ (s : List ℕ) (p : Policy) (d : List ℕ) {a : Answer} (tested : said_answer a ≡ policy_test s p) where
-  pub write-refused : {w : Refusal} → a ≡ Answer.Refused w → Writes s p d (Refused w) d
+module _ (s : List ℕ) (p : Policy) (d : List ℕ) where
+  pub write-refused : {w : Refusal} → refused_by w ≡ policy_test s p → Writes s p d (Err w) d
   unfolding written follow
-  write-refused {w} e =
-      let z : policy_test s p ≡ refused_by w = sym tested ∙ ap said_answer e in
-      record { answer = rw z; output = rw z }
+  write-refused e = record { answer = rw (← e); output = rw (← e) }
 
-  pub write-formed : a ≡ Answer.Accepted → {r : Written} {x : List ℕ} → FormedFrom 0 (form (says s p)) d r x → Writes s p d r x
+  pub write-formed : accepted tt ≡ policy_test s p → {r : Result ℕ Refusal} {x : List ℕ} → FormedFrom 0 (form (says s p)) d r x
+      → Writes s p d r x
   unfolding written follow
-  write-formed e f =
-      let z : policy_test s p ≡ accepted tt = sym tested ∙ ap said_answer e in
-      rw z (formed-first (form (says s p)) d f)
+  write-formed e f = rw (← e) (formed-first (form (says s p)) d f)

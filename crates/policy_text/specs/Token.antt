@@ -1,8 +1,9 @@
 -- docs/RULES.md, "Texts": the tokens of a domain's list, one after another, and all at once. Assumes nothing.
-use Rattle.std.specs.Prelude.{List, [], ◌∷◌, map, ℕ, zero, suc, ◌+◌, eqb, ltb, length, take}
+use Rattle.std.specs.Prelude.{List, [], ◌∷◌, map, Option, Some, None, Result, Ok, Err, ℕ, zero, suc, ◌+◌, eqb, ltb, length, take}
 use Rattle.refusal.specs.Pick.{pick}
 use Rattle.refusal.specs.Said.{Said, accepted, refused_by, follow}
 use Rattle.refusal.specs.declared.Part.{Part}
+use Rattle.refusal.specs.declared.Refusal.{Refusal}
 use Rattle.text.specs.Find.{index_of}
 use Rattle.text.specs.Trim.{trimmed}
 use Rattle.text.specs.Piece.{Piece, trim, bytes_between}
@@ -48,10 +49,13 @@ next_token s p d from =
     follow (policy_test s p)
     (λ ok. accepted (token_in s (effective_of p d).from ((effective_of p d).from + (effective_of p d).len) from))
 
-abbrev pub said_token : Token → Said Found
-said_token (Token.At x next) = accepted (token x.from x.len next)
-said_token Token.Done = accepted nothing
-said_token (Token.Refused why) = refused_by why
+abbrev pub found_token : Option Token → Found
+found_token (Some t) = token t.part.from t.part.len t.next
+found_token None = nothing
+
+abbrev pub said_token : Result (Option Token) Refusal → Said Found
+said_token (Ok t) = accepted (found_token t)
+said_token (Err why) = refused_by why
 
 -- ---- all of them
 -- parts that stand one after another from `at` on, a comma after each

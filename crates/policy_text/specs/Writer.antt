@@ -1,7 +1,7 @@
 -- docs/RULES.md, "Policy writer": the text of a policy, and what is written of it into a lent buffer. Assumes nothing.
-use Rattle.std.specs.Prelude.{Bool, true, false, List, [], ◌∷◌, ◌++◌, ℕ, suc, length}
+use Rattle.std.specs.Prelude.{Bool, true, false, List, [], ◌∷◌, ◌++◌, ℕ, suc, length, Result}
+use Rattle.refusal.specs.declared.Refusal.{Refusal}
 use Rattle.refusal.specs.Said.{Said, follow}
-use Rattle.refusal.specs.declared.Written.{Written}
 use Rattle.domains.specs.Domain.{slug}
 use Rattle.policy.specs.Directive.{policy_w, default_w, allow, deny}
 use Rattle.policy.specs.View.{RuleView, silent, ruling, PolicyView, says}
@@ -55,5 +55,5 @@ unfoldable pub written : List ℕ → Policy → ℕ → Said (List ℕ)
 written s p room = follow (policy_test s p) (λ ok. room_for (form (says s p)) room)
 
 -- the promise: the answer, and the buffer, which was d and is x
-abbrev pub Writes : List ℕ → Policy → List ℕ → Written → List ℕ → Type 0
+abbrev pub Writes : List ℕ → Policy → List ℕ → Result ℕ Refusal → List ℕ → Type 0
 Writes s p d r x = WriterTells (written s p (length d)) d r x

@@ -15,7 +15,7 @@ ghost use Rattle.policy_text.specs.Writing.{token_form, any_token, line_text, ru
 use output::bytes::{put, put_domain};
 use policy::ranges::test_policy;
 use policy::{Policy, Slot, Stance};
-use refusal::{Answer, Refusal, Written};
+use refusal::Refusal;
 use text::find::find;
 use text::white::trim;
 
@@ -23,14 +23,11 @@ use text::white::trim;
 fn put_token(out: &mut [u8], at: usize, token: &[u8], some: bool, go: bool) -> usize
     ensures { Wrote out.old at go (token_form some token.now) result out.new }
 {
-    if token.len() == 0 {
+    if token.is_empty() {
         return at;
     }
-    if some {
-        let n = put(out, at, b", ", go);
-        return put(out, n, token, go);
-    }
-    let n = put(out, at, b": ", go);
+    let separator = if some { b", " } else { b": " };
+    let n = put(out, at, separator, go);
     put(out, n, token, go)
 }
 
@@ -38,13 +35,7 @@ fn put_token(out: &mut [u8], at: usize, token: &[u8], some: bool, go: bool) -> u
 fn mark(some: bool, token: &[u8]) -> bool
     ensures { result ≡ any_token some token.now }
 {
-    if some {
-        return true;
-    }
-    if token.len() == 0 {
-        return false;
-    }
-    true
+    some || !token.is_empty()
 }
 
 // The tokens of a list.
@@ -59,9 +50,9 @@ fn put_list(list: &[u8], out: &mut [u8], at: usize, go: bool) -> usize
         let j = i + find(&list[i..], b',');
         let t = trim(&list[i..j]);
         let from = i + t.from;
-        let past = from + t.len;
-        n = put_token(out, n, &list[from..past], some, go);
-        some = mark(some, &list[from..past]);
+        let token = &list[from..from + t.len];
+        n = put_token(out, n, token, some, go);
+        some = mark(some, token);
         i = j + 1;
     }
     n
@@ -71,9 +62,10 @@ fn put_stance(out: &mut [u8], at: usize, allow: bool, go: bool) -> usize
     ensures { Wrote out.old at go (stance_word allow) result out.new }
 {
     if allow {
-        return put(out, at, b"allow", go);
+        put(out, at, b"allow", go)
+    } else {
+        put(out, at, b"deny", go)
     }
-    put(out, at, b"deny", go)
 }
 
 // The line of a rule for domain d, with its list.
@@ -93,19 +85,11 @@ fn put_rule(s: &[u8], x: Slot, d: usize, out: &mut [u8], at: usize, go: bool) ->
     requires { (SlotFits (length s.now) x) × (length s.now ≤ text_limit) }
     ensures { Wrote out.old at go (rule_text d (rule_of s.now x)) result out.new }
 {
-    let stance = x.stance;
-    let from = x.from;
-    let past = from + x.len;
-    match stance {
-        Stance::None => {
-            return at;
-        }
-        Stance::Allow => {
-            return put_line(&s[from..past], true, d, out, at, go);
-        }
-        Stance::Deny => {
-            return put_line(&s[from..past], false, d, out, at, go);
-        }
+    let list = &s[x.from..x.from + x.len];
+    match x.stance {
+        Stance::None => at,
+        Stance::Allow => put_line(list, true, d, out, at, go),
+        Stance::Deny => put_line(list, false, d, out, at, go),
     }
 }
 
@@ -114,33 +98,22 @@ fn put_rules(s: &[u8], p: Policy, out: &mut [u8], at: usize, go: bool) -> usize
     requires { (SlotsFit (length s.now) p.rules) × (length s.now ≤ text_limit) }
     ensures { Wrote out.old at go (rules_text s.now p) result out.new }
 {
-    let mut d = 0;
     let mut n = at;
-    while d < 7 {
-        let x = p.rules[d];
-        n = put_rule(s, x, d, out, n, go);
-        d += 1;
+    for (d, rule) in p.rules.iter().enumerate() {
+        n = put_rule(s, *rule, d, out, n, go);
     }
     n
 }
 
-fn put_name(
-    s: &[u8],
-    named: bool,
-    start: usize,
-    size: usize,
-    out: &mut [u8],
-    at: usize,
-    go: bool,
-) -> usize
-    requires { start + size ≤ length s.now }
-    ensures { Wrote out.old at go (pick named (range s.now start size) no_name) result out.new }
+fn put_name(s: &[u8], p: Policy, out: &mut [u8], at: usize, go: bool) -> usize
+    requires { p.start + p.size ≤ length s.now }
+    ensures { Wrote out.old at go (pick p.named (range s.now p.start p.size) no_name) result out.new }
 {
-    if named {
-        let end = start + size;
-        return put(out, at, &s[start..end], go);
+    if p.named {
+        put(out, at, &s[p.start..p.start + p.size], go)
+    } else {
+        put(out, at, b"default-deny", go)
     }
-    put(out, at, b"default-deny", go)
 }
 
 // The whole text of a policy whose ranges fit its text.
@@ -148,37 +121,30 @@ fn put_form(s: &[u8], p: Policy, out: &mut [u8], go: bool) -> usize
     requires { (SlotsFit (length s.now) p.rules) × (p.start + p.size ≤ length s.now) × (length s.now ≤ text_limit) }
     ensures { Wrote out.old 0 go (form (says s.now p)) result out.new }
 {
-    let named = p.named;
-    let start = p.start;
-    let size = p.size;
-    let permit = p.permit;
     let a = put(out, 0, b"policy \"", go);
-    let b = put_name(s, named, start, size, out, a, go);
+    let b = put_name(s, p, out, a, go);
     let c = put(out, b, b"\"\ndefault ", go);
-    let d = put_stance(out, c, permit, go);
+    let d = put_stance(out, c, p.permit, go);
     let e = put(out, d, b"\n", go);
     put_rules(s, p, out, e, go)
 }
 
 // The text of such a policy into the buffer, where it has room for all of it.
-fn write_form(s: &[u8], p: Policy, out: &mut [u8]) -> Written
+fn write_form(s: &[u8], p: Policy, out: &mut [u8]) -> Result<usize, Refusal>
     requires { (SlotsFit (length s.now) p.rules) × (p.start + p.size ≤ length s.now) × (length s.now ≤ text_limit) }
     ensures { FormedFrom 0 (form (says s.now p)) out.old result out.new }
 {
     let needed = put_form(s, p, out, false);
     if out.len() < needed {
-        return Written::Refused(Refusal::NoRoom(needed));
+        return Err(Refusal::NoRoom(needed));
     }
-    let n = put_form(s, p, out, true);
-    Written::Bytes(n)
+    Ok(put_form(s, p, out, true))
 }
 
 // The text of a policy: 14, 4 and 15 of what is handed in, 16 last. Refused, nothing is touched; accepted, nothing past the text.
-pub fn write_policy(s: &[u8], p: Policy, out: &mut [u8]) -> Written
+pub fn write_policy(s: &[u8], p: Policy, out: &mut [u8]) -> Result<usize, Refusal>
     ensures { Writes s.now p out.old result out.new }
 {
-    match test_policy(s, p) {
-        Answer::Refused(why) => Written::Refused(why),
-        Answer::Accepted => write_form(s, p, out),
-    }
+    test_policy(s, p)?;
+    write_form(s, p, out)
 }

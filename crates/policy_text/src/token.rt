@@ -1,50 +1,50 @@
 // The tokens of a domain's list, one call after another.
-ghost use Rattle.std.specs.Prelude.{◌≡◌, ◌+◌, ◌≤◌, ltb, length};
-ghost use Rattle.refusal.specs.Pick.{pick};
-ghost use Rattle.refusal.specs.Said.{accepted};
+ghost use Rattle.std.specs.Prelude.{◌≡◌, ◌≤◌, length};
 ghost use Rattle.domains.specs.Domain.{domain_number};
 ghost use Rattle.text.specs.Piece.{bytes_between};
-ghost use Rattle.policy_text.specs.Token.{token_from, clamp_to, next_token, said_token};
+ghost use Rattle.policy_text.specs.Token.{token_from, next_token, found_token, said_token};
 
 use domains::Domain;
 use policy::Policy;
 use policy::ranges::test_policy;
-use refusal::{Answer, Part, Refusal};
+use refusal::{Part, Refusal};
 use text::find::find;
 use text::white::trim;
 use verdicts::effective;
 
 // A token's range, and the offset from which the next one is looked for.
 #[derive(Clone, Copy)]
-pub enum Token {
-    At(Part, usize),
-    Done,
-    Refused(Refusal),
+pub struct Token {
+    pub part: Part,
+    pub next: usize,
 }
 
 // The first token of the bytes from `from` to `end`.
-fn token_at(s: &[u8], from: usize, end: usize) -> Token
+fn token_at(s: &[u8], from: usize, end: usize) -> Option<Token>
     requires { end ≤ length s.now }
-    ensures { said_token result ≡ accepted (token_from from 0 (bytes_between s.now from end)) }
+    ensures { found_token result ≡ token_from from 0 (bytes_between s.now from end) }
 {
     let mut i = from;
     while i < end {
         let comma = i + find(&s[i..end], b',');
         let t = trim(&s[i..comma]);
-        let at = i + t.from;
-        let len = t.len;
-        if len != 0 {
-            let next = past(comma, end);
-            return Token::At(Part { from: at, len }, next);
+        if t.len != 0 {
+            let part = Part {
+                from: i + t.from,
+                len: t.len,
+            };
+            // After the comma, or the end where there is none.
+            let next = (comma + 1).min(end);
+            return Some(Token { part, next });
         }
         i = comma + 1;
     }
-    Token::Done
+    None
 }
 
 // The same for any `end`: there is no byte past the text's.
-pub fn first_token(s: &[u8], from: usize, end: usize) -> Token
-    ensures { said_token result ≡ accepted (token_from from 0 (bytes_between s.now from end)) }
+pub fn first_token(s: &[u8], from: usize, end: usize) -> Option<Token>
+    ensures { found_token result ≡ token_from from 0 (bytes_between s.now from end) }
 {
     if s.len() < end {
         return token_at(s, from, s.len());
@@ -52,40 +52,13 @@ pub fn first_token(s: &[u8], from: usize, end: usize) -> Token
     token_at(s, from, end)
 }
 
-// After the comma, or the end where there is none.
-fn past(comma: usize, end: usize) -> usize
-    ensures { result ≡ pick (ltb comma end) (comma + 1) end }
-{
-    if comma < end {
-        return comma + 1;
-    }
-    end
-}
-
-fn clamped(start: usize, end: usize, from: usize) -> usize
-    ensures { result ≡ clamp_to start end from }
-{
-    if from < start {
-        return start;
-    }
-    if end < from {
-        return end;
-    }
-    from
-}
-
 // The first token of domain d's list at or after offset `from`: 14, 4 and 15 of the text and the policy first.
-pub fn next_token(s: &[u8], p: Policy, d: Domain, from: usize) -> Token
+pub fn next_token(s: &[u8], p: Policy, d: Domain, from: usize) -> Result<Option<Token>, Refusal>
     ensures { said_token result ≡ next_token s.now p (domain_number d) from }
 {
-    match test_policy(s, p) {
-        Answer::Refused(why) => Token::Refused(why),
-        Answer::Accepted => {
-            let rule = effective(p, d);
-            let start = rule.from;
-            let end = start + rule.len;
-            let at = clamped(start, end, from);
-            token_at(s, at, end)
-        }
-    }
+    test_policy(s, p)?;
+    let rule = effective(p, d);
+    let end = rule.from + rule.len;
+    let at = from.clamp(rule.from, end);
+    Ok(token_at(s, at, end))
 }

@@ -1,7 +1,8 @@
 -- What the manifest reader leaves never gives 15. Assumes nothing.
+use Rattle.std.specs.Prelude.{Option, Some, None}
 use Prim.Native.Nat.{ℕ, zero, suc, ◌+◌, ◌≤◌, ◌<◌}
 use native.Mathlib.Omega.{arith}
-use mathlib.Core.Path.{◌≡◌, refl, sym, ap, ◌∙◌, subst}
+use mathlib.Core.Path.{◌≡◌, refl, sym, ◌∙◌, subst}
 use mathlib.Core.Bool.{Bool, true, false}
 use mathlib.Core.List.{List, [], ◌∷◌}
 use lib.ListN.{length, get_or}
@@ -17,8 +18,8 @@ use Rattle.table.proofs.Laws.{length-laid, length-cells, cell-laid}
 use Rattle.table.proofs.Testing.{tested-rows}
 use Rattle.refusal.specs.Each.{Each, each_nil, each-cons}
 use Rattle.text.specs.Whole.{whole_text}
-use Rattle.wit.specs.Shapes.{Mark, Reference}
-use Rattle.wit.specs.Line.{absent}
+use Rattle.wit.specs.Shapes.{Reference}
+use Rattle.wit.specs.Line.{range_in}
 use Rattle.wit.specs.Manifest.{State, ManifestSizes, ManifestLent, ManifestHolds, world_cells, reference_cells, manifest_at}
 use Rattle.wit.specs.Sound.{MarkClean, WorldOk, ReferenceOk, ManifestOk}
 use Rattle.wit.proofs.Sound.{rows-sound}
@@ -75,14 +76,11 @@ unfolding reference_cells
 reference-wide r = refl
 
 no_reference : Reference
-no_reference = record { world = 0; export = false; path = no_part; signature = absent }
+no_reference = record { world = 0; export = false; path = no_part; signature = None }
 
-mark-in : (s : List ℕ) (m : Mark) → MarkClean s m → m.from + m.len ≤ length s
-mark-in s m c = by m.given refl where
-  by : (b : Bool) → m.given ≡ b → m.from + m.len ≤ length s
-  by true e = (c.present e).in-text
-  by false e =
-      omega (arith, ap (λ (x : Mark). x.from) (c.missing e), ap (λ (x : Mark). x.len) (c.missing e))
+mark-in : (s : List ℕ) (m : Option Part) → MarkClean s m → (range_in m).from + (range_in m).len ≤ length s
+mark-in s None c = omega arith
+mark-in s (Some p) c = (c.present p refl).in-text
 
 reference-good : (s : List ℕ) (n worlds : ℕ) (rows : List Reference) → Each (ReferenceOk s worlds) rows → (i : ℕ) → i < length rows
     → reference_fits (length s) worlds (laid n (cells reference_cells rows)) i ≡ true
@@ -95,8 +93,8 @@ reference-good s n worlds rows ok i h =
     let a : cell_in 6 (laid n (cells reference_cells rows)) i 0 ≡ r.world = at 0 (omega arith) in
     let b : cell_in 6 (laid n (cells reference_cells rows)) i 2 ≡ r.path.from = at 2 (omega arith) in
     let c : cell_in 6 (laid n (cells reference_cells rows)) i 3 ≡ r.path.len = at 3 (omega arith) in
-    let d : cell_in 6 (laid n (cells reference_cells rows)) i 5 ≡ r.signature.from = at 5 (omega arith) in
-    let e : cell_in 6 (laid n (cells reference_cells rows)) i 6 ≡ r.signature.len = at 6 (omega arith) in
+    let d : cell_in 6 (laid n (cells reference_cells rows)) i 5 ≡ (range_in r.signature).from = at 5 (omega arith) in
+    let e : cell_in 6 (laid n (cells reference_cells rows)) i 6 ≡ (range_in r.signature).len = at 6 (omega arith) in
     rw (
       a,
       b,
@@ -105,7 +103,7 @@ reference-good s n worlds rows ok i h =
       e,
       lt-ltb r.world worlds o.world-in,
       le-leb (r.path.from + r.path.len) (length s) o.path-clean.in-text,
-      le-leb (r.signature.from + r.signature.len) (length s) (mark-in s r.signature o.signature-clean),
+      le-leb ((range_in r.signature).from + (range_in r.signature).len) (length s) (mark-in s r.signature o.signature-clean),
     )
 
 -- ---- both

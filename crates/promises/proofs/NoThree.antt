@@ -1,5 +1,6 @@
 -- 3 is no refusal's number: of what the library answers, by the type of each answer; of the C interface, by what its structs tell.
 -- Assumes nothing.
+use Rattle.std.specs.Prelude.{Result, Ok, Err, Option, Some, None}
 use Prim.Native.Nat.{ℕ}
 use native.Mathlib.Omega.{arith}
 use mathlib.Core.Path.{◌≡◌, refl, sym, ◌∙◌, ap, subst}
@@ -8,33 +9,23 @@ use mathlib.Core.List.{List}
 use lib.Dec.{eqb}
 use lib.IntN.{ℤ}
 use lib.ListN.{length}
-use Rattle.refusal.specs.Said.{Said, accepted, refused, Got, got, refused_by, said_answer, said_count, said_written, Place}
-use Rattle.refusal.specs.declared.Answer.{Answer}
-use Rattle.refusal.specs.declared.Count.{Count}
-use Rattle.refusal.specs.declared.Written.{Written}
+use Rattle.refusal.specs.Said.{Said, accepted, refused, Got, got, refused_by, said_by, Place}
 use Rattle.refusal.specs.declared.Part.{Part}
 use Rattle.refusal.specs.declared.Refusal.{Refusal}
 use Rattle.refusal.proofs.Following.{never}
 use Rattle.refusal.proofs.Known.{never-three}
-use Rattle.text.specs.Whole.{without_value}
-use Rattle.leb.specs.Answers.{finding_of, said_byte, said_u32, said_u64, said_i64, said_part, said_skip}
-use Rattle.leb.specs.declared.ByteRead.{ByteRead}
-use Rattle.leb.specs.declared.U32Read.{U32Read}
-use Rattle.leb.specs.declared.U64Read.{U64Read}
-use Rattle.leb.specs.declared.I64Read.{I64Read}
-use Rattle.leb.specs.declared.PartRead.{PartRead}
-use Rattle.leb.specs.declared.Skipped.{Skipped}
-use Rattle.wasm.specs.Module.{Parsed, module_at, said_module}
-use Rattle.wasm.specs.declared.ModuleRead.{ModuleRead}
+use Rattle.leb.specs.Answers.{finding_of, said_read, said_skip}
+use Rattle.leb.specs.declared.Cursor.{Cursor}
+use Rattle.leb.specs.declared.Unread.{Unread}
+use Rattle.wasm.specs.Module.{Parsed, module_at}
 use Rattle.conform.specs.Sound.{limits}
-use Rattle.wit.specs.Manifest.{said_manifest}
-use Rattle.wit.specs.declared.ManifestRead.{ManifestRead}
 use Rattle.policy.specs.declared.Policy.{Policy}
 use Rattle.policy_text.specs.Token as tokens
 use Rattle.policy_text.specs.declared.token.Token.{Token}
 use Rattle.compat.specs.Answer.{said_compared}
-use Rattle.compat.specs.declared.Compared.{Compared}
-use Rattle.verdicts.specs.Evaluate.{Outcome}
+use Rattle.compat.specs.declared.Lists.{Lists}
+use Rattle.verdicts.specs.Evaluate.{Outcome, said_evaluation}
+use Rattle.verdicts.specs.declared.Evaluation.{Evaluation}
 use Rattle.output.specs.Bytes.{written_count}
 use Rattle.told.specs.Reading.{unsigned_told, range_told}
 use Rattle.told.specs.Policies.{number_in, token_told, written_told}
@@ -68,80 +59,48 @@ by-type {X} w p e = never-three w (number e) where
   number : {m n : ℕ} {q : Place} → ◌≡◌ {A = Said X} (refused m q) (refused n p) → m ≡ n
   number f = cc
 
-answer : (r : Answer) → NotThree (said_answer r)
-answer Answer.Accepted p e = never (sym e)
-answer (Answer.Refused w) p e = by-type w p e
+said : {X : Type 0} (r : Result X Refusal) → NotThree (said_by r)
+said (Ok v) p e = never (sym e)
+said (Err w) p e = by-type w p e
 
-count : (r : Count) → NotThree (said_count r)
-count (Count.Rows n) p e = never (sym e)
-count (Count.Refused w) p e = by-type w p e
+found : {X : Type 0} (r : Result (X × Cursor) Unread) → NotThree (finding_of (said_read r))
+found (Ok (v, next)) p e = never (sym e)
+found (Err w) p e = by-type w.why p e
 
-written : (r : Written) → NotThree (said_written r)
-written (Written.Bytes n) p e = never (sym e)
-written (Written.Refused w) p e = by-type w p e
+skip : (r : Result Cursor Unread) → NotThree (finding_of (said_skip r))
+skip (Ok next) p e = never (sym e)
+skip (Err w) p e = by-type w.why p e
 
-byte : (r : ByteRead) → NotThree (finding_of (said_byte r))
-byte (ByteRead.Read v next) p e = never (sym e)
-byte (ByteRead.Refused w back) p e = by-type w p e
+token : (r : Result (Option Token) Refusal) → NotThree (tokens.said_token r)
+token (Ok (Some t)) p e = never (sym e)
+token (Ok None) p e = never (sym e)
+token (Err w) p e = by-type w p e
 
-u32 : (r : U32Read) → NotThree (finding_of (said_u32 r))
-u32 (U32Read.Read v next) p e = never (sym e)
-u32 (U32Read.Refused w back) p e = by-type w p e
+compared : (r : Result Lists Refusal) → NotThree (said_compared r)
+compared (Ok l) p e = never (sym e)
+compared (Err w) p e = by-type w p e
 
-u64 : (r : U64Read) → NotThree (finding_of (said_u64 r))
-u64 (U64Read.Read v next) p e = never (sym e)
-u64 (U64Read.Refused w back) p e = by-type w p e
-
-i64 : (r : I64Read) → NotThree (finding_of (said_i64 r))
-i64 (I64Read.Read v next) p e = never (sym e)
-i64 (I64Read.Refused w back) p e = by-type w p e
-
-part : (r : PartRead) → NotThree (finding_of (said_part r))
-part (PartRead.Read v next) p e = never (sym e)
-part (PartRead.Refused w back) p e = by-type w p e
-
-skip : (r : Skipped) → NotThree (finding_of (said_skip r))
-skip (Skipped.To next) p e = never (sym e)
-skip (Skipped.Refused w back) p e = by-type w p e
-
-modul : (r : ModuleRead) → NotThree (said_module r)
-modul (ModuleRead.Module m) p e = never (sym e)
-modul (ModuleRead.Refused w) p e = by-type w p e
-
-manifest : (r : ManifestRead) → NotThree (said_manifest r)
-manifest (ManifestRead.Manifest m) p e = never (sym e)
-manifest (ManifestRead.Refused w) p e = by-type w p e
-
-token : (r : Token) → NotThree (tokens.said_token r)
-token (Token.At x next) p e = never (sym e)
-token Token.Done p e = never (sym e)
-token (Token.Refused w) p e = by-type w p e
-
-compared : (r : Compared) → NotThree (said_compared r)
-compared (Compared.Lists x c fine) p e = never (sym e)
-compared (Compared.Refused w) p e = by-type w p e
-
--- an answer beside a value
-beside : {X : Type 0} (x : Said X) (r : Answer) → said_answer r ≡ without_value x → NotThree x
-beside x r a p e = answer r p (a ∙ ap without_value e)
+evaluated : (r : Result Evaluation Refusal) → NotThree (said_evaluation r)
+evaluated (Ok v) p e = never (sym e)
+evaluated (Err w) p e = by-type w p e
 
 pub no-three-said : NoThreeSaid
 no-three-said = record {
-  no-three-answer = answer;
-  no-three-count = count;
-  no-three-written = written;
-  no-three-byte = byte;
-  no-three-u32 = u32;
-  no-three-u64 = u64;
-  no-three-i64 = i64;
-  no-three-part = part;
+  no-three-answer = said;
+  no-three-count = said;
+  no-three-written = said;
+  no-three-byte = found;
+  no-three-u32 = found;
+  no-three-u64 = found;
+  no-three-i64 = found;
+  no-three-part = found;
   no-three-skip = skip;
-  no-three-module = modul;
-  no-three-manifest = manifest;
+  no-three-module = said;
+  no-three-manifest = said;
   no-three-token = token;
   no-three-compared = compared;
-  no-three-policy = λ x r a. beside x r.answer a.answer;
-  no-three-verdicts = λ x r a. beside x r.answer a.answer;
+  no-three-policy = said;
+  no-three-verdicts = evaluated;
 }
 
 -- ---- over the C interface

@@ -1,6 +1,6 @@
 -- The checked examples that are marked P, as one list under a single claim: each holds of the definitions that the promises cite.
 -- Assumes nothing.
-use Rattle.std.specs.Prelude.{ℕ, ◌*◌, ◌≡◌, refl, Bool, true, false, List, [], ◌∷◌, ◌++◌, map, length, ℤ, pos, negsuc}
+use Rattle.std.specs.Prelude.{None, ℕ, ◌*◌, ◌≡◌, refl, Bool, true, false, List, [], ◌∷◌, ◌++◌, map, length, ℤ, pos, negsuc}
 use Rattle.refusal.specs.Said.{Said, accepted, refused, follow, Got, got, onward, offset, relocated}
 use Rattle.leb.specs.Groups.{u_n, s_n, twos, grown, spent}
 use Rattle.leb.specs.Reads.{told_at, narrowed, uleb_at, u32_at, sleb_at, part, byte_at, fixed_at, taken_at, counted_at, checked, name_at}
@@ -103,7 +103,7 @@ one_import_read =
         sections = record { id = 2; from = 10; size = 7; name = part 0 0 } ∷ [];
         imports = record { «module» = part 12 1; field = part 14 1; kind = 0; desc = func 0 } ∷ [];
         exports = [];
-        names = record { label = record { named = false; start = 0; size = 0 }; symbols = [] };
+        names = record { label = None; symbols = [] };
       };
     }
 
@@ -125,8 +125,8 @@ abbrev pub one_world_read : State
 one_world_read =
     record {
       line = 1;
-      pack = record { given = false; from = 0; len = 0 };
-      world = record { given = false; from = 0; len = 0 };
+      pack = None;
+      world = None;
       worlds = record { from = 6; len = 4 } ∷ [];
       references = [];
     }
@@ -155,16 +155,20 @@ examples =
     ∷ []
 
 pub examples-hold : AllHold examples
-unfolding uleb_at u32_at sleb_at told_at narrowed onward u_n s_n twos grown spent byte_at fixed_at taken_at counted_at checked name_at module_at header_at
-    relocated magic same walk_from walk turn_of section_at contents_at add_section capacity_of no_tables imports_of entries_from import_at desc_at
+unfolding uleb_at u32_at sleb_at told_at narrowed onward u_n s_n twos grown spent byte_at fixed_at taken_at counted_at checked name_at
+    module_at header_at
+    relocated magic same walk_from walk turn_of section_at contents_at add_section capacity_of no_tables imports_of entries_from
+    import_at desc_at
     func_at up_to scan seq_len after followers follow_in covers utf8_table
     follow laid cells import_cells desc_cells module_rows asked imports_tested tested first_from import_fits kind_fits desc_fits marked
     number_fits count_from given_of kind_is cell_of range_of fitted
     import_domain path_domain head_of classed_by passes preview heads seek begins index_of
     read_policy read_with whole_text run zero_policy obey lines_of lines_from line_len line_step cr_before policy_directive policy_core
     policy_spoken policy_worded
-    defaulted fault trim trim_start trim_end start_len end_len chars chars_from more more_by code_of code_by is_white whites in_some effective_of
-    index_of2 shorn unbraced manifest_worded manifest_core manifest_spoken manifest_directive start close_at open_at obey_at line_at lines_at
+    defaulted fault trim trim_start trim_end start_len end_len chars chars_from more more_by code_of code_by is_white whites in_some
+    effective_of
+    index_of2 shorn unbraced manifest_worded manifest_core manifest_spoken manifest_directive start close_at open_at obey_at line_at
+    lines_at
     manifest_at
 examples-hold = (
   refl,

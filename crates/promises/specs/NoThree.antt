@@ -1,32 +1,25 @@
 -- docs/RULES.md, "Numbered answers": 3 is no refusal's number any more. What is claimed of the answers of every call; the proofs are in
 -- proofs/NoThree. Assumes nothing.
-use Rattle.std.specs.Prelude.{ℕ, ◌≡◌, List}
+use Rattle.std.specs.Prelude.{ℕ, ◌≡◌, List, Result, Option, ℤ}
 use contract.Lifetimes.{Lfts}
 use borrow.Fn.Kinds.{ParamKind, ResultKind, Out, Dens, res_t, ended_of}
 use denote.Triple.Clauses.{AtExit}
-use Rattle.refusal.specs.Said.{Said, refused, said_answer, said_count, said_written, Place}
-use Rattle.refusal.specs.declared.Answer.{Answer}
-use Rattle.refusal.specs.declared.Count.{Count}
-use Rattle.refusal.specs.declared.Written.{Written}
-use Rattle.leb.specs.Answers.{finding_of, said_byte, said_u32, said_u64, said_i64, said_part, said_skip}
-use Rattle.leb.specs.declared.ByteRead.{ByteRead}
-use Rattle.leb.specs.declared.U32Read.{U32Read}
-use Rattle.leb.specs.declared.U64Read.{U64Read}
-use Rattle.leb.specs.declared.I64Read.{I64Read}
-use Rattle.leb.specs.declared.PartRead.{PartRead}
-use Rattle.leb.specs.declared.Skipped.{Skipped}
+use Rattle.refusal.specs.Said.{Said, refused, said_by, Place}
+use Rattle.refusal.specs.declared.Part.{Part}
+use Rattle.refusal.specs.declared.Refusal.{Refusal}
+use Rattle.leb.specs.Answers.{finding_of, said_read, said_skip}
+use Rattle.leb.specs.declared.Cursor.{Cursor}
+use Rattle.leb.specs.declared.Unread.{Unread}
 use Rattle.wasm.specs.Module.{said_module}
-use Rattle.wasm.specs.declared.ModuleRead.{ModuleRead}
+use Rattle.wasm.specs.declared.Module.{Module}
 use Rattle.wit.specs.Manifest.{said_manifest}
-use Rattle.wit.specs.declared.ManifestRead.{ManifestRead}
-use Rattle.policy.specs.Reader.{PolicyReadAs}
+use Rattle.wit.specs.declared.Manifest.{Manifest}
 use Rattle.policy.specs.declared.Policy.{Policy}
-use Rattle.policy.specs.declared.PolicyRead.{PolicyRead}
 use Rattle.policy_text.specs.Token.{said_token}
 use Rattle.policy_text.specs.declared.token.Token.{Token}
 use Rattle.compat.specs.Answer.{said_compared}
-use Rattle.compat.specs.declared.Compared.{Compared}
-use Rattle.verdicts.specs.Evaluate.{Outcome, EvaluatedAs}
+use Rattle.compat.specs.declared.Lists.{Lists}
+use Rattle.verdicts.specs.Evaluate.{said_evaluation}
 use Rattle.verdicts.specs.declared.Evaluation.{Evaluation}
 use Rattle.capi.proofs.cursor.viscrombal_uleb128.Kinds as uleb128-kinds
 use Rattle.capi.proofs.cursor.viscrombal_uleb128.Reads as uleb128
@@ -58,23 +51,23 @@ use Rattle.capi.proofs.lists.viscrombal_tokens.Reads as tokens
 abbrev pub NotThree : {X : Type 0} → Said X → Type 0
 NotThree x = (p : Place) → x ≡ refused 3 p → ⊥
 
--- whatever a function of the library answers, by the type of its answer; of a policy and of verdicts, by what they promise to tell
+-- whatever a function of the library answers, by the type of its answer
 pub record NoThreeSaid : Type 0 where
-  pub no-three-answer : (r : Answer) → NotThree (said_answer r)
-  pub no-three-count : (r : Count) → NotThree (said_count r)
-  pub no-three-written : (r : Written) → NotThree (said_written r)
-  pub no-three-byte : (r : ByteRead) → NotThree (finding_of (said_byte r))
-  pub no-three-u32 : (r : U32Read) → NotThree (finding_of (said_u32 r))
-  pub no-three-u64 : (r : U64Read) → NotThree (finding_of (said_u64 r))
-  pub no-three-i64 : (r : I64Read) → NotThree (finding_of (said_i64 r))
-  pub no-three-part : (r : PartRead) → NotThree (finding_of (said_part r))
-  pub no-three-skip : (r : Skipped) → NotThree (finding_of (said_skip r))
-  pub no-three-module : (r : ModuleRead) → NotThree (said_module r)
-  pub no-three-manifest : (r : ManifestRead) → NotThree (said_manifest r)
-  pub no-three-token : (r : Token) → NotThree (said_token r)
-  pub no-three-compared : (r : Compared) → NotThree (said_compared r)
-  pub no-three-policy : (x : Said Policy) (r : PolicyRead) → PolicyReadAs x r → NotThree x
-  pub no-three-verdicts : (x : Said Outcome) (r : Evaluation) → EvaluatedAs x r → NotThree x
+  pub no-three-answer : (r : Result (Unit {0}) Refusal) → NotThree (said_by r)
+  pub no-three-count : (r : Result ℕ Refusal) → NotThree (said_by r)
+  pub no-three-written : (r : Result ℕ Refusal) → NotThree (said_by r)
+  pub no-three-byte : (r : Result (ℕ × Cursor) Unread) → NotThree (finding_of (said_read r))
+  pub no-three-u32 : (r : Result (ℕ × Cursor) Unread) → NotThree (finding_of (said_read r))
+  pub no-three-u64 : (r : Result (ℕ × Cursor) Unread) → NotThree (finding_of (said_read r))
+  pub no-three-i64 : (r : Result (ℤ × Cursor) Unread) → NotThree (finding_of (said_read r))
+  pub no-three-part : (r : Result (Part × Cursor) Unread) → NotThree (finding_of (said_read r))
+  pub no-three-skip : (r : Result Cursor Unread) → NotThree (finding_of (said_skip r))
+  pub no-three-module : (r : Result Module Refusal) → NotThree (said_module r)
+  pub no-three-manifest : (r : Result Manifest Refusal) → NotThree (said_manifest r)
+  pub no-three-token : (r : Result (Option Token) Refusal) → NotThree (said_token r)
+  pub no-three-compared : (r : Result Lists Refusal) → NotThree (said_compared r)
+  pub no-three-policy : (r : Result Policy Refusal) → NotThree (said_by r)
+  pub no-three-verdicts : (r : Result Evaluation Refusal) → NotThree (said_evaluation r)
 
 -- of any answer that satisfies a function's promise, as the check itself reads it (`Post`): the number that is told is not 3
 module _ {n : ℕ} (ps : List (ParamKind n)) (r : ResultKind n) where

@@ -1,28 +1,29 @@
 -- No two answers, and no two final contents of tables 8 and 9, satisfy the promise of `compare_modules`. Assumes nothing.
-use Rattle.std.specs.Prelude.{◌≡◌, refl}
+use Rattle.std.specs.Prelude.{◌≡◌, refl, Result, Ok, Err}
 use Rattle.std.proofs.Common.{sym, ◌∙◌, ap}
 use contract.Lifetimes.{Lfts}
 use borrow.Fn.Kinds.{Dens, res_t, ended_of}
 use denote.Triple.Clauses.{AtExit}
 use Rattle.refusal.specs.Said.{Said, accepted, refused}
+use Rattle.refusal.specs.declared.Refusal.{Refusal}
 use Rattle.refusal.proofs.Known.{refusal_of, known, taken_back}
 use Rattle.differences.specs.Compared.{Verdict}
 use Rattle.compat.specs.Answer.{said_compared}
-use Rattle.compat.specs.declared.Compared.{Compared}
+use Rattle.compat.specs.declared.Lists.{Lists}
 use Rattle.compat.proofs.compare_modules.Kinds as compare-modules-kinds
 use Rattle.compat.proofs.compare_modules.Reads as compare-modules
 use Rattle.promises.specs.Decides.{Decides}
 
 -- an answer is known by its number, place and values
-pub compared-known : (a b : Compared) → said_compared a ≡ said_compared b → a ≡ b
+pub compared-known : (a b : Result Lists Refusal) → said_compared a ≡ said_compared b → a ≡ b
 compared-known = taken_back back is where
-  back : Said Verdict → Compared
-  back (accepted v) = Compared.Lists v.exports v.capabilities v.compatible
-  back (refused n p) = Compared.Refused (refusal_of n p)
+  back : Said Verdict → Result Lists Refusal
+  back (accepted v) = Ok (record { exports = v.exports; capabilities = v.capabilities; compatible = v.compatible })
+  back (refused n p) = Err (refusal_of n p)
 
-  is : (a : Compared) → back (said_compared a) ≡ a
-  is (Compared.Lists m n fine) = refl
-  is (Compared.Refused w) = ap Compared.Refused (known w)
+  is : (a : Result Lists Refusal) → back (said_compared a) ≡ a
+  is (Ok l) = refl
+  is (Err w) = ap Err (known w)
 
 pub compare-modules-decides : Decides compare-modules-kinds.ps compare-modules-kinds.r compare-modules.Post
 compare-modules-decides κs a x y s t p q = compared-known x y (p.answer-is ∙ sym q.answer-is)

@@ -1,7 +1,7 @@
 -- No two answers satisfy the promise of any function of differences. Assumes nothing.
 use Rattle.std.proofs.Common.{sym, ◌∙◌}
 use Rattle.std.specs.Prelude.{◌≡◌}
-use Rattle.refusal.proofs.Known.{answer-known}
+use Rattle.refusal.proofs.Known.{result-known}
 use Rattle.promises.specs.Decides.{Decides}
 use contract.Lifetimes.{Lfts}
 use borrow.Fn.Kinds.{Dens, res_t, ended_of}
@@ -33,13 +33,13 @@ pub kind-rank-decides : Decides kind-rank-kinds.ps kind-rank-kinds.r kind-rank.P
 kind-rank-decides κs a x y s t p q = p ∙ sym q
 
 pub check-exports-decides : Decides check-exports-kinds.ps check-exports-kinds.r check-exports.Post
-check-exports-decides κs a x y s t p q = answer-known x y (p ∙ sym q)
+check-exports-decides κs a x y s t p q = result-known x y (p ∙ sym q)
 
 pub check-tables-decides : Decides check-tables-kinds.ps check-tables-kinds.r check-tables.Post
-check-tables-decides κs a x y s t p q = answer-known x y (p ∙ sym q)
+check-tables-decides κs a x y s t p q = result-known x y (p ∙ sym q)
 
 pub check-both-decides : Decides check-both-kinds.ps check-both-kinds.r check_both.Post
-check-both-decides κs a x y s t p q = answer-known x y (p ∙ sym q)
+check-both-decides κs a x y s t p q = result-known x y (p ∙ sym q)
 
 pub export-diff-name-decides : (κs : Lfts 3) (a : Dens κs export-kinds.ps) (x y : (res_t export-kinds.r κs).Denot)
     (s t : AtExit (ended_of 3 export-kinds.ps export-kinds.r) κs) → export.Post κs a x s → export.Post κs a y t

@@ -1,6 +1,6 @@
 -- No two answers satisfy the promise of any function of leb: an answer is known by its number and values. Assumes nothing.
 use Rattle.std.proofs.Common.{sym, ◌∙◌}
-use Rattle.leb.proofs.Known.{byte-known, u32-known, u64-known, i64-known, part-known, skip-known}
+use Rattle.leb.proofs.Known.{read-known, skip-known}
 use Rattle.promises.specs.Decides.{Decides}
 use Rattle.leb.proofs.Cursor.new.Kinds as new-kinds
 use Rattle.leb.proofs.Cursor.new.Reads as new
@@ -28,14 +28,6 @@ use Rattle.leb.proofs.Cursor.counted.Kinds as counted-kinds
 use Rattle.leb.proofs.Cursor.counted.Reads as counted
 use Rattle.leb.proofs.Cursor.name.Kinds as name-kinds
 use Rattle.leb.proofs.Cursor.name.Reads as name
-use Rattle.leb.proofs.ByteRead.why.Kinds as ByteRead-why-kinds
-use Rattle.leb.proofs.ByteRead.why.Reads as ByteRead-why
-use Rattle.leb.proofs.U32Read.why.Kinds as U32Read-why-kinds
-use Rattle.leb.proofs.U32Read.why.Reads as U32Read-why
-use Rattle.leb.proofs.U64Read.why.Kinds as U64Read-why-kinds
-use Rattle.leb.proofs.U64Read.why.Reads as U64Read-why
-use Rattle.leb.proofs.PartRead.why.Kinds as PartRead-why-kinds
-use Rattle.leb.proofs.PartRead.why.Reads as PartRead-why
 
 pub new-decides : Decides new-kinds.ps new-kinds.r new.Post
 new-decides κs a x y s t p q = p ∙ sym q
@@ -50,40 +42,28 @@ pub is-empty-decides : Decides is-empty-kinds.ps is-empty-kinds.r is-empty.Post
 is-empty-decides κs a x y s t p q = p ∙ sym q
 
 pub u8-decides : Decides u8-kinds.ps u8-kinds.r u8.Post
-u8-decides κs a x y s t p q = byte-known x y (p ∙ sym q)
+u8-decides κs a x y s t p q = read-known x y (p ∙ sym q)
 
 pub u32-le-decides : Decides u32-le-kinds.ps u32-le-kinds.r u32-le.Post
-u32-le-decides κs a x y s t p q = u32-known x y (p ∙ sym q)
+u32-le-decides κs a x y s t p q = read-known x y (p ∙ sym q)
 
 pub take-decides : Decides take-kinds.ps take-kinds.r take.Post
-take-decides κs a x y s t p q = part-known x y (p ∙ sym q)
+take-decides κs a x y s t p q = read-known x y (p ∙ sym q)
 
 pub skip-decides : Decides skip-kinds.ps skip-kinds.r skip.Post
 skip-decides κs a x y s t p q = skip-known x y (p ∙ sym q)
 
 pub uleb128-decides : Decides uleb128-kinds.ps uleb128-kinds.r uleb128.Post
-uleb128-decides κs a x y s t p q = u64-known x y (p ∙ sym q)
+uleb128-decides κs a x y s t p q = read-known x y (p ∙ sym q)
 
 pub uleb128-u32-decides : Decides uleb128-u32-kinds.ps uleb128-u32-kinds.r uleb128-u32.Post
-uleb128-u32-decides κs a x y s t p q = u32-known x y (p ∙ sym q)
+uleb128-u32-decides κs a x y s t p q = read-known x y (p ∙ sym q)
 
 pub sleb128-decides : Decides sleb128-kinds.ps sleb128-kinds.r sleb128.Post
-sleb128-decides κs a x y s t p q = i64-known x y (p ∙ sym q)
+sleb128-decides κs a x y s t p q = read-known x y (p ∙ sym q)
 
 pub counted-decides : Decides counted-kinds.ps counted-kinds.r counted.Post
-counted-decides κs a x y s t p q = part-known x y (p ∙ sym q)
+counted-decides κs a x y s t p q = read-known x y (p ∙ sym q)
 
 pub name-decides : Decides name-kinds.ps name-kinds.r name.Post
-name-decides κs a x y s t p q = part-known x y (p ∙ sym q)
-
-pub ByteRead-why-decides : Decides ByteRead-why-kinds.ps ByteRead-why-kinds.r ByteRead-why.Post
-ByteRead-why-decides κs a x y s t p q = p ∙ sym q
-
-pub U32Read-why-decides : Decides U32Read-why-kinds.ps U32Read-why-kinds.r U32Read-why.Post
-U32Read-why-decides κs a x y s t p q = p ∙ sym q
-
-pub U64Read-why-decides : Decides U64Read-why-kinds.ps U64Read-why-kinds.r U64Read-why.Post
-U64Read-why-decides κs a x y s t p q = p ∙ sym q
-
-pub PartRead-why-decides : Decides PartRead-why-kinds.ps PartRead-why-kinds.r PartRead-why.Post
-PartRead-why-decides κs a x y s t p q = p ∙ sym q
+name-decides κs a x y s t p q = read-known x y (p ∙ sym q)

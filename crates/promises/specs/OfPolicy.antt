@@ -1,16 +1,17 @@
 -- No two answers satisfy the promise of any function of policy and of rewriting. Assumes nothing.
-use Rattle.std.specs.Prelude.{◌≡◌}
+use Rattle.std.specs.Prelude.{◌≡◌, refl}
 use Rattle.std.proofs.Common.{sym, ◌∙◌}
 use contract.Lifetimes.{Lfts}
 use borrow.Fn.Kinds.{Dens, res_t, ended_of}
 use denote.Triple.Clauses.{AtExit}
-use Rattle.refusal.proofs.Known.{answer-known}
+use Rattle.refusal.proofs.Known.{result-known, taken_back}
 use Rattle.domains.proofs.DomainLaws.{same-domain}
 use Rattle.domains.proofs.Known.{found-known}
-use Rattle.policy.proofs.Known.{read_known}
+use Rattle.verdicts.specs.Evaluate.{Outcome, outcome_in}
+use Rattle.verdicts.specs.declared.Evaluation.{Evaluation}
 use Rattle.verdicts.proofs.Known.{evaluation-known}
 use Rattle.output.proofs.Known.{one_answer, one-output}
-use Rattle.policy_text.proofs.Known.{token-known}
+use Rattle.policy_text.proofs.Known.{token-known, found-known as found-text-known}
 use Rattle.promises.specs.Decides.{Decides}
 use Rattle.domains.proofs.domain_number.Kinds as domain-number-kinds
 use Rattle.domains.proofs.domain_number.Reads as domain-number
@@ -38,8 +39,6 @@ use Rattle.verdicts.proofs.is_compliant.Kinds as is-compliant-kinds
 use Rattle.verdicts.proofs.is_compliant.Reads as is-compliant
 use Rattle.verdicts.proofs.judge.Kinds as judge-kinds
 use Rattle.verdicts.proofs.judge.Reads as judge
-use Rattle.verdicts.proofs.unjudged.Kinds as unjudged-kinds
-use Rattle.verdicts.proofs.unjudged.Reads as unjudged
 use Rattle.verdicts.proofs.evaluate_domains.Kinds as evaluate-domains-kinds
 use Rattle.verdicts.proofs.evaluate_domains.Reads as evaluate-domains
 use Rattle.policy_text.proofs.token.next_token.Kinds as next-token-kinds
@@ -48,6 +47,12 @@ use Rattle.policy_text.proofs.token.first_token.Kinds as first-token-kinds
 use Rattle.policy_text.proofs.token.first_token.Reads as first-token
 use Rattle.policy_text.proofs.write_policy.Kinds as write-policy-kinds
 use Rattle.policy_text.proofs.write_policy.Reads as write-policy
+
+-- an evaluation is known by its verdicts, its set and its count
+outcome-known : (x y : Evaluation) → outcome_in x ≡ outcome_in y → x ≡ y
+outcome-known = taken_back again (λ a. refl) where
+  again : Outcome → Evaluation
+  again o = record { verdicts = o.verdicts; set = o.set; count = o.count }
 
 pub domain-number-decides : Decides domain-number-kinds.ps domain-number-kinds.r domain-number.Post
 domain-number-decides κs a x y s t p q = p ∙ sym q
@@ -68,13 +73,13 @@ pub classify-path-decides : Decides classify-path-kinds.ps classify-path-kinds.r
 classify-path-decides κs a x y s t p q = same-domain x y (p ∙ sym q)
 
 pub test-policy-decides : Decides test-policy-kinds.ps test-policy-kinds.r test-policy.Post
-test-policy-decides κs a x y s t p q = answer-known x y (p ∙ sym q)
+test-policy-decides κs a x y s t p q = result-known x y (p ∙ sym q)
 
 pub default-policy-decides : Decides default-policy-kinds.ps default-policy-kinds.r default-policy.Post
 default-policy-decides κs a x y s t p q = p ∙ sym q
 
 pub read-policy-decides : Decides read-policy-kinds.ps read-policy-kinds.r read-policy.Post
-read-policy-decides κs a x y s t p q = read_known x y p q
+read-policy-decides κs a x y s t p q = result-known x y (p ∙ sym q)
 
 pub effective-decides : Decides effective-kinds.ps effective-kinds.r effective.Post
 effective-decides κs a x y s t p q = p ∙ sym q
@@ -89,16 +94,13 @@ pub evaluate-domains-decides : Decides evaluate-domains-kinds.ps evaluate-domain
 evaluate-domains-decides κs a x y s t p q = evaluation-known x y p q
 
 pub judge-decides : Decides judge-kinds.ps judge-kinds.r judge.Post
-judge-decides κs a x y s t p q = evaluation-known x y p q
-
-pub unjudged-decides : Decides unjudged-kinds.ps unjudged-kinds.r unjudged.Post
-unjudged-decides κs a x y s t p q = evaluation-known x y p q
+judge-decides κs a x y s t p q = outcome-known x y (p ∙ sym q)
 
 pub next-token-decides : Decides next-token-kinds.ps next-token-kinds.r next-token.Post
 next-token-decides κs a x y s t p q = token-known x y (p ∙ sym q)
 
 pub first-token-decides : Decides first-token-kinds.ps first-token-kinds.r first-token.Post
-first-token-decides κs a x y s t p q = token-known x y (p ∙ sym q)
+first-token-decides κs a x y s t p q = found-text-known x y (p ∙ sym q)
 
 pub write-policy-decides : Decides write-policy-kinds.ps write-policy-kinds.r write-policy.Post
 write-policy-decides κs a x y s t p q = one_answer p q

@@ -4,7 +4,7 @@ use Rattle.std.proofs.Common.{sym, ◌∙◌}
 use contract.Lifetimes.{Lfts}
 use borrow.Fn.Kinds.{Dens, res_t, ended_of}
 use denote.Triple.Clauses.{AtExit}
-use Rattle.refusal.proofs.Known.{answer-known, count-known}
+use Rattle.refusal.proofs.Known.{result-known}
 use Rattle.promises.specs.Decides.{Decides}
 use Rattle.reference_rows.proofs.check_manifest.Kinds as check-manifest-kinds
 use Rattle.reference_rows.proofs.check_manifest.Reads as check-manifest
@@ -14,10 +14,10 @@ use Rattle.reference_rows.proofs.all_exports.Kinds as all-exports-kinds
 use Rattle.reference_rows.proofs.all_exports.Reads as all-exports
 
 pub check-manifest-decides : Decides check-manifest-kinds.ps check-manifest-kinds.r check-manifest.Post
-check-manifest-decides κs a x y s t p q = answer-known x y (p ∙ sym q)
+check-manifest-decides κs a x y s t p q = result-known x y (p ∙ sym q)
 
 pub all-imports-decides : Decides all-imports-kinds.ps all-imports-kinds.r all-imports.Post
-all-imports-decides κs a x y s t p q = count-known x y (p.answer-is ∙ sym q.answer-is)
+all-imports-decides κs a x y s t p q = result-known x y (p.answer-is ∙ sym q.answer-is)
 
 pub all-imports-leaves : (κs : Lfts 4) (a : Dens κs all-imports-kinds.ps) (x y : (res_t all-imports-kinds.r κs).Denot)
     (s t : AtExit (ended_of 4 all-imports-kinds.ps all-imports-kinds.r) κs)
@@ -25,7 +25,7 @@ pub all-imports-leaves : (κs : Lfts 4) (a : Dens κs all-imports-kinds.ps) (x y
 all-imports-leaves κs a x y s t p q = p.table_is ∙ sym q.table_is
 
 pub all-exports-decides : Decides all-exports-kinds.ps all-exports-kinds.r all-exports.Post
-all-exports-decides κs a x y s t p q = count-known x y (p.answer-is ∙ sym q.answer-is)
+all-exports-decides κs a x y s t p q = result-known x y (p.answer-is ∙ sym q.answer-is)
 
 pub all-exports-leaves : (κs : Lfts 4) (a : Dens κs all-exports-kinds.ps) (x y : (res_t all-exports-kinds.r κs).Denot)
     (s t : AtExit (ended_of 4 all-exports-kinds.ps all-exports-kinds.r) κs)

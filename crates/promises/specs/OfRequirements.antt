@@ -4,7 +4,7 @@ use Rattle.std.proofs.Common.{sym, ◌∙◌}
 use contract.Lifetimes.{Lfts}
 use borrow.Fn.Kinds.{Dens, res_t, ended_of}
 use denote.Triple.Clauses.{AtExit}
-use Rattle.refusal.proofs.Known.{count-known}
+use Rattle.refusal.proofs.Known.{result-known}
 use Rattle.promises.specs.Decides.{Decides}
 use Rattle.requirements.proofs.module.refuse.Kinds as refuse-kinds
 use Rattle.requirements.proofs.module.refuse.Reads as refuse
@@ -14,7 +14,7 @@ use Rattle.requirements.proofs.manifest.requirements_from_manifest.Kinds as from
 use Rattle.requirements.proofs.manifest.requirements_from_manifest.Reads as from-manifest
 
 pub refuse-decides : Decides refuse-kinds.ps refuse-kinds.r refuse.Post
-refuse-decides κs a x y s t p q = count-known x y (p.0 ∙ sym q.0)
+refuse-decides κs a x y s t p q = result-known x y (p.0 ∙ sym q.0)
 
 module _ (κs : Lfts 2) (a : Dens κs refuse-kinds.ps) (x y : (res_t refuse-kinds.r κs).Denot)
     (s t : AtExit (ended_of 2 refuse-kinds.ps refuse-kinds.r) κs) (p : refuse.Post κs a x s) (q : refuse.Post κs a y t) where
@@ -25,7 +25,7 @@ module _ (κs : Lfts 2) (a : Dens κs refuse-kinds.ps) (x y : (res_t refuse-kind
   refuse-rows = p.2 ∙ sym q.2
 
 pub from-module-decides : Decides from-module-kinds.ps from-module-kinds.r from-module.Post
-from-module-decides κs a x y s t p q = count-known x y (p.answer-is ∙ sym q.answer-is)
+from-module-decides κs a x y s t p q = result-known x y (p.answer-is ∙ sym q.answer-is)
 
 module _ (κs : Lfts 4) (a : Dens κs from-module-kinds.ps) (x y : (res_t from-module-kinds.r κs).Denot)
     (s t : AtExit (ended_of 4 from-module-kinds.ps from-module-kinds.r) κs) (p : from-module.Post κs a x s)
@@ -37,7 +37,7 @@ module _ (κs : Lfts 4) (a : Dens κs from-module-kinds.ps) (x y : (res_t from-m
   from-module-rows = p.rows_are ∙ sym q.rows_are
 
 pub from-manifest-decides : Decides from-manifest-kinds.ps from-manifest-kinds.r from-manifest.Post
-from-manifest-decides κs a x y s t p q = count-known x y (p.answer-is ∙ sym q.answer-is)
+from-manifest-decides κs a x y s t p q = result-known x y (p.answer-is ∙ sym q.answer-is)
 
 module _ (κs : Lfts 5) (a : Dens κs from-manifest-kinds.ps) (x y : (res_t from-manifest-kinds.r κs).Denot)
     (s t : AtExit (ended_of 5 from-manifest-kinds.ps from-manifest-kinds.r) κs) (p : from-manifest.Post κs a x s)

@@ -5,7 +5,7 @@ use Rattle.std.proofs.Common.{sym, ◌∙◌}
 use contract.Lifetimes.{Lfts}
 use borrow.Fn.Kinds.{Dens, res_t, ended_of}
 use denote.Triple.Clauses.{AtExit}
-use Rattle.refusal.proofs.Known.{answer-known}
+use Rattle.refusal.proofs.Known.{result-known}
 use Rattle.strict.proofs.read_strict.Kinds as read-strict-kinds
 use Rattle.strict.proofs.read_strict.Reads as read-strict
 use Rattle.strict.proofs.test_strict.Kinds as test-strict-kinds
@@ -17,7 +17,7 @@ pub read-strict-decides : Decides read-strict-kinds.ps read-strict-kinds.r read-
 read-strict-decides κs a x y s t p q = module-known x y (p.answer-is ∙ sym q.answer-is)
 
 pub test-strict-decides : Decides test-strict-kinds.ps test-strict-kinds.r test-strict.Post
-test-strict-decides κs a x y s t p q = answer-known x y (p ∙ sym q)
+test-strict-decides κs a x y s t p q = result-known x y (p ∙ sym q)
 
 -- every cell of the tables
 module _ (κs : Lfts 5) (a : Dens κs read-strict-kinds.ps) (x y : (res_t read-strict-kinds.r κs).Denot)

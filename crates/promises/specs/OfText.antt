@@ -3,7 +3,7 @@ use Rattle.std.specs.Prelude.{◌≡◌}
 use Rattle.std.proofs.Common.{sym, ◌∙◌}
 use Rattle.text.specs.declared.lines.Line.{Line}
 use Rattle.promises.specs.Decides.{Decides}
-use Rattle.refusal.proofs.Known.{answer-known}
+use Rattle.refusal.proofs.Known.{result-known}
 use Rattle.text.proofs.utf8.valid_up_to.Kinds as valid-up-to-kinds
 use Rattle.text.proofs.utf8.valid_up_to.Reads as valid_up_to
 use Rattle.text.proofs.white.is_white.Kinds as is-white-kinds
@@ -71,7 +71,7 @@ pub compare-decides : Decides compare-kinds.ps compare-kinds.r compare.Post
 compare-decides κs a x y s t p q = p ∙ sym q
 
 pub test-text-decides : Decides test-text-kinds.ps test-text-kinds.r test-text.Post
-test-text-decides κs a x y s t p q = answer-known x y (p ∙ sym q)
+test-text-decides κs a x y s t p q = result-known x y (p ∙ sym q)
 
 pub trimmed-at-decides : Decides trimmed-at-kinds.ps trimmed-at-kinds.r trimmed-at.Post
 trimmed-at-decides κs a x y s t p q = p.0 ∙ sym q.0

@@ -1,6 +1,8 @@
 -- No two answers satisfy the promise of any function that tells an answer in a struct of numbers. Assumes nothing.
 use Rattle.std.proofs.Common.{sym, ◌∙◌}
 use Rattle.promises.specs.Decides.{Decides}
+use Rattle.told.proofs.cursor.unsigned_of.Kinds as unsigned-of-kinds
+use Rattle.told.proofs.cursor.unsigned_of.Reads as unsigned-of
 use Rattle.told.proofs.cursor.narrow_of.Kinds as narrow-of-kinds
 use Rattle.told.proofs.cursor.narrow_of.Reads as narrow-of
 use Rattle.told.proofs.cursor.range_of.Kinds as range-of-kinds
@@ -23,6 +25,9 @@ use Rattle.told.proofs.policies.written_of.Kinds as written-of-kinds
 use Rattle.told.proofs.policies.written_of.Reads as written_of_lem
 use Rattle.told.proofs.answers.answer_of.Kinds as answer-of-kinds
 use Rattle.told.proofs.answers.answer_of.Reads as answer-of
+
+pub unsigned-of-decides : Decides unsigned-of-kinds.ps unsigned-of-kinds.r unsigned-of.Post
+unsigned-of-decides κs a x y s t p q = p ∙ sym q
 
 pub narrow-of-decides : Decides narrow-of-kinds.ps narrow-of-kinds.r narrow-of.Post
 narrow-of-decides κs a x y s t p q = p ∙ sym q

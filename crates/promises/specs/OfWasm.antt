@@ -1,28 +1,20 @@
 -- No two answers, and no two final contents of the four tables, satisfy the promise of `read_module`. Assumes nothing.
-use Rattle.std.specs.Prelude.{◌≡◌, refl}
-use Rattle.std.proofs.Common.{sym, ◌∙◌, ap}
+use Rattle.std.specs.Prelude.{◌≡◌, Result}
+use Rattle.std.proofs.Common.{sym, ◌∙◌}
 use contract.Lifetimes.{Lfts}
 use borrow.Fn.Kinds.{Dens, res_t, ended_of}
 use denote.Triple.Clauses.{AtExit}
-use Rattle.refusal.specs.Said.{Said, accepted, refused}
-use Rattle.refusal.proofs.Known.{refusal_of, known, taken_back}
+use Rattle.refusal.specs.declared.Refusal.{Refusal}
+use Rattle.refusal.proofs.Known.{result-known}
 use Rattle.wasm.specs.Module.{said_module}
 use Rattle.wasm.specs.declared.Module.{Module}
-use Rattle.wasm.specs.declared.ModuleRead.{ModuleRead}
 use Rattle.wasm.proofs.read_module.Kinds as read-module-kinds
 use Rattle.wasm.proofs.read_module.Reads as read_module
 use Rattle.promises.specs.Decides.{Decides}
 
 -- an answer is known by its number, place and values
-pub module-known : (a b : ModuleRead) → said_module a ≡ said_module b → a ≡ b
-module-known = taken_back back is where
-  back : Said Module → ModuleRead
-  back (accepted m) = ModuleRead.Module m
-  back (refused n p) = ModuleRead.Refused (refusal_of n p)
-
-  is : (a : ModuleRead) → back (said_module a) ≡ a
-  is (ModuleRead.Module m) = refl
-  is (ModuleRead.Refused w) = ap ModuleRead.Refused (known w)
+pub module-known : (a b : Result Module Refusal) → said_module a ≡ said_module b → a ≡ b
+module-known = result-known
 
 pub read-module-decides : Decides read-module-kinds.ps read-module-kinds.r read_module.Post
 read-module-decides κs a x y s t p q = module-known x y (p.answer-is ∙ sym q.answer-is)

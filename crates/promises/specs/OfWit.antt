@@ -1,28 +1,20 @@
 -- No two answers, and no two final contents of the two tables, satisfy the promise of `read_manifest`. Assumes nothing.
-use Rattle.std.specs.Prelude.{◌≡◌, refl}
-use Rattle.std.proofs.Common.{sym, ◌∙◌, ap}
+use Rattle.std.specs.Prelude.{◌≡◌, Result}
+use Rattle.std.proofs.Common.{sym, ◌∙◌}
 use contract.Lifetimes.{Lfts}
 use borrow.Fn.Kinds.{Dens, res_t, ended_of}
 use denote.Triple.Clauses.{AtExit}
-use Rattle.refusal.specs.Said.{Said, accepted, refused}
-use Rattle.refusal.proofs.Known.{refusal_of, known, taken_back}
+use Rattle.refusal.specs.declared.Refusal.{Refusal}
+use Rattle.refusal.proofs.Known.{result-known}
 use Rattle.wit.specs.Manifest.{said_manifest}
 use Rattle.wit.specs.declared.Manifest.{Manifest}
-use Rattle.wit.specs.declared.ManifestRead.{ManifestRead}
 use Rattle.wit.proofs.read_manifest.Kinds as read-manifest-kinds
 use Rattle.wit.proofs.read_manifest.Reads as read-manifest
 use Rattle.promises.specs.Decides.{Decides}
 
 -- an answer is known by its number, place and values
-pub manifest-known : (a b : ManifestRead) → said_manifest a ≡ said_manifest b → a ≡ b
-manifest-known = taken_back back is where
-  back : Said Manifest → ManifestRead
-  back (accepted m) = ManifestRead.Manifest m
-  back (refused n p) = ManifestRead.Refused (refusal_of n p)
-
-  is : (a : ManifestRead) → back (said_manifest a) ≡ a
-  is (ManifestRead.Manifest m) = refl
-  is (ManifestRead.Refused w) = ap ManifestRead.Refused (known w)
+pub manifest-known : (a b : Result Manifest Refusal) → said_manifest a ≡ said_manifest b → a ≡ b
+manifest-known = result-known
 
 pub read-manifest-decides : Decides read-manifest-kinds.ps read-manifest-kinds.r read-manifest.Post
 read-manifest-decides κs a x y s t p q = manifest-known x y (p.answer-is ∙ sym q.answer-is)

@@ -1,5 +1,5 @@
 -- Answers that a promise rules out. Assumes nothing.
-use Rattle.std.specs.Prelude.{ℕ, ◌<◌, ◌≡◌, refl, Bool, true, false, List, [], ◌∷◌, ◌++◌, map, ltb, length, take, drop}
+use Rattle.std.specs.Prelude.{Result, Ok, Err, ℕ, ◌<◌, ◌≡◌, refl, Bool, true, false, List, [], ◌∷◌, ◌++◌, map, ltb, length, take, drop}
 use Rattle.std.proofs.Common.{arith, sym, ◌∙◌, take_at}
 use Rattle.std.proofs.Math.Path.{ap}
 use contract.Lifetimes.{Lfts}
@@ -7,9 +7,8 @@ use borrow.Fn.Kinds.{Dens, res_t, ended_of}
 use denote.Triple.Clauses.{AtExit}
 use Rattle.std.specs.Int.Count.{ones}
 use Rattle.refusal.specs.Pick.{pick}
-use Rattle.refusal.specs.Said.{Said, accepted, refused, follow, spot}
+use Rattle.refusal.specs.Said.{Said, accepted, refused, follow, said_by, spot}
 use Rattle.refusal.specs.declared.Refusal.{Refusal}
-use Rattle.refusal.specs.declared.Written.{Written}
 use Rattle.refusal.proofs.Following.{never, followed}
 use Rattle.text.specs.Ranges.{in_some}
 use Rattle.text.specs.White.{whites, is_white}
@@ -29,10 +28,8 @@ use Rattle.policy.specs.Reader.{run, read_with, zero_policy, stance_of, obey, re
 use Rattle.policy.specs.Eight.{slot_of, policy_test}
 use Rattle.policy.specs.View.{says}
 use Rattle.verdicts.specs.Evaluate.{effective_of, violates, bits, members, outcome, outcome_of, no_outcome, domains_test, evaluated}
-use Rattle.verdicts.specs.Evaluate.{EvaluatedAs}
+use Rattle.verdicts.specs.Evaluate.{Outcome, said_evaluation}
 use Rattle.policy.specs.declared.Policy.{Policy}
-use Rattle.policy.specs.declared.PolicyRead.{PolicyRead}
-use Rattle.verdicts.specs.declared.Evaluation.{Evaluation}
 use Rattle.verdicts.proofs.MemberLaws.{ones-bits}
 use Rattle.policy.proofs.read_policy.Kinds as read-policy-kinds
 use Rattle.policy.proofs.read_policy.Reads as read-policy
@@ -43,19 +40,16 @@ use Rattle.policy_text.specs.Writer.{name_line, form_lines, unlines, form, writt
 use Rattle.policy_text.proofs.write_policy.Kinds as write-policy-kinds
 use Rattle.policy_text.proofs.write_policy.Reads as write-policy
 use Rattle.leb.specs.Grammar.{U}
-use Rattle.leb.specs.Answers.{answer_from}
+use Rattle.leb.specs.Answers.{answer_from, unread_at}
 use Rattle.leb.specs.declared.Cursor.{Cursor}
-use Rattle.leb.specs.declared.U64Read.{U64Read}
 use Rattle.leb.proofs.Conform.{u64-read}
 use Rattle.wasm.specs.Module.{Sizes, sizes, Parsed, module_at, module_of}
 use Rattle.wasm.specs.declared.Module.{Module}
-use Rattle.wasm.specs.declared.ModuleRead.{ModuleRead}
 use Rattle.wasm.proofs.read_module.Kinds as read-module-kinds
 use Rattle.wasm.proofs.read_module.Reads as read_module
 use Rattle.wit.specs.Manifest.{State, manifest_at, manifest_of}
 use Rattle.wit.specs.Manifest.{manifest_sizes}
 use Rattle.wit.specs.declared.Manifest.{Manifest}
-use Rattle.wit.specs.declared.ManifestRead.{ManifestRead}
 use Rattle.wit.proofs.read_manifest.Kinds as read-manifest-kinds
 use Rattle.wit.proofs.read_manifest.Reads as read-manifest
 use Rattle.leb.proofs.Cursor.uleb128.Kinds as uleb128-kinds
@@ -64,7 +58,7 @@ use Rattle.leb.proofs.Cursor.uleb128.Reads as uleb128
 -- a reader that refuses a number of the specification, and so one that refuses everything
 pub refuses-number : (κs : Lfts 1) (a : Dens κs uleb128-kinds.ps) (s : AtExit (ended_of 1 uleb128-kinds.ps uleb128-kinds.r) κs)
     (why : Refusal) (back : Cursor) (v k : ℕ)
-    → U 64 (drop a.0.at a.1.0.now) v k → uleb128.Post κs a (U64Read.Refused why back) s → ⊥
+    → U 64 (drop a.0.at a.1.0.now) v k → uleb128.Post κs a (Err (unread_at why back)) s → ⊥
 unfolding answer_from
 refuses-number κs a s why back v k u p =
     let e = p ∙ ap (answer_from a.0.at) (u64-read a.1.0.now a.0.at v k u) in
@@ -77,13 +71,13 @@ module _ (κs : Lfts 5) (a : Dens κs read-module-kinds.ps) (s : AtExit (ended_o
   lent = sizes a.1.0.now a.1.1.0.now a.1.1.1.0.now a.1.1.1.1.0.now
 
   pub refuses-module : (m : Parsed) (why : Refusal) → module_at a.0.now lent ≡ accepted m
-      → read_module.Post κs a (ModuleRead.Refused why) s → ⊥
+      → read_module.Post κs a (Err why) s → ⊥
   unfolding follow
   refuses-module m why e p = never (p.answer-is ∙ ap (λ (x : Said Parsed). follow x (λ n. accepted (module_of (length a.0.now) n))) e)
 
   -- the answer to a file that is read is that file's, so no answer serves two files that are read differently: one module for all files
   pub own-module : (m : Parsed) (r : Module) → module_at a.0.now lent ≡ accepted m
-      → read_module.Post κs a (ModuleRead.Module r) s → r ≡ module_of (length a.0.now) m
+      → read_module.Post κs a (Ok r) s → r ≡ module_of (length a.0.now) m
   unfolding follow
   own-module m r e p =
       let q = p.answer-is ∙ ap (λ (x : Said Parsed). follow x (λ n. accepted (module_of (length a.0.now) n))) e in
@@ -97,26 +91,33 @@ abbrev both_lines : List ℕ
 both_lines = first_line ++ (100 ∷ 101 ∷ 110 ∷ 121 ∷ 32 ∷ 102 ∷ 115 ∷ 10 ∷ [])
 
 first-allows : (effective_of (policy_of (read_policy first_line)) 0).allow ≡ true
-unfolding read_policy read_with whole_text run zero_policy obey stance_of lines_of lines_from line_len line_step cr_before policy_directive
-    policy_core policy_spoken policy_worded rule_directive plain_by fault domain_of words word_in trim trim_start trim_end start_len end_len chars
+unfolding read_policy read_with whole_text run zero_policy obey stance_of lines_of lines_from line_len line_step cr_before
+    policy_directive
+    policy_core policy_spoken policy_worded rule_directive plain_by fault domain_of words word_in trim trim_start trim_end start_len
+    end_len chars
     chars_from
-    more more_by code_of code_by is_white whites in_some up_to scan seq_len after followers follow_in covers utf8_table same seek begins index_of
+    more more_by code_of code_by is_white whites in_some up_to scan seq_len after followers follow_in covers utf8_table same seek
+    begins index_of
     follow effective_of
 first-allows = refl
 
 later-denies : (effective_of (policy_of (read_policy both_lines)) 0).allow ≡ false
-unfolding read_policy read_with whole_text run zero_policy obey stance_of lines_of lines_from line_len line_step cr_before policy_directive
-    policy_core policy_spoken policy_worded rule_directive plain_by fault domain_of words word_in trim trim_start trim_end start_len end_len chars
+unfolding read_policy read_with whole_text run zero_policy obey stance_of lines_of lines_from line_len line_step cr_before
+    policy_directive
+    policy_core policy_spoken policy_worded rule_directive plain_by fault domain_of words word_in trim trim_start trim_end start_len
+    end_len chars
     chars_from
-    more more_by code_of code_by is_white whites in_some up_to scan seq_len after followers follow_in covers utf8_table same seek begins index_of
+    more more_by code_of code_by is_white whites in_some up_to scan seq_len after followers follow_in covers utf8_table same seek
+    begins index_of
     follow effective_of
 later-denies = refl
 
 pub first-line-only : (κs : Lfts 1) (a : Dens κs read-policy-kinds.ps) (s : AtExit (ended_of 1 read-policy-kinds.ps read-policy-kinds.r) κs)
-    (r : PolicyRead) → a.0.now ≡ both_lines → r.policy ≡ policy_of (read_policy first_line) → read-policy.Post κs a r s → ⊥
+    (r : Result Policy Refusal) → a.0.now ≡ both_lines → policy_of (said_by r) ≡ policy_of (read_policy first_line)
+    → read-policy.Post κs a r s → ⊥
 first-line-only κs a s r e f p =
     let q : policy_of (read_policy first_line) ≡ policy_of (read_policy both_lines) =
-    sym f ∙ p.policy ∙ ap (λ (t : List ℕ). policy_of (read_policy t)) e in
+    sym f ∙ ap policy_of p ∙ ap (λ (t : List ℕ). policy_of (read_policy t)) e in
     let k : true ≡ false = sym first-allows ∙ ap (λ (v : Policy). (effective_of v 0).allow) q ∙ later-denies in
     let z : ◌≡◌ {A = ℕ} 0 1 = cc in
     omega arith
@@ -127,33 +128,39 @@ list_then_none =
     97 ∷ 108 ∷ 108 ∷ 111 ∷ 119 ∷ 32 ∷ 102 ∷ 115 ∷ 58 ∷ 32 ∷ 97 ∷ 10 ∷ (100 ∷ 101 ∷ 110 ∷ 121 ∷ 32 ∷ 102 ∷ 115 ∷ 10 ∷ [])
 
 no-tokens : (slot_of (policy_of (read_policy list_then_none)) 0).len ≡ 0
-unfolding read_policy read_with whole_text run zero_policy obey stance_of lines_of lines_from line_len line_step cr_before policy_directive
-    policy_core policy_spoken policy_worded rule_directive plain_by listed_by fault domain_of words word_in trim trim_start trim_end start_len
+unfolding read_policy read_with whole_text run zero_policy obey stance_of lines_of lines_from line_len line_step cr_before
+    policy_directive
+    policy_core policy_spoken policy_worded rule_directive plain_by listed_by fault domain_of words word_in trim trim_start trim_end
+    start_len
     end_len chars chars_from
-    more more_by code_of code_by is_white whites in_some up_to scan seq_len after followers follow_in covers utf8_table same seek begins index_of
+    more more_by code_of code_by is_white whites in_some up_to scan seq_len after followers follow_in covers utf8_table same seek
+    begins index_of
     follow
 no-tokens = refl
 
 pub tokens-kept : (κs : Lfts 1) (a : Dens κs read-policy-kinds.ps) (s : AtExit (ended_of 1 read-policy-kinds.ps read-policy-kinds.r) κs)
-    (r : PolicyRead) → a.0.now ≡ list_then_none → 0 < (slot_of r.policy 0).len → read-policy.Post κs a r s → ⊥
+    (r : Result Policy Refusal) → a.0.now ≡ list_then_none → 0 < (slot_of (policy_of (said_by r)) 0).len
+    → read-policy.Post κs a r s → ⊥
 tokens-kept κs a s r e f p =
-    let q : r.policy ≡ policy_of (read_policy list_then_none) = p.policy ∙ ap (λ (t : List ℕ). policy_of (read_policy t)) e in
-    let k : (slot_of r.policy 0).len ≡ 0 = ap (λ (v : Policy). (slot_of v 0).len) q ∙ no-tokens in
+    let q : policy_of (said_by r) ≡ policy_of (read_policy list_then_none) =
+    ap policy_of p ∙ ap (λ (t : List ℕ). policy_of (read_policy t)) e in
+    let k : (slot_of (policy_of (said_by r)) 0).len ≡ 0 = ap (λ (v : Policy). (slot_of v 0).len) q ∙ no-tokens in
     omega (arith, k)
 
 -- a violation number unlike the set
-counted-set : (ns : List ℕ) (n : ℕ) (p : Policy) (r : Evaluation) → EvaluatedAs (evaluated ns n p) r → r.count ≡ ones r.set
+counted-set : (ns : List ℕ) (n : ℕ) (p : Policy) (o : Said Outcome) → o ≡ evaluated ns n p → (outcome_of o).count ≡ ones (outcome_of o).set
 unfolding evaluated follow outcome no_outcome bits members
-counted-set ns n p r e = by (domains_test ns n) e.set e.count where
-  by : (t : Said (Unit {0})) → r.set ≡ (outcome_of (follow t (λ ok. accepted (outcome p (take n ns))))).set
-      → r.count ≡ (outcome_of (follow t (λ ok. accepted (outcome p (take n ns))))).count → r.count ≡ ones r.set
-  by (accepted u) b c = c ∙ sym (ap ones b ∙ ones-bits (map violates (outcome p (take n ns)).verdicts))
-  by (refused m k) b c = c ∙ sym (ap ones b ∙ ones-bits [])
+counted-set ns n p o e = by (domains_test ns n) (ap outcome_of e) where
+  by : (t : Said (Unit {0})) → outcome_of o ≡ outcome_of (follow t (λ ok. accepted (outcome p (take n ns))))
+      → (outcome_of o).count ≡ ones (outcome_of o).set
+  by (accepted u) q = rw q (sym (ones-bits (map violates (outcome p (take n ns)).verdicts)))
+  by (refused m k) q = rw q (sym (ones-bits []))
 
+-- of the verdicts that are answered, and of the zeros that are told on a refusal
 pub unlike-set : (κs : Lfts 1) (a : Dens κs evaluate-domains-kinds.ps) (r : (res_t evaluate-domains-kinds.r κs).Denot)
-    (s : AtExit (ended_of 1 evaluate-domains-kinds.ps evaluate-domains-kinds.r) κs) → (r.count ≡ ones r.set → ⊥)
-    → evaluate-domains.Post κs a r s → ⊥
-unlike-set κs a r s h p = h (counted-set a.0.now a.1.0 a.1.1.0 r p)
+    (s : AtExit (ended_of 1 evaluate-domains-kinds.ps evaluate-domains-kinds.r) κs)
+    → ((outcome_of (said_evaluation r)).count ≡ ones (outcome_of (said_evaluation r)).set → ⊥) → evaluate-domains.Post κs a r s → ⊥
+unlike-set κs a r s h p = h (counted-set a.0.now a.1.0 a.1.1.0 (said_evaluation r) p)
 
 -- a writer that writes nothing: the bytes it says it wrote are the policy's text, which is never empty
 wrote : (w : List ℕ) (room : ℕ) {v : List ℕ} → room_for w room ≡ accepted v → v ≡ w
@@ -163,7 +170,7 @@ wrote w room {v} e = by (ltb room (length w)) e where
   by true e = absurd (never e)
   by false e = cc
 
-told_text : (t : List ℕ) (p : Policy) (d x : List ℕ) (n : ℕ) → WriterTells (written t p (length d)) d (Written.Bytes n) x
+told_text : (t : List ℕ) (p : Policy) (d x : List ℕ) (n : ℕ) → WriterTells (written t p (length d)) d (Ok n) x
     → (take n x ≡ form (says t p)) × (n ≡ length (form (says t p)))
 unfolding written
 told_text t p d x n h = by (written t p (length d)) refl h.answer h.output where
@@ -177,11 +184,11 @@ told_text t p d x n h = by (written t p (length d)) refl h.answer h.output where
   by (refused m i) e q f = absurd (never (sym q))
 
 module _ (κs : Lfts 2) (a : Dens κs write-policy-kinds.ps) (s : AtExit (ended_of 2 write-policy-kinds.ps write-policy-kinds.r) κs) where
-  pub writes-its-text : (n : ℕ) → write-policy.Post κs a (Written.Bytes n) s
+  pub writes-its-text : (n : ℕ) → write-policy.Post κs a (Ok n) s
       → take n s.1.1.0.now ≡ form (says a.0.now a.1.0)
   writes-its-text n p = (told_text a.0.now a.1.0 a.1.1.0.now s.1.1.0.now n p).0
 
-  pub writes_nothing : write-policy.Post κs a (Written.Bytes 0) s → ⊥
+  pub writes_nothing : write-policy.Post κs a (Ok 0) s → ⊥
   unfolding form form_lines unlines name_line
   writes_nothing p = let e = (told_text a.0.now a.1.0 a.1.1.0.now s.1.1.0.now 0 p).1 in omega (arith, e)
 
@@ -189,12 +196,12 @@ module _ (κs : Lfts 2) (a : Dens κs write-policy-kinds.ps) (s : AtExit (ended_
 module _ (κs : Lfts 3) (a : Dens κs read-manifest-kinds.ps) (s : AtExit (ended_of 3 read-manifest-kinds.ps read-manifest-kinds.r) κs) where
   pub refuses-manifest : (t : State) (why : Refusal)
       → manifest_at a.0.now (manifest_sizes a.1.0.now a.1.1.0.now) ≡ accepted t
-      → read-manifest.Post κs a (ManifestRead.Refused why) s → ⊥
+      → read-manifest.Post κs a (Err why) s → ⊥
   unfolding follow
   refuses-manifest t why e p = never (p.answer-is ∙ ap (λ (x : Said State). follow x (λ n. accepted (manifest_of n))) e)
 
   pub own-manifest : (t : State) (r : Manifest)
       → manifest_at a.0.now (manifest_sizes a.1.0.now a.1.1.0.now) ≡ accepted t
-      → read-manifest.Post κs a (ManifestRead.Manifest r) s → r ≡ manifest_of t
+      → read-manifest.Post κs a (Ok r) s → r ≡ manifest_of t
   unfolding follow
   own-manifest t r e p = let q = p.answer-is ∙ ap (λ (x : Said State). follow x (λ n. accepted (manifest_of n))) e in cc

@@ -1,5 +1,5 @@
 -- Answers that the promises of the comparison and of the reasons rule out. Assumes nothing.
-use Rattle.std.specs.Prelude.{ℕ, zero, suc, ◌+◌, ◌≤◌, ◌<◌, refl, List, ◌++◌, ltb, length, take, drop}
+use Rattle.std.specs.Prelude.{Ok, ℕ, zero, suc, ◌+◌, ◌≤◌, ◌<◌, refl, List, ◌++◌, ltb, length, take, drop}
 use native.Mathlib.Omega.{arith}
 use Rattle.std.proofs.Math.Path.{◌≡◌, ap}
 use Rattle.std.proofs.Common.{sym, ◌∙◌, ltb-true, ltb-false, eq-eqb, length-append, take_at}
@@ -9,16 +9,16 @@ use borrow.Fn.Kinds.{Dens, ended_of}
 use denote.Triple.Clauses.{AtExit}
 use Rattle.refusal.specs.Pick.{pick}
 use Rattle.refusal.specs.Said.{Said, accepted, refused, follow, spot}
-use Rattle.refusal.specs.declared.Written.{Written}
 use Rattle.refusal.proofs.Following.{never, followed}
 use Rattle.table.specs.Shape.{capacity_in, cell_in}
 use Rattle.differences.specs.View.{export_key_at}
 use Rattle.differences.specs.Compared.{Given, given, Lists, compared, Verdict, verdict_on}
-use Rattle.compat.specs.declared.Compared.{Compared}
+use Rattle.compat.specs.declared.Lists.{Lists as Answered}
 use Rattle.compat.proofs.compare_modules.Kinds as compare-modules-kinds
 use Rattle.compat.proofs.compare_modules.Reads as compare-modules
 use Rattle.output.specs.Bytes.{room_for, written_count, left}
-use Rattle.reasons.specs.Reasons.{Diffs, diffs, reason_lines, export_reason, export_row, export_reasons, need_reasons, reasons_of, reasons_tested}
+use Rattle.reasons.specs.Reasons.{Diffs, diffs, reason_lines, export_reason, export_row, export_reasons, need_reasons}
+use Rattle.reasons.specs.Reasons.{reasons_of, reasons_tested}
 use Rattle.reasons.specs.Reasons.{reasoned, Reasons}
 use Rattle.reasons.proofs.breaking_reasons.Kinds as breaking-reasons-kinds
 use Rattle.reasons.proofs.breaking_reasons.Reads as breaking-reasons
@@ -34,8 +34,11 @@ module _ (κs : Lfts 7) (a : Dens κs compare-modules-kinds.ps)
       (capacity_in 8 (length a.1.1.1.1.1.1.1.1.1.1.0.now))
       (capacity_in 9 (length a.1.1.1.1.1.1.1.1.1.1.1.0.now))
 
+  abbrev answered : ℕ → ℕ → Bool → Answered
+  answered m n fine = record { exports = m; capabilities = n; compatible = fine }
+
   pub always-compatible : (l : Lists) (m n : ℕ) → compared_here ≡ accepted l → (verdict_on l).compatible ≡ false
-      → compare-modules.Post κs a (Compared.Lists m n true) s → ⊥
+      → compare-modules.Post κs a (Ok (answered m n true)) s → ⊥
   unfolding follow
   always-compatible l m n e b p =
       let q : accepted (record { exports = m; capabilities = n; compatible = true }) ≡ accepted (verdict_on l) =
@@ -56,7 +59,7 @@ wrote w room {v} e = by (ltb room (length w)) e where
   by false e = cc
 
 -- a writer of reasons that writes nothing: the bytes it says it wrote are the lines of the tables, one for each removed export
-told-reasons : (b c : Given) (d : Diffs) (before x : List ℕ) (n : ℕ) → Reasons b c d before (Written.Bytes n) x
+told-reasons : (b c : Given) (d : Diffs) (before x : List ℕ) (n : ℕ) → Reasons b c d before (Ok n) x
     → (take n x ≡ reasons_of b c d) × (n ≡ length (reasons_of b c d))
 unfolding reasoned
 told-reasons b c d before x n h = by (reasoned b c d (length before)) refl h.answer h.output where
@@ -111,14 +114,14 @@ module _ (κs : Lfts 9) (a : Dens κs breaking-reasons-kinds.ps)
       diffs a.1.1.1.1.1.1.1.1.1.1.0.now a.1.1.1.1.1.1.1.1.1.1.1.0
       a.1.1.1.1.1.1.1.1.1.1.1.1.0.now a.1.1.1.1.1.1.1.1.1.1.1.1.1.0
 
-  pub writes-its-reasons : (n : ℕ) → breaking-reasons.Post κs a (Written.Bytes n) s
+  pub writes-its-reasons : (n : ℕ) → breaking-reasons.Post κs a (Ok n) s
       → take n s.1.1.1.1.1.1.1.1.1.1.1.1.1.1.0.now ≡ reasons_of old_module new_module lent_diffs
   writes-its-reasons n p =
       (told-reasons old_module new_module lent_diffs a.1.1.1.1.1.1.1.1.1.1.1.1.1.1.0.now
       s.1.1.1.1.1.1.1.1.1.1.1.1.1.1.0.now n p).0
 
   pub writes-no-reason : (i : ℕ) → i < lent_diffs.export_count → cell_in 8 lent_diffs.exports i 0 ≡ 0
-      → breaking-reasons.Post κs a (Written.Bytes 0) s → ⊥
+      → breaking-reasons.Post κs a (Ok 0) s → ⊥
   writes-no-reason i h z p =
       let e = (told-reasons old_module new_module lent_diffs a.1.1.1.1.1.1.1.1.1.1.1.1.1.1.0.now
       s.1.1.1.1.1.1.1.1.1.1.1.1.1.1.0.now 0 p).1 in

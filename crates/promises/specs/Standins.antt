@@ -1,6 +1,6 @@
 -- The registry's first question, of whatever satisfies the promises of the calls: what `compatible` and `compliant` in an answer say of the
 -- files, and that both are false after a refusal. A comparison that is always compatible is ruled out. Assumes nothing.
-use Rattle.std.specs.Prelude.{ℕ, ◌≡◌, refl, ◌↔◌, Bool, true, false, List, ltb, length}
+use Rattle.std.specs.Prelude.{Ok, ℕ, ◌≡◌, refl, ◌↔◌, Bool, true, false, List, ltb, length}
 use Rattle.std.proofs.Common.{arith, sym, ◌∙◌, ap, ap₂, subst, true≢false, eqb-true, eq-eqb}
 use contract.Lifetimes.{Lfts}
 use borrow.Fn.Kinds.{Dens, res_t, ended_of}
@@ -12,7 +12,7 @@ use Rattle.table.specs.Shape.{capacity_in}
 use Rattle.verdicts.specs.Evaluate.{Outcome}
 use Rattle.output.specs.Bytes.{room_for}
 use Rattle.differences.specs.Compared.{Given, given, compared, verdict_on}
-use Rattle.compat.specs.declared.Compared.{Compared}
+use Rattle.compat.specs.declared.Lists.{Lists}
 use Rattle.compat.proofs.compare_modules.Kinds as compare-modules-kinds
 use Rattle.compat.proofs.compare_modules.Reads as compare-modules
 use Rattle.conform.specs.Claims.{Bytes}
@@ -48,17 +48,20 @@ module _ (κs : Lfts 7) (a : Dens κs compare-modules-kinds.ps)
   abbrev room9 : ℕ
   room9 = capacity_in 9 (length a.1.1.1.1.1.1.1.1.1.1.1.0.now)
 
+  abbrev answered : ℕ → ℕ → Bool → Lists
+  answered m n fine = record { exports = m; capabilities = n; compatible = fine }
+
   -- of two builds, whatever room is lent: an answer says compatible only where the candidate has every export of the baseline and needs no
   -- pair that it does not
   pub compatible-covers : (b c : Build) (m n : ℕ) → baseline ≡ handed b → candidate ≡ handed c
-      → compare-modules.Post κs a (Compared.Lists m n true) s → Covers b c
+      → compare-modules.Post κs a (Ok (answered m n true)) s → Covers b c
   compatible-covers b c m n e f p =
       (replacement.means b c room8 room9 (record { exports = m; capabilities = n; compatible = true })
       (sym (p.answer-is ∙ ap₂ (λ (x y : Given). follow (compared x y room8 room9) (λ l. accepted (verdict_on l))) e f))).0 refl
 
   -- and one that says that it is not, only where this fails
   pub incompatible-not : (b c : Build) (m n : ℕ) → baseline ≡ handed b → candidate ≡ handed c
-      → compare-modules.Post κs a (Compared.Lists m n false) s → Covers b c → ⊥
+      → compare-modules.Post κs a (Ok (answered m n false)) s → Covers b c → ⊥
   incompatible-not b c m n e f p k =
       true≢false (sym ((replacement.means b c room8 room9 (record { exports = m; capabilities = n; compatible = false })
       (sym (p.answer-is ∙ ap₂ (λ (x y : Given). follow (compared x y room8 room9) (λ l. accepted (verdict_on l))) e f))).1 k))

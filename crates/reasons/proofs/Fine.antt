@@ -1,4 +1,5 @@
 -- What tables that passed say, and the answer of the whole. Assumes nothing.
+use Rattle.std.specs.Prelude.{Result, Ok, Err}
 use mathlib.Core.Path.{◌≡◌, refl, sym, ◌∙◌, ap}
 use mathlib.Core.Bool.{Bool, true, false}
 use mathlib.Core.List.{List}
@@ -9,11 +10,8 @@ use lib.Dec.{ltb}
 use lib.ListN.{length}
 use Rattle.refusal.specs.Pick.{pick}
 use Rattle.refusal.specs.Sizes.{file_limit}
-use Rattle.refusal.specs.Said.{Said, accepted, refused, refused_by, said_answer, follow}
-use Rattle.refusal.specs.declared.Answer.{Answer}
+use Rattle.refusal.specs.Said.{Said, accepted, refused, refused_by, said_by, follow}
 use Rattle.refusal.specs.declared.Refusal.{Refusal}
-use Rattle.refusal.specs.declared.Written.{Written}
-use Rattle.refusal.specs.declared.Written.TheVariants.{Refused}
 use Rattle.refusal.proofs.Following.{followed}
 use Rattle.table.specs.Shape.{width, limit, capacity_in, cell_in}
 use Rattle.table.proofs.Cells.{capacity-limit}
@@ -64,25 +62,26 @@ module _ (b c : Given) (d : Diffs) where
       }
 
   -- by what the test said
-  module _ {a : Answer} (tested : said_answer a ≡ reasons_tested b c d) where
-    pub fine : a ≡ Answer.Accepted → Fine b c d
-    fine e = fine_of (sym tested ∙ ap said_answer e)
+  module _ {a : Result (Unit {0}) Refusal} (tested : said_by a ≡ reasons_tested b c d) where
+    pub fine : a ≡ (Ok tt) → Fine b c d
+    fine e = fine_of (sym tested ∙ ap said_by e)
 
-    pub reasons-refused : (at : ℕ) (before : List ℕ) {w : Refusal} → a ≡ Answer.Refused w → ReasonsFrom at b c d before (Refused w) before
+    pub reasons-refused : (at : ℕ) (before : List ℕ) {w : Refusal} → a ≡ Err w → ReasonsFrom at b c d before (Err w) before
     unfolding reasoned_from follow
     reasons-refused at before {w} e =
-        let z : reasons_tested b c d ≡ refused_by w = sym tested ∙ ap said_answer e in
+        let z : reasons_tested b c d ≡ refused_by w = sym tested ∙ ap said_by e in
         record { answer = rw z; output = rw z }
 
-    pub reasons-formed : (at : ℕ) (before : List ℕ) → a ≡ Answer.Accepted → {r : Written} {after : List ℕ}
+    pub reasons-formed : (at : ℕ) (before : List ℕ) → a ≡ (Ok tt) → {r : Result ℕ Refusal} {after : List ℕ}
         → FormedFrom at (reasons_of b c d) before r after → ReasonsFrom at b c d before r after
     unfolding reasoned_from follow
     reasons-formed at before e f =
-        let z : reasons_tested b c d ≡ accepted tt = sym tested ∙ ap said_answer e in
+        let z : reasons_tested b c d ≡ accepted tt = sym tested ∙ ap said_by e in
         rw z f
 
   -- from the start of the buffer on
-  pub reasons-first : (before : List ℕ) {r : Written} {after : List ℕ} → ReasonsFrom 0 b c d before r after → Reasons b c d before r after
+  pub reasons-first : (before : List ℕ) {r : Result ℕ Refusal} {after : List ℕ} → ReasonsFrom 0 b c d before r after
+      → Reasons b c d before r after
   unfolding reasoned reasoned_from follow
   reasons-first before {r} {after} f = by (reasons_tested b c d) f
     where
@@ -92,7 +91,7 @@ module _ (b c : Given) (d : Diffs) where
       by (refused n p) g = record { answer = g.answer; output = g.output }
 
   -- the buffer keeps its length
-  pub reasons-long : (at : ℕ) (before : List ℕ) {r : Written} {after : List ℕ} → ReasonsFrom at b c d before r after
+  pub reasons-long : (at : ℕ) (before : List ℕ) {r : Result ℕ Refusal} {after : List ℕ} → ReasonsFrom at b c d before r after
       → length after ≡ length before
   unfolding reasoned_from follow
   reasons-long at before {r} {after} f = by (reasons_tested b c d) f

@@ -1,9 +1,9 @@
 -- docs/RULES.md, "Differences": the reasons, a line for each removed row of table 8, then one for each added row of table 9.
 -- Assumes nothing.
-use Rattle.std.specs.Prelude.{◌≡◌, Bool, List, [], ◌∷◌, ◌++◌, ℕ, zero, suc, ◌≤◌, ◌<◌, eqb, leb, ltb, length}
+use Rattle.std.specs.Prelude.{◌≡◌, Bool, List, [], ◌∷◌, ◌++◌, ℕ, zero, suc, ◌≤◌, ◌<◌, eqb, leb, ltb, length, Result}
 use Rattle.refusal.specs.Pick.{pick, both}
+use Rattle.refusal.specs.declared.Refusal.{Refusal}
 use Rattle.refusal.specs.Said.{Said, follow}
-use Rattle.refusal.specs.declared.Written.{Written}
 use Rattle.table.specs.Shape.{width, capacity_in, cell_in}
 use Rattle.table.specs.Testing.{bad, tested}
 use Rattle.sorting.specs.Keys.{row_name}
@@ -107,14 +107,14 @@ unfoldable pub reasoned : Given → Given → Diffs → ℕ → Said (List ℕ)
 reasoned b c d room = follow (reasons_tested b c d) (λ u. room_for (reasons_of b c d) room)
 
 -- the promise: the answer, and the buffer, which was before and is after
-abbrev pub Reasons : Given → Given → Diffs → List ℕ → Written → List ℕ → Type 0
+abbrev pub Reasons : Given → Given → Diffs → List ℕ → Result ℕ Refusal → List ℕ → Type 0
 Reasons b c d before r after = WriterTells (reasoned b c d (length before)) before r after
 
 -- the same after the first `at` bytes of the buffer
 unfoldable pub reasoned_from : ℕ → Given → Given → Diffs → ℕ → Said (List ℕ)
 reasoned_from at b c d room = follow (reasons_tested b c d) (λ u. room_from at (reasons_of b c d) room)
 
-abbrev pub ReasonsFrom : ℕ → Given → Given → Diffs → List ℕ → Written → List ℕ → Type 0
+abbrev pub ReasonsFrom : ℕ → Given → Given → Diffs → List ℕ → Result ℕ Refusal → List ℕ → Type 0
 ReasonsFrom at b c d before r after = WriterTellsFrom at (reasoned_from at b c d (length before)) before r after
 
 -- ---- for the code: the kind of a removed export is a byte

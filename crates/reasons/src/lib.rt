@@ -1,10 +1,11 @@
 // compat.rs: why a candidate cannot stand in for a baseline, in words.
 #![tactic(auto)]
 
-ghost use Rattle.std.specs.Prelude.{◌≡◌, ◌++◌, ◌≤◌, eqb, length};
+ghost use Rattle.std.specs.Prelude.{◌≡◌, Bool, ℕ, ◌++◌, ◌≤◌, ◌<◌, eqb, length};
 ghost use Rattle.refusal.specs.Pick.{pick};
 ghost use Rattle.refusal.specs.Sizes.{file_limit};
-ghost use Rattle.refusal.specs.Said.{said_answer};
+ghost use Rattle.refusal.specs.Said.{said_by};
+ghost use Rattle.table.specs.Testing.{bad, tested};
 ghost use Rattle.table.specs.Shape.{width, limit, cell_in};
 ghost use Rattle.sorting.specs.Keys.{row_name};
 ghost use Rattle.differences.specs.View.{export_key_at};
@@ -18,11 +19,14 @@ ghost use Rattle.reasons.specs.Reasons.{diffs_tested, reasons_tested, export_row
 use differences::check_both;
 use kinds::{kind_of, kind_slug};
 use output::bytes::{put, put_domain};
-use refusal::{Answer, Refusal, Written};
+use refusal::Refusal;
 use table::shape::{
     EXPORT_DIFF_WIDTH, EXPORT_WIDTH, IMPORT_WIDTH, MAX_EXPORT_DIFFS, MAX_NEED_DIFFS,
     NEED_DIFF_WIDTH,
 };
+
+// The number of the last domain.
+const LAST_DOMAIN: usize = 6;
 
 // The count of the table that a row with this change points into: 0 is removed, any other number added.
 fn side(change: usize, b: usize, c: usize) -> usize
@@ -41,46 +45,42 @@ fn export_diff_fits(xd: &[usize], i: usize, nbe: usize, nce: usize) -> bool
 fn need_diff_fits(cd: &[usize], i: usize, nbi: usize, nci: usize) -> bool
     ensures { result ≡ need_diff_fits nbi nci cd.now i }
 {
-    if table::cell(cd, NEED_DIFF_WIDTH, i, 1) > 6 {
-        return false;
-    }
-    table::cell(cd, NEED_DIFF_WIDTH, i, 2) < side(table::cell(cd, NEED_DIFF_WIDTH, i, 0), nbi, nci)
+    table::cell(cd, NEED_DIFF_WIDTH, i, 1) <= LAST_DOMAIN
+        && table::cell(cd, NEED_DIFF_WIDTH, i, 2)
+            < side(table::cell(cd, NEED_DIFF_WIDTH, i, 0), nbi, nci)
 }
 
-// 15 for table 8: the count, then each row against the table that it points into.
-fn check_export_diffs(xd: &[usize], n: usize, nbe: usize, nce: usize) -> Answer
-    ensures { said_answer result ≡ export_diffs_tested nbe nce xd.now n }
+// 15 for a table that is handed in with a count and has room for so many rows: the count, then the first row that does not fit.
+fn check_rows<F: Fn(usize) -> bool>(room: usize, n: usize, fits: F) -> Result<(), Refusal>
+    requires { F.IsAlwaysCallable fits }
+    ensures { (good : ℕ → Bool) → ((i : ℕ) (r : Bool) → i < n → F.post fits i r → r ≡ good i)
+        → said_by result ≡ tested room n (bad good) }
+{
+    if room < n {
+        return Err(Refusal::BadTable(room));
+    }
+    for i in 0..n {
+        if !fits(i) {
+            return Err(Refusal::BadTable(i));
+        }
+    }
+    Ok(())
+}
+
+// Table 8: each row against the table that it points into.
+fn check_export_diffs(xd: &[usize], n: usize, nbe: usize, nce: usize) -> Result<(), Refusal>
+    ensures { said_by result ≡ export_diffs_tested nbe nce xd.now n }
 {
     let room = table::capacity(xd.len(), EXPORT_DIFF_WIDTH, MAX_EXPORT_DIFFS);
-    if room < n {
-        return Answer::Refused(Refusal::BadTable(room));
-    }
-    let mut i = 0;
-    while i < n {
-        if !export_diff_fits(xd, i, nbe, nce) {
-            return Answer::Refused(Refusal::BadTable(i));
-        }
-        i += 1;
-    }
-    Answer::Accepted
+    check_rows(room, n, |i| export_diff_fits(xd, i, nbe, nce))
 }
 
 // The same for table 9, and its domains.
-fn check_need_diffs(cd: &[usize], n: usize, nbi: usize, nci: usize) -> Answer
-    ensures { said_answer result ≡ need_diffs_tested nbi nci cd.now n }
+fn check_need_diffs(cd: &[usize], n: usize, nbi: usize, nci: usize) -> Result<(), Refusal>
+    ensures { said_by result ≡ need_diffs_tested nbi nci cd.now n }
 {
     let room = table::capacity(cd.len(), NEED_DIFF_WIDTH, MAX_NEED_DIFFS);
-    if room < n {
-        return Answer::Refused(Refusal::BadTable(room));
-    }
-    let mut i = 0;
-    while i < n {
-        if !need_diff_fits(cd, i, nbi, nci) {
-            return Answer::Refused(Refusal::BadTable(i));
-        }
-        i += 1;
-    }
-    Answer::Accepted
+    check_rows(room, n, |i| need_diff_fits(cd, i, nbi, nci))
 }
 
 // 15 for table 8, then for table 9.
@@ -93,13 +93,11 @@ fn check_diffs(
     ncd: usize,
     nbi: usize,
     nci: usize,
-) -> Answer
-    ensures { said_answer result ≡ diffs_tested nbe nce nbi nci (diffs xd.now nxd cd.now ncd) }
+) -> Result<(), Refusal>
+    ensures { said_by result ≡ diffs_tested nbe nce nbi nci (diffs xd.now nxd cd.now ncd) }
 {
-    match check_export_diffs(xd, nxd, nbe, nce) {
-        Answer::Refused(r) => Answer::Refused(r),
-        Answer::Accepted => check_need_diffs(cd, ncd, nbi, nci),
-    }
+    check_export_diffs(xd, nxd, nbe, nce)?;
+    check_need_diffs(cd, ncd, nbi, nci)
 }
 
 // 14 and 15 of all that is handed in.
@@ -118,15 +116,13 @@ fn check_reasons(
     nxd: usize,
     cd: &[usize],
     ncd: usize,
-) -> Answer
-    ensures { said_answer result ≡ reasons_tested (given baseline.now bi.now nbi be.now nbe)
+) -> Result<(), Refusal>
+    ensures { said_by result ≡ reasons_tested (given baseline.now bi.now nbi be.now nbe)
         (given candidate.now ci.now nci ce.now nce)
         (diffs xd.now nxd cd.now ncd) }
 {
-    match check_both(baseline, bi, nbi, be, nbe, candidate, ci, nci, ce, nce) {
-        Answer::Refused(r) => Answer::Refused(r),
-        Answer::Accepted => check_diffs(xd, nxd, nbe, nce, cd, ncd, nbi, nci),
-    }
+    check_both(baseline, bi, nbi, be, nbe, candidate, ci, nci, ce, nce)?;
+    check_diffs(xd, nxd, nbe, nce, cd, ncd, nbi, nci)
 }
 
 // The slug of a kind byte.
@@ -136,8 +132,7 @@ fn put_kind(out: &mut [u8], at: usize, kind: usize, go: bool) -> usize
 {
     let word = kind_slug(kind_of(kind as u8));
     let bytes = word.bytes;
-    let n = word.len;
-    put(out, at, &bytes[..n], go)
+    put(out, at, &bytes[..word.len], go)
 }
 
 // The line for row i of table 3, which is no longer there.
@@ -255,15 +250,14 @@ fn put_exports(
         result out.new }
 {
     let mut m = at;
-    let mut i = 0;
-    while i < n {
+    for i in 0..n {
         m = put_export_row(file, exports, xd, i, out, m, go);
-        i += 1;
     }
     m
 }
 
-// The lines for the added rows of table 9.
+// The lines for the added rows of table 9. A loop of its own beside `put_exports`: one over a row's writer as a closure would have to say
+// what each call leaves in the buffer, in more lines than the two loops have.
 fn put_needs(
     file: &[u8],
     imports: &[usize],
@@ -277,10 +271,8 @@ fn put_needs(
         result out.new }
 {
     let mut m = at;
-    let mut i = 0;
-    while i < n {
+    for i in 0..n {
         m = put_need_row(file, imports, cd, i, out, m, go);
-        i += 1;
     }
     m
 }
@@ -319,7 +311,7 @@ fn write_reasons(
     ncd: usize,
     out: &mut [u8],
     at: u32,
-) -> Written
+) -> Result<usize, Refusal>
     requires kinds_fit { KindsFit be.now xd.now nxd }
     requires baseline_len_bound { (length baseline.now ≤ file_limit) × (length candidate.now ≤ file_limit)
         × (nxd ≤ limit 8) × (ncd ≤ limit 9) }
@@ -331,12 +323,12 @@ fn write_reasons(
         baseline, be, candidate, ci, xd, nxd, cd, ncd, out, from, false,
     );
     if out.len() < needed {
-        return Written::Refused(Refusal::NoRoom(needed));
+        return Err(Refusal::NoRoom(needed));
     }
     let end = put_reasons(
         baseline, be, candidate, ci, xd, nxd, cd, ncd, out, from, true,
     );
-    Written::Bytes(end)
+    Ok(end)
 }
 
 // Why the candidate cannot stand in for the baseline: a line for each removed export of table 8, then for each added capability of
@@ -359,17 +351,15 @@ pub fn reasons_from(
     ncd: usize,
     out: &mut [u8],
     at: u32,
-) -> Written
+) -> Result<usize, Refusal>
     ensures { ReasonsFrom at (given baseline.now bi.now nbi be.now nbe)
         (given candidate.now ci.now nci ce.now nce)
         (diffs xd.now nxd cd.now ncd) out.old result out.new }
 {
-    match check_reasons(
+    check_reasons(
         baseline, bi, nbi, be, nbe, candidate, ci, nci, ce, nce, xd, nxd, cd, ncd,
-    ) {
-        Answer::Refused(r) => Written::Refused(r),
-        Answer::Accepted => write_reasons(baseline, be, candidate, ci, xd, nxd, cd, ncd, out, at),
-    }
+    )?;
+    write_reasons(baseline, be, candidate, ci, xd, nxd, cd, ncd, out, at)
 }
 
 // The same from the start of the buffer on, and how many bytes they are.
@@ -389,7 +379,7 @@ pub fn breaking_reasons(
     cd: &[usize],
     ncd: usize,
     out: &mut [u8],
-) -> Written
+) -> Result<usize, Refusal>
     ensures { Reasons (given baseline.now bi.now nbi be.now nbe)
         (given candidate.now ci.now nci ce.now nce)
         (diffs xd.now nxd cd.now ncd) out.old result out.new }

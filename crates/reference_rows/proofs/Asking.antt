@@ -1,34 +1,23 @@
--- Tests of ranges and of rows. Assumes nothing.
-use Prim.Native.Nat.{ℕ, ◌≤◌, ◌<◌}
-use mathlib.Core.Path.{◌≡◌}
+-- What a list of rows answers. Assumes nothing.
+use Rattle.std.specs.Prelude.{Option, Some, None, Result}
+use Rattle.std.specs.Option.{ok_or}
+use Prim.Native.Nat.{ℕ}
+use mathlib.Core.Path.{◌≡◌, refl, ◌∙◌, ap}
 use mathlib.Core.Bool.{Bool, true, false}
 use mathlib.Core.List.{List}
-use borrow.Author.Tests.{lt-ltb, le-ltb}
-use Rattle.refusal.specs.Said.{accepted, refused, follow, Place}
-use Rattle.table.specs.Shape.{width, cell_in}
-use Rattle.table.specs.Listing.{fitted}
-use Rattle.sorting.specs.Keys.{by_name, sorted_rows, other_rows, Sorts}
+use lib.ListN.{length}
+use Rattle.refusal.specs.Said.{Said, accepted, refused, follow, Place, said_by}
+use Rattle.refusal.specs.declared.Refusal.{Refusal}
+use Rattle.refusal.specs.declared.Refusal.TheVariants.{Full}
+use Rattle.table.specs.Shape.{width}
+use Rattle.table.specs.Listing.{ListsRows, fitted}
+use Rattle.table.proofs.Listing.{lists-sorted}
+use Rattle.sorting.specs.Keys.{by_name, sorted_rows, other_rows, said_sorted, Sorts}
 use Rattle.sorting.specs.declared.Keys.{Keys}
-use Rattle.sorting.specs.declared.Sorted.{Sorted}
-use Rattle.reference_rows.specs.Queries.{range_fits, reference_fits, manifest_tested, path_rows, paths_of}
-
--- a reference, by what was read and asked of it
-module _ (n worlds : ℕ) (references : List ℕ) (i : ℕ) {w : ℕ} (ew : w ≡ cell_in 6 references i 0) where
-  pub world-out : worlds ≤ w → false ≡ reference_fits n worlds references i
-  unfolding reference_fits
-  world-out h = rw (← ew, le-ltb w worlds h)
-
-  module _ (inside : w < worlds) {f : Bool} (ef : f ≡ range_fits n references (width 6) i 2 3) where
-    pub path-out : f ≡ false → false ≡ reference_fits n worlds references i
-    unfolding reference_fits
-    path-out h = rw (← ew, lt-ltb w worlds inside, ← ef, h)
-
-    pub path-in : {g : Bool} → f ≡ true → g ≡ range_fits n references (width 6) i 5 6 → g ≡ reference_fits n worlds references i
-    unfolding reference_fits
-    path-in h e = rw (← ew, lt-ltb w worlds inside, ← ef, h, e)
+use Rattle.reference_rows.specs.Queries.{manifest_tested, path_rows, paths_of}
 
 -- the sort, for the one direction and the other
-module _ (s references : List ℕ) (n : ℕ) (before after : List ℕ) (r : Sorted) (export : Bool)
+module _ (s references : List ℕ) (n : ℕ) (before after : List ℕ) (r : Option ℕ) (export : Bool)
     {k : Keys} (e : k ≡ by_name (width 6) 2 3 1 0) where
   pub sorts-exports : export ≡ true → Sorts (other_rows s s references k n) before after r
       → Sorts (path_rows export s references n) before after r
@@ -51,3 +40,17 @@ module _ (export : Bool) (s worlds : List ℕ) (n5 : ℕ) (references : List ℕ
       → paths_of export s worlds n5 references n6 room ≡ fitted 15 room (path_rows export s references n6)
   unfolding paths_of follow
   paths-good e = rw e
+
+-- a list that a sort put into a lent table, or 13 at that table's number
+sorted-said : (tn : ℕ) (r : Option ℕ) → said_by (ok_or r (Full tn)) ≡ said_sorted tn r
+sorted-said tn None = refl
+sorted-said tn (Some n) = refl
+
+pub sorts-listed : (tn : ℕ) (l before after : List ℕ) {r : Option ℕ} {a : Result ℕ Refusal} → a ≡ ok_or r (Full tn)
+    → Sorts l before after r → ListsRows (fitted tn (length before) l) before after (said_by a)
+sorts-listed tn l before after {r} e s =
+    lists-sorted tn l before after (ap said_by e ∙ sorted-said tn r ∙ s.answer-is tn) s.table_is
+
+pub listed-as : {x y : Said (List ℕ)} {before after : List ℕ} {a : Said ℕ} → x ≡ y → ListsRows y before after a
+    → ListsRows x before after a
+listed-as e h = rw e h

@@ -3,12 +3,10 @@ use Prim.Native.Nat.{ℕ}
 use native.Mathlib.Omega.{arith}
 use mathlib.Core.Path.{◌≡◌, refl, sym, ◌∙◌, ap}
 use lib.Dec.{eqb}
+use Rattle.std.specs.Prelude.{Result, Ok, Err}
 use Rattle.refusal.specs.Pick.{pick}
 use Rattle.refusal.specs.Said.{Said, accepted, refused, Place, number_at, beside_at, number_of, where_of, moved_by, moved_on}
-use Rattle.refusal.specs.Said.{refused_by, relocated, said_answer, said_count, said_written}
-use Rattle.refusal.specs.declared.Answer.{Answer}
-use Rattle.refusal.specs.declared.Count.{Count}
-use Rattle.refusal.specs.declared.Written.{Written}
+use Rattle.refusal.specs.Said.{refused_by, relocated, said_by}
 use Rattle.refusal.specs.declared.Refusal.{Refusal}
 use Rattle.refusal.specs.declared.Refusal.TheVariants.{UnexpectedEof, BadMagic, BadUtf8, MalformedSection, Directive}
 use Rattle.refusal.specs.declared.Refusal.TheVariants.{BadDefault, BadDomain, PackageInWorld, NoName, Unmatched, Outside}
@@ -75,35 +73,15 @@ never-three w e =
 pub taken_back : {A O : Type 0} {said : A → O} (back : O → A) → ((a : A) → back (said a) ≡ a) → (a b : A) → said a ≡ said b → a ≡ b
 taken_back back is a b e = sym (is a) ∙ ap back e ∙ is b
 
-pub answer-known : (a b : Answer) → said_answer a ≡ said_answer b → a ≡ b
-answer-known = taken_back back is where
-  back : Said (Unit {0}) → Answer
-  back (accepted v) = Answer.Accepted
-  back (refused n p) = Answer.Refused (refusal_of n p)
+pub result-known : {X : Type 0} (a b : Result X Refusal) → said_by a ≡ said_by b → a ≡ b
+result-known {X = X} = taken_back back is where
+  back : Said X → Result X Refusal
+  back (accepted v) = Ok v
+  back (refused n p) = Err (refusal_of n p)
 
-  is : (a : Answer) → back (said_answer a) ≡ a
-  is Answer.Accepted = refl
-  is (Answer.Refused w) = ap Answer.Refused (known w)
-
-pub count-known : (a b : Count) → said_count a ≡ said_count b → a ≡ b
-count-known = taken_back back is where
-  back : Said ℕ → Count
-  back (accepted v) = Count.Rows v
-  back (refused n p) = Count.Refused (refusal_of n p)
-
-  is : (a : Count) → back (said_count a) ≡ a
-  is (Count.Rows n) = refl
-  is (Count.Refused w) = ap Count.Refused (known w)
-
-pub written_known : (a b : Written) → said_written a ≡ said_written b → a ≡ b
-written_known = taken_back back is where
-  back : Said ℕ → Written
-  back (accepted v) = Written.Bytes v
-  back (refused n p) = Written.Refused (refusal_of n p)
-
-  is : (a : Written) → back (said_written a) ≡ a
-  is (Written.Bytes n) = refl
-  is (Written.Refused w) = ap Written.Refused (known w)
+  is : (a : Result X Refusal) → back (said_by a) ≡ a
+  is (Ok v) = refl
+  is (Err w) = ap Err (known w)
 
 -- a refusal that is moved has its number, and its place is moved
 pub moves : (by : ℕ) (w : Refusal) → (number_of (moved_on by w) ≡ number_of w) × (where_of (moved_on by w) ≡ moved_by by (where_of w))

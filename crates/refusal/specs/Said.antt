@@ -1,8 +1,5 @@
--- docs/RULES.md, "Numbered answers": what a call says, in the paper's words, and how one call follows another. Assumes nothing.
-use Rattle.std.specs.Prelude.{ℕ, ◌+◌, min}
-use Rattle.refusal.specs.declared.Answer.{Answer}
-use Rattle.refusal.specs.declared.Count.{Count}
-use Rattle.refusal.specs.declared.Written.{Written}
+-- docs/RULES.md, "Numbered answers": what a call says, and how one call follows another. Assumes nothing.
+use Rattle.std.specs.Prelude.{ℕ, ◌+◌, min, Result, Ok, Err}
 use Rattle.refusal.specs.declared.Refusal.{Refusal}
 use Rattle.refusal.specs.declared.Refusal.TheVariants.{UnexpectedEof, BadMagic, BadUtf8, MalformedSection, Directive}
 use Rattle.refusal.specs.declared.Refusal.TheVariants.{BadDefault, BadDomain, PackageInWorld, NoName, Unmatched, Outside}
@@ -128,18 +125,10 @@ unfoldable pub relocated : {X : Type 0} → ℕ → Said X → Said X
 relocated by (accepted v) = accepted v
 relocated by (refused n p) = refused n (moved_by by p)
 
--- ---- the answers that calls share
-abbrev pub said_answer : Answer → Said (Unit {0})
-said_answer Answer.Accepted = accepted tt
-said_answer (Answer.Refused why) = refused_by why
-
-abbrev pub said_count : Count → Said ℕ
-said_count (Count.Rows n) = accepted n
-said_count (Count.Refused why) = refused_by why
-
-abbrev pub said_written : Written → Said ℕ
-said_written (Written.Bytes n) = accepted n
-said_written (Written.Refused why) = refused_by why
+-- what a call answers: its value, or why there is none
+abbrev pub said_by : {X : Type 0} → Result X Refusal → Said X
+said_by (Ok v) = accepted v
+said_by (Err why) = refused_by why
 
 -- ---- readers: a value that was read, and the offset after it
 pub data Got (X : Type 0) : Type 0 where

@@ -36,25 +36,6 @@ pub enum Refusal {
     NotStrict(usize),
 }
 
-// What a call answers that gives nothing but its verdict; how many rows; how many bytes.
-#[derive(Clone, Copy)]
-pub enum Answer {
-    Accepted,
-    Refused(Refusal),
-}
-
-#[derive(Clone, Copy)]
-pub enum Count {
-    Rows(usize),
-    Refused(Refusal),
-}
-
-#[derive(Clone, Copy)]
-pub enum Written {
-    Bytes(usize),
-    Refused(Refusal),
-}
-
 // A range of bytes.
 #[derive(Clone, Copy)]
 pub struct Part {
@@ -62,10 +43,13 @@ pub struct Part {
     pub len: usize,
 }
 
+// The most bytes of a short word.
+const SLUG_BYTES: usize = 10;
+
 // A short word by value: its bytes, then zeros.
 #[derive(Clone, Copy)]
 pub struct Slug {
-    pub bytes: [u8; 10],
+    pub bytes: [u8; SLUG_BYTES],
     pub len: usize,
 }
 
@@ -109,24 +93,16 @@ pub fn place(r: Refusal) -> usize
     ensures { result ≡ place_of r }
 {
     match r {
-        Refusal::UnexpectedEof(at) => at,
-        Refusal::BadMagic(at) => at,
-        Refusal::BadUtf8(at) => at,
-        Refusal::MalformedSection(kind, _) => kind,
-        Refusal::Directive(line) => line,
-        Refusal::BadDefault(line) => line,
-        Refusal::BadDomain(line) => line,
-        Refusal::PackageInWorld(line) => line,
-        Refusal::NoName(line) => line,
-        Refusal::Unmatched(line) => line,
-        Refusal::Outside(line) => line,
-        Refusal::Full(table) => table,
         Refusal::TooLong => 0,
+        Refusal::UnexpectedEof(at) | Refusal::BadMagic(at) | Refusal::BadUtf8(at) => at,
+        Refusal::MalformedSection(kind, _) => kind,
+        Refusal::Directive(line) | Refusal::BadDefault(line) | Refusal::BadDomain(line) => line,
+        Refusal::PackageInWorld(line) | Refusal::NoName(line) => line,
+        Refusal::Unmatched(line) | Refusal::Outside(line) => line,
+        Refusal::Full(table) => table,
         Refusal::BadTable(row) => row,
         Refusal::NoRoom(needed) => needed,
-        Refusal::TooManyBytes(at) => at,
-        Refusal::TenthByte(at) => at,
-        Refusal::AboveU32(at) => at,
+        Refusal::TooManyBytes(at) | Refusal::TenthByte(at) | Refusal::AboveU32(at) => at,
         Refusal::NotStrict(rule) => rule,
     }
 }
@@ -136,25 +112,8 @@ pub fn beside(r: Refusal) -> usize
     ensures { result ≡ beside_of r }
 {
     match r {
-        Refusal::UnexpectedEof(_) => 0,
-        Refusal::BadMagic(_) => 0,
-        Refusal::BadUtf8(_) => 0,
         Refusal::MalformedSection(_, at) => at,
-        Refusal::Directive(_) => 0,
-        Refusal::BadDefault(_) => 0,
-        Refusal::BadDomain(_) => 0,
-        Refusal::PackageInWorld(_) => 0,
-        Refusal::NoName(_) => 0,
-        Refusal::Unmatched(_) => 0,
-        Refusal::Outside(_) => 0,
-        Refusal::Full(_) => 0,
-        Refusal::TooLong => 0,
-        Refusal::BadTable(_) => 0,
-        Refusal::NoRoom(_) => 0,
-        Refusal::TooManyBytes(_) => 0,
-        Refusal::TenthByte(_) => 0,
-        Refusal::AboveU32(_) => 0,
-        Refusal::NotStrict(_) => 0,
+        _ => 0,
     }
 }
 
@@ -162,10 +121,7 @@ pub fn beside(r: Refusal) -> usize
 fn add(by: usize, at: usize) -> usize
     ensures { result ≡ further by at }
 {
-    if usize::MAX - by < at {
-        return usize::MAX;
-    }
-    by + at
+    by.saturating_add(at)
 }
 
 // A refusal of a part that starts at `by`: its offset from where the whole starts. A place that is no offset stays.
@@ -177,21 +133,10 @@ pub fn moved(by: usize, r: Refusal) -> Refusal
         Refusal::BadMagic(at) => Refusal::BadMagic(add(by, at)),
         Refusal::BadUtf8(at) => Refusal::BadUtf8(add(by, at)),
         Refusal::MalformedSection(kind, at) => Refusal::MalformedSection(kind, add(by, at)),
-        Refusal::Directive(line) => Refusal::Directive(line),
-        Refusal::BadDefault(line) => Refusal::BadDefault(line),
-        Refusal::BadDomain(line) => Refusal::BadDomain(line),
-        Refusal::PackageInWorld(line) => Refusal::PackageInWorld(line),
-        Refusal::NoName(line) => Refusal::NoName(line),
-        Refusal::Unmatched(line) => Refusal::Unmatched(line),
-        Refusal::Outside(line) => Refusal::Outside(line),
-        Refusal::Full(table) => Refusal::Full(table),
-        Refusal::TooLong => Refusal::TooLong,
-        Refusal::BadTable(row) => Refusal::BadTable(row),
-        Refusal::NoRoom(needed) => Refusal::NoRoom(needed),
         Refusal::TooManyBytes(at) => Refusal::TooManyBytes(add(by, at)),
         Refusal::TenthByte(at) => Refusal::TenthByte(add(by, at)),
         Refusal::AboveU32(at) => Refusal::AboveU32(add(by, at)),
-        Refusal::NotStrict(rule) => Refusal::NotStrict(rule),
+        still => still,
     }
 }
 
@@ -199,14 +144,8 @@ pub fn moved(by: usize, r: Refusal) -> Refusal
 pub fn slug_of(word: &[u8]) -> Slug
     ensures { result ≡ slug_of word.now }
 {
-    let mut bytes = [0u8; 10];
-    let mut len = 0;
-    while len < word.len() {
-        if len == 10 {
-            return Slug { bytes, len };
-        }
-        bytes[len] = word[len];
-        len += 1;
-    }
+    let mut bytes = [0u8; SLUG_BYTES];
+    let len = word.len().min(SLUG_BYTES);
+    bytes[..len].copy_from_slice(&word[..len]);
     Slug { bytes, len }
 }

@@ -12,9 +12,6 @@ use Rattle.report.specs.Decimal.{digits, decimal_of}
 pub tenth-less : (n : ℕ) → 10 ≤ n → n / 10 < n
 tenth-less n h = omega arith
 
-pub rest-small : (n : ℕ) → n % 10 < 10
-rest-small n = omega arith
-
 -- where there is room for more digits, they are the same
 enough : (k j n : ℕ) → n ≤ k → n ≤ j → digits k n ≡ digits j n
 unfolding digits

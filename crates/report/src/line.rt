@@ -3,10 +3,13 @@ ghost use Rattle.std.specs.Prelude.{◌≡◌, ◌∷◌, [], ◌+◌, ◌<◌};
 ghost use Rattle.report.specs.Line.{empty, add_byte, added};
 ghost use Rattle.report.specs.Decimal.{decimal_of};
 
-// Its bytes, then zeros.
+// How many bytes a line holds.
+const ROOM: usize = 128;
+
+// Its bytes, then zeros. A length stands beside the buffer, as there is no heap, and `line_of` says what each of its bytes is.
 #[derive(Clone, Copy)]
 pub struct Line {
-    pub bytes: [u8; 128],
+    pub bytes: [u8; ROOM],
     pub len: usize,
 }
 
@@ -14,24 +17,21 @@ pub struct Line {
 fn add_byte(l: Line, b: u8) -> Line
     ensures { result ≡ add_byte l b }
 {
-    let mut bytes = l.bytes;
-    let len = l.len;
-    if 128 <= len {
+    if ROOM <= l.len {
         return l;
     }
-    bytes[len] = b;
-    Line {
-        bytes,
-        len: len + 1,
-    }
+    let mut line = l;
+    line.bytes[l.len] = b;
+    line.len += 1;
+    line
 }
 
 pub(crate) fn add(l: Line, bytes: &[u8]) -> Line
     ensures { result ≡ added l bytes.now }
 {
     let mut line = l;
-    for i in 0..bytes.len() {
-        line = add_byte(line, bytes[i]);
+    for &b in bytes {
+        line = add_byte(line, b);
     }
     line
 }
@@ -42,7 +42,7 @@ pub(crate) fn begin(bytes: &[u8]) -> Line
 {
     add(
         Line {
-            bytes: [0; 128],
+            bytes: [0; ROOM],
             len: 0,
         },
         bytes,

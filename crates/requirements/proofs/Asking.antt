@@ -1,4 +1,5 @@
 -- Table 7 of a manifest, by what the calls found. Assumes nothing.
+use Rattle.std.specs.Prelude.{Option, Some, None}
 use mathlib.Core.Path.{◌≡◌, refl, sym, ◌∙◌, ap, subst}
 use mathlib.Core.Bool.{Bool, true, false}
 use mathlib.Core.List.{List, [], ◌∷◌, map}
@@ -21,8 +22,6 @@ use Rattle.table.proofs.Laws.{rows_back, length-rows}
 use Rattle.table.proofs.Reading.{full-exactly, fitting-room}
 use Rattle.sorting.specs.Keys.{by_name, sorted_rows, said_sorted, Sorts}
 use Rattle.sorting.specs.declared.Keys.{Keys}
-use Rattle.sorting.specs.declared.Sorted.{Sorted}
-use Rattle.sorting.specs.declared.Sorted.TheVariants.{Rows, Full}
 use Rattle.domains.specs.Classify.{path_domain}
 use Rattle.reference_rows.specs.Queries.{manifest_tested, path_rows}
 use Rattle.requirements.specs.Requirements.{room_of}
@@ -75,12 +74,12 @@ module _ (s worlds : List ℕ) (n5 : ℕ) (references : List ℕ) (n6 : ℕ) whe
   manifest-bad room e = rw e
 
   module _ {u : Unit {0}} (good : manifest_tested s worlds n5 references n6 ≡ accepted u) {k : Keys} (is : k ≡ by_name (width 6) 2 3 1 0)
-      {rows rows1 : List ℕ} {r : Sorted} (sorts : Sorts (sorted_rows s s references k n6) rows rows1 r) where
+      {rows rows1 : List ℕ} {r : Option ℕ} (sorts : Sorts (sorted_rows s s references k n6) rows rows1 r) where
     pub listed : (room : ℕ) → manifest_rows s worlds n5 references n6 room ≡ fitted 7 room (sorted_rows s s references k n6)
     unfolding manifest_rows follow path_rows
     listed room = rw (good, is)
 
-    pub full-rows : (domains : List ℕ) → r ≡ Full
+    pub full-rows : (domains : List ℕ) → r ≡ None
         → manifest_rows s worlds n5 references n6 (room_of (length domains) (length rows)) ≡ refused 13 (spot 7)
     unfolding fitted
     full-rows domains e =
@@ -89,7 +88,7 @@ module _ (s worlds : List ℕ) (n5 : ℕ) (references : List ℕ) (n6 : ℕ) whe
         listed (room_of (length domains) (length rows))
         ∙ rw (lt-leb (length (sorted_rows s s references k n6)) (room_of (length domains) (length rows)) (omega arith))
 
-    module _ {n : ℕ} (e : r ≡ Rows n) where
+    module _ {n : ℕ} (e : r ≡ Some n) where
       counted : (n ≡ length (sorted_rows s s references k n6)) × (length (sorted_rows s s references k n6) ≤ length rows)
       unfolding finished
       counted = by (leb (length (sorted_rows s s references k n6)) (length rows)) refl (sym (ap (said_sorted 7) e) ∙ sorts.answer-is 7)

@@ -137,6 +137,7 @@ module _ {of : ℕ → ℕ} {l domains domains1 rows rows1 : List ℕ} {found : 
 
 -- ---- the domain of a row, by its cells and ranges
 pub row-domain : (file imports : List ℕ) (i : ℕ) {a b d e : ℕ} {source field : List ℕ} → a ≡ cell_in 2 imports i 0
-    → b ≡ cell_in 2 imports i 1 → d ≡ cell_in 2 imports i 2 → e ≡ cell_in 2 imports i 3 → source ≡ range_of file a b → field ≡ range_of file d e
+    → b ≡ cell_in 2 imports i 1 → d ≡ cell_in 2 imports i 2 → e ≡ cell_in 2 imports i 3 → source ≡ range_of file a b
+    → field ≡ range_of file d e
     → import_domain source field ≡ row_domain file imports i
 row-domain file imports i ea eb ed ee es ef = rw (es, ef, ea, eb, ed, ee)

@@ -1,15 +1,15 @@
 // The domains that a manifest asks for: table 7, lent as two columns.
 ghost use Rattle.std.specs.Prelude.{◌≡◌, length};
-ghost use Rattle.refusal.specs.Said.{said_count};
+ghost use Rattle.refusal.specs.Said.{said_by};
 ghost use Rattle.table.specs.Table.{rows_of};
 ghost use Rattle.requirements.specs.Requirements.{room_of, Requires};
 ghost use Rattle.requirements.specs.Filling.{Column};
 ghost use Rattle.requirements.specs.Interfaces.{reference_domain, domain_of_cell, manifest_rows};
 
+use crate::module::refuse;
 use domains::classify::classify_path;
 use domains::domain_number;
-use refusal::{Answer, Count, Refusal};
-use sorting::Sorted;
+use refusal::Refusal;
 use table::shape::{MAX_REQUIREMENTS, REFERENCE_WIDTH, REQUIREMENT_WIDTH};
 
 // The domain of the path that row i imports.
@@ -30,11 +30,9 @@ fn list_domains(s: &[u8], references: &[usize], rows: &[usize], k: usize, domain
         (rows_of (domain_of_cell s.now references.now rows.now) k) domains.new }
 {
     table::clear(domains);
-    let mut i = 0;
-    while i < k {
-        let domain = [domain_at(s, references, table::cell(rows, REQUIREMENT_WIDTH, i, 0))];
-        table::put_row(domains, i, &domain);
-        i += 1;
+    for i in 0..k {
+        let domain = domain_at(s, references, table::cell(rows, REQUIREMENT_WIDTH, i, 0));
+        table::put_row(domains, i, &[domain]);
     }
 }
 
@@ -47,27 +45,24 @@ pub fn requirements_from_manifest(
     n6: usize,
     domains: &mut [usize],
     rows: &mut [usize],
-) -> Count
+) -> Result<usize, Refusal>
     ensures { Requires (reference_domain s.now references.now)
         (manifest_rows s.now worlds.now n5 references.now n6
         (room_of (length domains.old) (length rows.old)))
-        domains.old domains.new rows.old rows.new (said_count result) }
+        domains.old domains.new rows.old rows.new (said_by result) }
 {
-    match reference_rows::check_manifest(s, worlds, n5, references, n6) {
-        Answer::Refused(why) => crate::module::refuse(why, domains, rows),
-        Answer::Accepted => {
-            let most = table::capacity(domains.len(), REQUIREMENT_WIDTH, MAX_REQUIREMENTS);
-            let room = table::capacity(rows.len(), REQUIREMENT_WIDTH, most);
-            let keys = sorting::by_name(REFERENCE_WIDTH, 2, 3, 1, 0);
-            let listed = sorting::sort(s, s, references, keys, n6, rows);
-            let Sorted::Rows(k) = listed else {
-                return crate::module::refuse(Refusal::Full(7), domains, rows);
-            };
-            if room < k {
-                return crate::module::refuse(Refusal::Full(7), domains, rows);
-            }
-            list_domains(s, references, rows, k, domains);
-            Count::Rows(k)
-        }
+    if let Err(why) = reference_rows::check_manifest(s, worlds, n5, references, n6) {
+        return refuse(why, domains, rows);
     }
+    let most = table::capacity(domains.len(), REQUIREMENT_WIDTH, MAX_REQUIREMENTS);
+    let room = table::capacity(rows.len(), REQUIREMENT_WIDTH, most);
+    let keys = sorting::by_name(REFERENCE_WIDTH, 2, 3, 1, 0);
+    let Some(k) = sorting::sort(s, s, references, keys, n6, rows) else {
+        return refuse(Refusal::Full(7), domains, rows);
+    };
+    if room < k {
+        return refuse(Refusal::Full(7), domains, rows);
+    }
+    list_domains(s, references, rows, k, domains);
+    Ok(k)
 }

@@ -1,24 +1,24 @@
 // The domains that a module asks for: table 7, lent as two columns.
-ghost use Rattle.std.specs.Prelude.{◌≡◌, ℕ, ◌≤◌, length, []};
-ghost use Rattle.refusal.specs.Said.{said_count, refused_by};
+ghost use Rattle.std.specs.Prelude.{◌≡◌, length, []};
+ghost use Rattle.refusal.specs.Said.{said_by, refused_by};
 ghost use Rattle.table.specs.Table.{laid};
 ghost use Rattle.requirements.specs.Requirements.{room_of, function_rows, row_domain, module_rows, Requires};
 ghost use Rattle.requirements.specs.Filling.{Fills};
 
 use domains::classify::classify_import;
 use domains::domain_number;
-use refusal::{Answer, Count, MAX_FILE, Refusal};
+use refusal::{MAX_FILE, Refusal};
 use table::shape::{IMPORT_WIDTH, MAX_REQUIREMENTS, REQUIREMENT_WIDTH};
 
 // A refusal, with both columns cleared.
-pub fn refuse(why: Refusal, domains: &mut [usize], rows: &mut [usize]) -> Count
-    ensures { (said_count result ≡ refused_by why)
+pub fn refuse(why: Refusal, domains: &mut [usize], rows: &mut [usize]) -> Result<usize, Refusal>
+    ensures { (said_by result ≡ refused_by why)
         × (domains.new ≡ laid (length domains.old) [])
         × (rows.new ≡ laid (length rows.old) []) }
 {
     table::clear(domains);
     table::clear(rows);
-    Count::Refused(why)
+    Err(why)
 }
 
 // The domain of the function that row i imports.
@@ -52,16 +52,12 @@ fn list_functions(
     table::clear(domains);
     table::clear(rows);
     let mut found = 0;
-    let mut i = 0;
-    while i < n {
+    for i in 0..n {
         if table::cell(imports, IMPORT_WIDTH, i, 4) == 0 {
-            let domain = [domain_at(file, imports, i)];
-            table::put_row(domains, found, &domain);
-            let row = [i];
-            table::put_row(rows, found, &row);
+            table::put_row(domains, found, &[domain_at(file, imports, i)]);
+            table::put_row(rows, found, &[i]);
             found += 1;
         }
-        i += 1;
     }
     found
 }
@@ -73,24 +69,22 @@ pub fn requirements_from_module(
     n: usize,
     domains: &mut [usize],
     rows: &mut [usize],
-) -> Count
+) -> Result<usize, Refusal>
     ensures { Requires (row_domain file.now imports.now)
         (module_rows file.now imports.now n (room_of (length domains.old) (length rows.old)))
-        domains.old domains.new rows.old rows.new (said_count result) }
+        domains.old domains.new rows.old rows.new (said_by result) }
 {
     if file.len() > MAX_FILE {
         return refuse(Refusal::TooLong, domains, rows);
     }
-    match import_rows::check_imports(file.len(), imports, n) {
-        Answer::Refused(why) => refuse(why, domains, rows),
-        Answer::Accepted => {
-            let most = table::capacity(domains.len(), REQUIREMENT_WIDTH, MAX_REQUIREMENTS);
-            let room = table::capacity(rows.len(), REQUIREMENT_WIDTH, most);
-            let found = list_functions(file, imports, n, domains, rows);
-            if room < found {
-                return refuse(Refusal::Full(7), domains, rows);
-            }
-            Count::Rows(found)
-        }
+    if let Err(why) = import_rows::check_imports(file.len(), imports, n) {
+        return refuse(why, domains, rows);
     }
+    let most = table::capacity(domains.len(), REQUIREMENT_WIDTH, MAX_REQUIREMENTS);
+    let room = table::capacity(rows.len(), REQUIREMENT_WIDTH, most);
+    let found = list_functions(file, imports, n, domains, rows);
+    if room < found {
+        return refuse(Refusal::Full(7), domains, rows);
+    }
+    Ok(found)
 }

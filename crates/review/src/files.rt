@@ -1,5 +1,5 @@
 // The files that the arguments name.
-ghost use Rattle.std.specs.Prelude.{◌≡◌, ◌<◌, ◌≤◌, length, take, IfOk};
+ghost use Rattle.std.specs.Prelude.{◌≡◌, ◌<◌, ◌≤◌, length, take, IfOk, IfSome};
 ghost use Rattle.std.specs.Io.KnownBytes.{Consumes, IsAtEnd};
 
 use super::standard_error::fail;
@@ -19,12 +19,6 @@ const INVALID_ARGUMENT: i32 = 22;
 const NAME_TOO_LONG: i32 = 36;
 
 const ILLEGAL_BYTES: i32 = 84;
-
-#[derive(Clone, Copy)]
-pub(crate) struct Input {
-    pub failed: bool,
-    pub len: usize,
-}
 
 // How many arguments the program was started with, its own name among them.
 pub(crate) fn argument_count(rt: &impl Env) -> usize {
@@ -48,21 +42,32 @@ pub(crate) fn argument(rt: &impl Env, i: usize, buffer: &mut [u8]) -> usize
     rt.arg(i, buffer).unwrap_or(0)
 }
 
-// A file that an argument names, to its end or until the buffer is full. One that cannot be read is said on standard error by what it is,
-// as its path may hold any bytes.
+// A file that an argument names, to its end or until the buffer is full; and how long that is. One that cannot be read is said on standard
+// error by what it is, as its path may hold any bytes.
 pub(crate) fn read_argument(
     rt: &(impl Env + Files + Eprint + AllocGlobal),
     what: &str,
     i: usize,
     buffer: &mut [u8],
-) -> Input
-    ensures { result.len ≤ length buffer.new }
+) -> Option<usize>
+    ensures { IfSome result (λ n. n ≤ length buffer.new) }
+{
+    match read_named(rt, i, buffer) {
+        Ok(n) => Some(n),
+        Err(error) => {
+            fail(rt, what, &error);
+            None
+        }
+    }
+}
+
+fn read_named(rt: &(impl Env + Files), i: usize, buffer: &mut [u8]) -> io::Result<usize>
+    ensures { IfOk result (λ n. n ≤ length buffer.new) }
 {
     let mut path = path_buffer();
-    match rt.arg(i, &mut path) {
-        Ok(n) => read_file(rt, what, &path[..n], buffer),
-        Err(error) => not_read(rt, what, &argument_error(error)),
-    }
+    let n = rt.arg(i, &mut path).map_err(argument_error)?;
+    let mut file = open_file(rt, &path[..n])?;
+    read_all(&mut file, buffer)
 }
 
 fn argument_error(error: FillError) -> io::Error {
@@ -72,41 +77,10 @@ fn argument_error(error: FillError) -> io::Error {
     })
 }
 
-fn read_file(
-    rt: &(impl Files + Eprint + AllocGlobal),
-    what: &str,
-    path: &[u8],
-    buffer: &mut [u8],
-) -> Input
-    ensures { result.len ≤ length buffer.new }
-{
-    let mut file = match open_file(rt, path) {
-        Ok(file) => file,
-        Err(error) => return not_read(rt, what, &error),
-    };
-    match read_all(&mut file, buffer) {
-        Ok(n) => Input {
-            failed: false,
-            len: n,
-        },
-        Err(error) => not_read(rt, what, &error),
-    }
-}
-
 fn open_file<R: Files>(rt: &R, path: &[u8]) -> io::Result<R::File> {
     match str::from_utf8(path) {
         Ok(text) => File::open(rt, text),
         Err(_) => Err(io::Error::from_raw_os_error(ILLEGAL_BYTES)),
-    }
-}
-
-fn not_read(rt: &(impl Eprint + AllocGlobal), what: &str, error: &io::Error) -> Input
-    ensures { result.len ≡ 0 }
-{
-    fail(rt, what, error);
-    Input {
-        failed: true,
-        len: 0,
     }
 }
 

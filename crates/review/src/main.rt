@@ -42,26 +42,24 @@ fn main(rt: HostRuntime) {
     let policy = read_argument(&rt, "policy", POLICY, &mut text);
     let mut file = unread();
     let baseline = read_argument(&rt, "baseline", BASELINE, &mut file);
-    let n = policy.len;
-    let m = baseline.len;
-    review_all(&rt, policy.failed, &text[..n], baseline.failed, &file[..m]);
+    review_all(
+        &rt,
+        policy.map(|n| &text[..n]),
+        baseline.map(|n| &file[..n]),
+    );
 }
 
-// A report for each candidate.
+// A report for each candidate, under a policy and against a baseline that were read.
 fn review_all(
     rt: &(impl Env + Files + Print + Eprint + AllocGlobal),
-    no_text: bool,
-    text: &[u8],
-    no_baseline: bool,
-    baseline: &[u8],
+    policy: Option<&[u8]>,
+    baseline: Option<&[u8]>,
 ) {
     for i in CANDIDATES..argument_count(rt) {
-        if no_text {
-            tell_unread(rt, b"policy ", i);
-        } else if no_baseline {
-            tell_unread(rt, b"baseline ", i);
-        } else {
-            review_one(rt, text, baseline, i);
+        match (policy, baseline) {
+            (None, _) => tell_unread(rt, b"policy ", i),
+            (_, None) => tell_unread(rt, b"baseline ", i),
+            (Some(text), Some(baseline)) => review_one(rt, text, baseline, i),
         }
     }
 }
@@ -73,13 +71,10 @@ fn review_one(
     i: usize,
 ) {
     let mut file = unread();
-    let input = read_argument(rt, "candidate", i, &mut file);
-    if input.failed {
-        tell_unread(rt, b"", i);
-        return;
+    match read_argument(rt, "candidate", i, &mut file) {
+        Some(n) => review(rt, text, baseline, i, &file[..n]),
+        None => tell_unread(rt, b"", i),
     }
-    let n = input.len;
-    review(rt, text, baseline, i, &file[..n]);
 }
 
 fn review<'a, 'b>(

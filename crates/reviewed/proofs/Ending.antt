@@ -13,7 +13,8 @@ use Rattle.differences.specs.Compared.{Given, Lists, compared, verdict_on, expor
 use Rattle.reasons.specs.Reasons.{reason_lines}
 use Rattle.reviewed.specs.Words.{policy_path_w, baseline_w, candidate_w, of_policy_w, of_baseline_w, of_comparison_w}
 use Rattle.reviewed.specs.Texts.{path_text, stand_text, verdict_text, none_text}
-use Rattle.reviewed.specs.Review.{File, or_reason, policy_text, rows, read_build, build_text, build_of, compliant_in, check_text, removed_row, added_row}
+use Rattle.reviewed.specs.Review.{File, or_reason, policy_text, rows, read_build, build_text, build_of, compliant_in, check_text}
+use Rattle.reviewed.specs.Review.{removed_row, added_row}
 use Rattle.reviewed.specs.Review.{lists_text, compared_text, judged_text, against_text, builds_text, verdict_of, review_of, unread_of}
 use Rattle.reviewed.specs.Claims.{VerdictLine, passes, stands-not, complies-not, neither, refused-with, not-read, EndsIn, Reviewing}
 

@@ -1,6 +1,7 @@
 -- Names as they are shown, byte by byte. Assumes nothing.
 use mathlib.Core.Path.{◌≡◌, refl, sym, ap, ◌∙◌}
 use mathlib.Core.Bool.{Bool, true, false, not}
+use mathlib.Core.Logic.{◌⊎◌, inl, inr}
 use mathlib.Core.List.{List, [], ◌∷◌, ◌++◌, append-nil, append_assoc}
 use Prim.Native.Nat.{ℕ, zero, suc, ◌+◌, ◌*◌, ◌/◌, ◌%◌, ◌≤◌, ◌<◌}
 use native.Mathlib.Nat.{suc-add}
@@ -82,10 +83,11 @@ module _ (b : ℕ) where
   unfolding shown_plain
   plain-high h = rw (le-leb 32 b (omega arith), lt-leb b 126 h)
 
-  pub plain-quote : 32 ≤ b → b ≤ 126 → b ≡ 34 → false ≡ shown_plain b
+  pub plain-marked : (b ≡ 34) ⊎ (b ≡ 92) → false ≡ shown_plain b
   unfolding shown_plain
-  plain-quote h i e = rw (le-leb 32 b h, le-leb b 126 i, eq-eqb b 34 e)
+  plain-marked (inl e) = rw e
+  plain-marked (inr e) = rw e
 
-  pub plain-mid : 32 ≤ b → b ≤ 126 → (b ≡ 34 → ⊥) → not (eqb b 92) ≡ shown_plain b
+  pub plain-mid : 32 ≤ b → b ≤ 126 → ((b ≡ 34) ⊎ (b ≡ 92) → ⊥) → true ≡ shown_plain b
   unfolding shown_plain
-  plain-mid h i n = rw (le-leb 32 b h, le-leb b 126 i, ne_eqb b 34 n)
+  plain-mid h i n = rw (le-leb 32 b h, le-leb b 126 i, ne_eqb b 34 (λ e. n (inl e)), ne_eqb b 92 (λ e. n (inr e)))

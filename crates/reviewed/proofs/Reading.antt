@@ -1,4 +1,5 @@
 -- The report by what was read: a refusal is told, and what was accepted is gone on with. Assumes nothing.
+use Rattle.std.specs.Prelude.{Result, Ok, Err}
 use mathlib.Core.Path.{◌≡◌, refl, sym, ap, ◌∙◌}
 use mathlib.Core.Bool.{Bool, true, false}
 use mathlib.Core.List.{List, [], ◌++◌}
@@ -6,8 +7,7 @@ use Prim.Native.Nat.{ℕ, ◌≤◌, ◌<◌}
 use borrow.Author.Tests.{lt-ltb, le-ltb}
 use lib.ListN.{length}
 use Rattle.refusal.specs.Sizes.{text_limit}
-use Rattle.refusal.specs.Said.{Said, accepted, refused, refused_by, said_answer, number_of, where_of, follow, Place, spot}
-use Rattle.refusal.specs.declared.Answer.{Answer}
+use Rattle.refusal.specs.Said.{Said, accepted, refused, refused_by, said_by, number_of, where_of, follow, Place, spot}
 use Rattle.refusal.specs.declared.Refusal.{Refusal}
 use Rattle.refusal.proofs.Following.{never, one_value, followed, first-refused}
 use Rattle.table.specs.Table.{laid, cells, capacity_of}
@@ -16,41 +16,51 @@ use Rattle.wasm.specs.Rows.{import_cells, export_cells}
 use Rattle.wasm.specs.Module.{Parsed, Sizes, Lent, tables_of, module_at, module_of, said_module, ModuleIs}
 use Rattle.wasm.specs.Module as wasm
 use Rattle.wasm.specs.declared.Module.{Module}
-use Rattle.wasm.specs.declared.ModuleRead.{ModuleRead}
 use Rattle.policy.specs.Reader.{read_policy}
 use Rattle.policy.specs.View.{says}
 use Rattle.policy.specs.declared.Policy.{Policy}
-use Rattle.verdicts.specs.Evaluate.{Outcome, accepted_as, compliant, EvaluatedAs}
+use Rattle.verdicts.specs.Evaluate.{Outcome, no_outcome, outcome_of, said_evaluation, compliant}
+use Rattle.verdicts.specs.declared.Verdict.{Verdict}
 use Rattle.verdicts.specs.declared.Evaluation.{Evaluation}
 use Rattle.checking.specs.Checking.{checked_of}
-use Rattle.differences.specs.Compared.{Given, given, Lists, Verdict, verdict_on, compared, listed, Compares, export_diff_cells, need_diff_cells}
+use Rattle.differences.specs.Compared as pair
+use Rattle.differences.specs.Compared.{Given, given, Lists, verdict_on, compared, listed, Compares, export_diff_cells, need_diff_cells}
 use Rattle.compat.specs.Answer.{said_compared}
-use Rattle.compat.specs.declared.Compared.{Compared}
+use Rattle.compat.specs.declared.Lists as told
 use Rattle.reasons.specs.Reasons.{reason_lines}
 use Rattle.reviewed.specs.Words.{of_policy_w, of_baseline_w, of_comparison_w}
 use Rattle.reviewed.specs.Texts.{name_text, counts_text, reason_text, domains_text, compliance_text, stand_text, verdict_text, none_text}
-use Rattle.reviewed.specs.Review.{policy_text, rows, lent, read_build, build_text, build_of, compliant_in, violation_row, check_text, removed_row}
+use Rattle.reviewed.specs.Review.{policy_text, rows, lent, read_build, build_text, build_of, compliant_in, violation_row, check_text}
+use Rattle.reviewed.specs.Review.{removed_row}
 use Rattle.reviewed.specs.Review.{added_row, lists_text, compared_text, against_text, builds_text, verdict_of, shown_name, BuildRead}
+use Rattle.reviewed.specs.Review.{verdicts_in}
 use Rattle.reviewed.proofs.Telling.{name-said}
 
 -- ---- a policy
-module _ (s : List ℕ) {n : ℕ} {p : Place} (e : read_policy s ≡ refused n p) where
-  pub policy-stops : reason_text n p ≡ policy_text s
-  unfolding policy_text
-  policy-stops = rw e
+module _ (s : List ℕ) {r : Result Policy Refusal} (q : said_by r ≡ read_policy s) where
+  module _ {why : Refusal} (e : r ≡ Err why) where
+    unread : read_policy s ≡ refused_by why
+    unread = sym q ∙ ap said_by e
 
-  pub verdict-stops : (b c : List ℕ) → none_text of_policy_w n p ≡ verdict_of s b c
-  unfolding verdict_of
-  verdict-stops b c = rw e
+    pub policy-stops : reason_text (number_of why) (where_of why) ≡ policy_text s
+    unfolding policy_text
+    policy-stops = rw unread
 
-module _ (s : List ℕ) {p : Policy} (e : read_policy s ≡ accepted p) where
-  pub policy-goes : name_text (shown_name s p) p.permit ≡ policy_text s
-  unfolding policy_text says
-  policy-goes = rw (e, name-said s p e)
+    pub verdict-stops : (b c : List ℕ) → none_text of_policy_w (number_of why) (where_of why) ≡ verdict_of s b c
+    unfolding verdict_of
+    verdict-stops b c = rw unread
 
-  pub verdict-goes : (b c : List ℕ) → builds_text s b c ≡ verdict_of s b c
-  unfolding verdict_of
-  verdict-goes b c = rw e
+  module _ {p : Policy} (e : r ≡ Ok p) where
+    known : read_policy s ≡ accepted p
+    known = sym q ∙ ap said_by e
+
+    pub policy-goes : name_text (shown_name s p) p.permit ≡ policy_text s
+    unfolding policy_text says
+    policy-goes = rw (known, name-said s p known)
+
+    pub verdict-goes : (b c : List ℕ) → builds_text s b c ≡ verdict_of s b c
+    unfolding verdict_of
+    verdict-goes b c = rw known
 
 -- ---- a module is read
 module _ (b : List ℕ) where
@@ -88,25 +98,21 @@ module _ (b : List ℕ) where
             ∙ ap (λ (x : Said Parsed). laid (rows 3) (cells export_cells (tables_of x).exports)) (e ∙ q);
       }
 
--- ---- an evaluation is compliant where what it promises is
-accepted-as : (a : Answer) → said_answer a ≡ accepted tt → accepted_as a ≡ true
-accepted-as Answer.Accepted e = refl
-accepted-as (Answer.Refused w) e = absurd (never e)
+-- ---- what was evaluated, by its answer
+pub compliant-is : {o : Said Outcome} (r : Result Evaluation Refusal) → said_evaluation r ≡ o → compliant r ≡ compliant_in o
+compliant-is (Ok e) h = ap compliant_in h
+compliant-is (Err why) h = ap compliant_in h
 
-refused_as : (a : Answer) {n : ℕ} {p : Place} → said_answer a ≡ refused n p → accepted_as a ≡ false
-refused_as Answer.Accepted e = absurd (never (sym e))
-refused_as (Answer.Refused w) e = refl
-
-compliant-is : (o : Said Outcome) (e : Evaluation) → EvaluatedAs o e → compliant e ≡ compliant_in o
-unfolding compliant
-compliant-is (accepted o) e h = rw (h.count, accepted-as e.answer h.answer)
-compliant-is (refused n p) e h = rw (refused_as e.answer h.answer)
+pub verdicts-are : {o : Said Outcome} (r : Result Evaluation Refusal) → said_evaluation r ≡ o → verdicts_in r ≡ (outcome_of o).verdicts
+unfolding no_outcome
+verdicts-are (Ok e) h = ap (λ (o : Said Outcome). (outcome_of o).verdicts) h
+verdicts-are (Err why) h = ap (λ (o : Said Outcome). (outcome_of o).verdicts) h
 
 -- ---- a module that was read
-module _ (b : List ℕ) {imports exports : List ℕ} {r : ModuleRead} (q : BuildRead b imports exports (said_module r)) where
-  module _ {why : Refusal} (e : r ≡ ModuleRead.Refused why) where
+module _ (b : List ℕ) {imports exports : List ℕ} {r : Result Module Refusal} (q : BuildRead b imports exports (said_by r)) where
+  module _ {why : Refusal} (e : r ≡ Err why) where
     stopped : read_build b ≡ refused_by why
-    stopped = first-refused (read_build b) (module_of (length b)) (sym q.answer-is ∙ ap said_module e)
+    stopped = first-refused (read_build b) (module_of (length b)) (sym q.answer-is ∙ ap said_by e)
 
     pub counts-stops : reason_text (number_of why) (where_of why) ≡ build_text b
     unfolding build_text
@@ -120,7 +126,7 @@ module _ (b : List ℕ) {imports exports : List ℕ} {r : ModuleRead} (q : Build
     unfolding against_text
     candidate-stops text g = rw stopped
 
-  module _ {m : Module} (e : r ≡ ModuleRead.Module m) where
+  module _ {m : Module} (e : r ≡ Ok m) where
     record Went : Type 0 where
       what : Parsed
       first : read_build b ≡ accepted what
@@ -128,7 +134,7 @@ module _ (b : List ℕ) {imports exports : List ℕ} {r : ModuleRead} (q : Build
 
     went : Went
     went =
-        let f = followed (read_build b) (λ m. accepted (module_of (length b) m)) (sym q.answer-is ∙ ap said_module e) in
+        let f = followed (read_build b) (λ m. accepted (module_of (length b) m)) (sym q.answer-is ∙ ap said_by e) in
         record { what = f.what; first = f.first; is = one_value (sym f.then) }
 
     pub counts-goes : counts_text m.length m.sections m.imports m.exports ≡ build_text b
@@ -149,17 +155,15 @@ module _ (b : List ℕ) {imports exports : List ℕ} {r : ModuleRead} (q : Build
     unfolding builds_text
     baseline-goes text c = rw went.first (ap (λ (g : Given). against_text text g c) build-is)
 
-    pub candidate-goes : (text : List ℕ) (g : Given) {v : Evaluation} → EvaluatedAs (checked_of b text) v
-        → (domains_text v.verdicts
-        ++ (compliance_text (compliant v) v.verdicts ++ reason_lines (violation_row b imports v.verdicts) m.imports))
-        ++ compared_text (compliant v) g (given b imports m.imports exports m.exports)
+    pub candidate-goes : (text : List ℕ) (g : Given) {fine : Bool} {vs : List Verdict} → fine ≡ compliant_in (checked_of b text)
+        → vs ≡ (outcome_of (checked_of b text)).verdicts
+        → (domains_text vs ++ (compliance_text fine vs ++ reason_lines (violation_row b imports vs) m.imports))
+        ++ compared_text fine g (given b imports m.imports exports m.exports)
         ≡ against_text text g b
     unfolding against_text
-    candidate-goes text g {v} k =
+    candidate-goes text g k h =
         let o = checked_of b text in
-        let c = given b imports m.imports exports m.exports in
-        rw (compliant-is o v k, k.verdicts, went.first)
-        (ap (λ (h : Given). check_text o h ++ compared_text (compliant_in o) g h) build-is)
+        rw (k, h, went.first) (ap (λ (h : Given). check_text o h ++ compared_text (compliant_in o) g h) build-is)
 
 -- ---- the comparison
 rooms : (b c : Given) → compared b c (capacity_in 8 (rows 8)) (capacity_in 9 (rows 9)) ≡ compared b c 1024 1024
@@ -176,7 +180,8 @@ same_lines : (fine : Bool) (b c : Given) (l : Lists) {xd cd : List ℕ} {m n : �
     ≡ lists_text fine b c l
 same_lines fine b c l e f g h k = rw (e, f, g, h, k)
 
-module _ (fine : Bool) (b c : Given) {xd0 xd cd0 cd : List ℕ} (r : Compared) (long8 : length xd0 ≡ rows 8) (long9 : length cd0 ≡ rows 9)
+module _ (fine : Bool) (b c : Given) {xd0 xd cd0 cd : List ℕ} (r : Result told.Lists Refusal)
+    (long8 : length xd0 ≡ rows 8) (long9 : length cd0 ≡ rows 9)
     (h : Compares (compared b c (capacity_in 8 (length xd0)) (capacity_in 9 (length cd0))) xd0 xd cd0 cd (said_compared r)) where
   same : compared b c (capacity_in 8 (length xd0)) (capacity_in 9 (length cd0)) ≡ compared b c 1024 1024
   same =
@@ -187,23 +192,23 @@ module _ (fine : Bool) (b c : Given) {xd0 xd cd0 cd : List ℕ} (r : Compared) (
   answer : said_compared r ≡ follow (compared b c 1024 1024) (λ l. accepted (verdict_on l))
   answer = h.answer-is ∙ ap (λ (y : Said Lists). follow y (λ l. accepted (verdict_on l))) same
 
-  pub compared-stops : {why : Refusal} → r ≡ Compared.Refused why → none_text of_comparison_w (number_of why) (where_of why) ≡ compared_text fine b c
+  pub compared-stops : {why : Refusal} → r ≡ Err why → none_text of_comparison_w (number_of why) (where_of why) ≡ compared_text fine b c
   unfolding compared_text
   compared-stops e = rw (first-refused (compared b c 1024 1024) verdict_on (sym answer ∙ ap said_compared e))
 
-  pub compared-goes : {m n : ℕ} {yes : Bool} → r ≡ Compared.Lists m n yes
-      → stand_text yes
-      ++ (reason_lines (removed_row b.file b.exports xd) m
-      ++ (reason_lines (added_row c.file c.imports cd) n ++ verdict_text fine yes))
+  pub compared-goes : {t : told.Lists} → r ≡ Ok t
+      → stand_text t.compatible
+      ++ (reason_lines (removed_row b.file b.exports xd) t.exports
+      ++ (reason_lines (added_row c.file c.imports cd) t.capabilities ++ verdict_text fine t.compatible))
       ≡ compared_text fine b c
   unfolding compared_text verdict_on
-  compared-goes {m} {n} {yes} e =
+  compared-goes {t} e =
       let f = followed (compared b c 1024 1024) (λ l. accepted (verdict_on l)) (sym answer ∙ ap said_compared e) in
       let l = f.what in
-      let v : verdict_on l ≡ record { exports = m; capabilities = n; compatible = yes } = one_value f.then in
-      let many8 : m ≡ length l.exports = sym (ap (λ (u : Verdict). u.exports) v) in
-      let many9 : n ≡ length l.needs = sym (ap (λ (u : Verdict). u.capabilities) v) in
-      let stands : yes ≡ (verdict_on l).compatible = sym (ap (λ (u : Verdict). u.compatible) v) in
+      let v : verdict_on l ≡ record { exports = t.exports; capabilities = t.capabilities; compatible = t.compatible } = one_value f.then in
+      let many8 : t.exports ≡ length l.exports = sym (ap (λ (u : pair.Verdict). u.exports) v) in
+      let many9 : t.capabilities ≡ length l.needs = sym (ap (λ (u : pair.Verdict). u.capabilities) v) in
+      let stands : t.compatible ≡ (verdict_on l).compatible = sym (ap (λ (u : pair.Verdict). u.compatible) v) in
       let held8 : xd ≡ laid (rows 8) (cells export_diff_cells l.exports) =
       h.table8-is
       ∙ ap (λ (y : Said Lists). laid (length xd0) (cells export_diff_cells (listed y).exports)) (same ∙ f.first)

@@ -1,12 +1,17 @@
 -- Lines put into the buffer, by what they tell of. Assumes nothing.
-use mathlib.Core.Path.{◌≡◌}
+use mathlib.Core.Path.{◌≡◌, refl}
 use mathlib.Core.Bool.{Bool, true, false}
-use mathlib.Core.List.{List, []}
+use mathlib.Core.List.{List, [], ◌++◌}
 use Prim.Native.Nat.{ℕ, ◌≤◌, ◌<◌}
 use native.Mathlib.Omega.{arith}
 use borrow.Author.Tests.{lt-ltb, le-ltb, le-leb, eq-eqb, ne_eqb}
 use lib.ListN.{length}
-use Rattle.refusal.specs.Said.{accepted}
+use Rattle.refusal.specs.Said.{accepted, number_of, beside_of}
+use Rattle.refusal.specs.declared.Refusal.{Refusal}
+use Rattle.refusal.specs.declared.Refusal.TheVariants.{UnexpectedEof, BadMagic, BadUtf8, MalformedSection, Directive, BadDefault}
+use Rattle.refusal.specs.declared.Refusal.TheVariants.{BadDomain, PackageInWorld, NoName, Unmatched}
+use Rattle.refusal.specs.declared.Refusal.TheVariants.{Outside, Full, TooLong, BadTable, NoRoom, TooManyBytes, TenthByte, AboveU32}
+use Rattle.refusal.specs.declared.Refusal.TheVariants.{NotStrict}
 use Rattle.table.specs.Table.{range_of}
 use Rattle.table.specs.Shape.{width, cell_in}
 use Rattle.sorting.specs.Keys.{row_name}
@@ -26,7 +31,9 @@ use Rattle.differences.specs.View.{export_key_at}
 use Rattle.differences.specs.Differences.{kind_slug}
 use Rattle.output.specs.Bytes.{Puts, Wrote}
 use Rattle.output.proofs.ByteLaws.{wrote-put}
-use Rattle.reviewed.specs.Texts.{nth, words_of, violation_text, kind_text, removed_text, added_text}
+use Rattle.report.specs.Decimal.{decimal_of}
+use Rattle.reviewed.specs.Texts.{nth, beside_text, violation_text, kind_text, removed_text, added_text}
+use Rattle.reviewed.specs.Words.{offset_w}
 use Rattle.reviewed.specs.Review.{violation_row, removed_row, added_row, shown_name}
 
 -- ---- the same bytes
@@ -37,25 +44,34 @@ module _ {d : List ℕ} {at : ℕ} {go : Bool} {w v : List ℕ} {r : ℕ} {x : L
   pub puts-same : Puts d at go w r x → Wrote d at go v r x
   puts-same p = rw e at (wrote-put d at go w p)
 
--- ---- a number that is no refusal's of a file
-pub no_words : (n : ℕ) → (n ≡ 1 → ⊥) → (n ≡ 2 → ⊥) → (n ≡ 4 → ⊥) → (n ≡ 5 → ⊥) → (n ≡ 6 → ⊥) → (n ≡ 7 → ⊥) → (n ≡ 8 → ⊥)
-    → (n ≡ 13 → ⊥) → (n ≡ 14 → ⊥) → (n ≡ 17 → ⊥) → (n ≡ 18 → ⊥) → (n ≡ 19 → ⊥) → [] ≡ words_of n
-unfolding words_of
-no_words n a b c d e f g h i j k l =
-    rw (
-      ne_eqb n 1 a,
-      ne_eqb n 2 b,
-      ne_eqb n 4 c,
-      ne_eqb n 5 d,
-      ne_eqb n 6 e,
-      ne_eqb n 7 f,
-      ne_eqb n 8 g,
-      ne_eqb n 13 h,
-      ne_eqb n 14 i,
-      ne_eqb n 17 j,
-      ne_eqb n 18 k,
-      ne_eqb n 19 l,
-    )
+-- ---- what stands beside a refusal's place
+pub beside-some : {why : Refusal} {kind offset : ℕ} → why ≡ MalformedSection kind offset
+    → offset_w ++ decimal_of offset ≡ beside_text (number_of why) (beside_of why)
+unfolding beside_text
+beside-some e = rw e
+
+pub beside-none : (why : Refusal) → ((kind offset : ℕ) → why ≡ MalformedSection kind offset → ⊥)
+    → [] ≡ beside_text (number_of why) (beside_of why)
+unfolding beside_text
+beside-none (UnexpectedEof at) h = refl
+beside-none (BadMagic at) h = refl
+beside-none (BadUtf8 at) h = refl
+beside-none (MalformedSection kind offset) h = absurd (h kind offset refl)
+beside-none (Directive at) h = refl
+beside-none (BadDefault at) h = refl
+beside-none (BadDomain at) h = refl
+beside-none (PackageInWorld at) h = refl
+beside-none (NoName at) h = refl
+beside-none (Unmatched at) h = refl
+beside-none (Outside at) h = refl
+beside-none (Full at) h = refl
+beside-none TooLong h = refl
+beside-none (BadTable at) h = refl
+beside-none (NoRoom at) h = refl
+beside-none (TooManyBytes at) h = refl
+beside-none (TenthByte at) h = refl
+beside-none (AboveU32 at) h = refl
+beside-none (NotStrict at) h = refl
 
 -- ---- a policy's name
 pub named-yes : (s : List ℕ) (p : Policy) {n : List ℕ} → n ≡ range_of s p.start p.size → p.named ≡ true → n ≡ shown_name s p
@@ -71,15 +87,6 @@ unfolding shown_name says range_of
 name-said s p e = rw (le-leb _ (length s) (tested s p (read-tested s p e)).name)
 
 -- ---- an import that is not allowed
-pub domain-small : (d : Domain) → domain_number d < 7
-domain-small Filesystem = omega arith
-domain-small Environment = omega arith
-domain-small Clock = omega arith
-domain-small Network = omega arith
-domain-small Random = omega arith
-domain-small Stdio = omega arith
-domain-small Unknown = omega arith
-
 module _ (file imports : List ℕ) (vs : List Verdict) (i : ℕ) where
   pub no-function : {k : ℕ} → k ≡ cell_in 2 imports i 4 → (k ≡ 0 → ⊥) → [] ≡ violation_row file imports vs i
   unfolding violation_row kind_is
@@ -97,13 +104,13 @@ module _ (file imports : List ℕ) (vs : List Verdict) (i : ℕ) where
     a-violation e = rw (← function, eq-eqb k 0 zero, ← domain-is, ← test-is, e, source_is, field_is)
 
 -- ---- an export that is gone
-pub kind-none : (kind : ℕ) → 255 < kind → [] ≡ kind_text kind
+pub kind-none : (kind : ℕ) → (kind < 256 → ⊥) → [] ≡ kind_text kind
 unfolding kind_text
-kind-none kind h = rw (lt-ltb 255 kind h)
+kind-none kind h = rw (lt-ltb 255 kind (omega (arith, h)))
 
-pub kind-some : (kind : ℕ) → kind ≤ 255 → kind_slug kind ≡ kind_text kind
+pub kind-some : {byte kind : ℕ} → (kind < 256) × (byte ≡ kind) → kind_slug byte ≡ kind_text kind
 unfolding kind_text
-kind-some kind h = rw (le-ltb 255 kind h)
+kind-some {byte} {kind} h = rw (h.1, le-ltb 255 kind (omega (arith, h.0)))
 
 module _ (file exports xd : List ℕ) (i : ℕ) {change : ℕ} (change-is : change ≡ cell_in 8 xd i 0) where
   pub removed-some : {row : ℕ} → change ≡ 0 → row ≡ cell_in 8 xd i 1

@@ -1,9 +1,10 @@
 -- docs/RULES.md, "Programs": what `review` prints of a policy, a baseline and a candidate, a function of their paths and bytes.
 -- Assumes nothing.
-use Rattle.std.specs.Prelude.{◌≡◌, Bool, false, List, [], ◌++◌, ℕ, ◌*◌, eqb, ltb, length}
+use Rattle.std.specs.Prelude.{◌≡◌, Bool, false, List, [], ◌++◌, ℕ, ◌*◌, eqb, ltb, length, Result, Ok, Err}
 use Rattle.refusal.specs.Pick.{pick, both}
 use Rattle.refusal.specs.Sizes.{text_limit}
 use Rattle.refusal.specs.Said.{Said, accepted, refused, follow, Place, spot}
+use Rattle.refusal.specs.declared.Refusal.{Refusal}
 use Rattle.table.specs.Table.{laid, cells, range_of}
 use Rattle.table.specs.Shape.{width, cell_in}
 use Rattle.sorting.specs.Keys.{row_name}
@@ -14,7 +15,8 @@ use Rattle.wasm.specs.declared.Module.{Module}
 use Rattle.policy.specs.Reader.{read_policy}
 use Rattle.policy.specs.View.{no_name, says}
 use Rattle.policy.specs.declared.Policy.{Policy}
-use Rattle.verdicts.specs.Evaluate.{Outcome, outcome_of, violates}
+use Rattle.verdicts.specs.Evaluate.{Outcome, outcome_of, no_verdict, seven_of, violates}
+use Rattle.verdicts.specs.declared.Evaluation.{Evaluation}
 use Rattle.verdicts.specs.declared.Verdict.{Verdict}
 use Rattle.requirements.specs.Requirements.{row_domain}
 use Rattle.checking.specs.Checking.{checked_of}
@@ -22,7 +24,8 @@ use Rattle.differences.specs.View.{export_key_at}
 use Rattle.differences.specs.Compared.{Given, given, Lists, compared, verdict_on, export_diff_cells, need_diff_cells}
 use Rattle.reasons.specs.Reasons.{reason_lines, by_change}
 use Rattle.report.specs.Prints.{whole_in}
-use Rattle.reviewed.specs.Words.{policy_path_w, baseline_w, candidate_w, none_w, of_policy_w, of_baseline_w, of_comparison_w, unread_w, no_room_w}
+use Rattle.reviewed.specs.Words.{policy_path_w, baseline_w, candidate_w, none_w, of_policy_w, of_baseline_w, of_comparison_w, unread_w}
+use Rattle.reviewed.specs.Words.{no_room_w}
 use Rattle.reviewed.specs.Texts.{path_text, name_text, counts_text, reason_text, nth, domains_text, compliance_text, violation_text}
 use Rattle.reviewed.specs.Texts.{stand_text, removed_text, added_text, verdict_text, none_text}
 
@@ -149,3 +152,8 @@ pub record BuildRead (file imports exports : List ℕ) (a : Said Module) : Type 
   pub answer-is : a ≡ follow (read_build file) (λ m. accepted (module_of (length file) m))
   pub imports-are : (m : Parsed) → read_build file ≡ accepted m → imports ≡ laid (rows 2) (cells import_cells m.tables.imports)
   pub exports-are : (m : Parsed) → read_build file ≡ accepted m → exports ≡ laid (rows 3) (cells export_cells m.tables.exports)
+
+-- the seven verdicts of a check
+abbrev pub verdicts_in : Result Evaluation Refusal → List Verdict
+verdicts_in (Ok e) = e.verdicts
+verdicts_in (Err why) = seven_of (λ d. no_verdict)

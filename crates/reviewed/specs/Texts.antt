@@ -11,9 +11,11 @@ use Rattle.report.specs.Decimal.{decimal_of}
 use Rattle.report.specs.Words.{refused_w, at_w}
 use Rattle.report.specs.Texts.{lf, refused_text}
 use Rattle.reviewed.specs.Escape.{quoted}
-use Rattle.reviewed.specs.Words.{default_allow_w, default_deny_w, ends_w, magic_w, utf8_w, kind_w, directive_w, bad_default_w, domain_w, full_w, long_w, bytes_many_w}
+use Rattle.reviewed.specs.Words.{default_allow_w, default_deny_w, ends_w, magic_w, utf8_w, kind_w, directive_w, bad_default_w, domain_w}
+use Rattle.reviewed.specs.Words.{full_w, long_w, bytes_many_w}
 use Rattle.reviewed.specs.Words.{tenth_w, above_w, bytes_w, sections_w, imports_w, exports_w, not_w, required_w, allowed_w, violation_w}
-use Rattle.reviewed.specs.Words.{compliant_w, not_compliant_w, not_allowed_w, from_w, stands_w, stands_not_w, pass_w, no_stand_w, no_compliant_w}
+use Rattle.reviewed.specs.Words.{compliant_w, not_compliant_w, not_allowed_w, from_w, stands_w, stands_not_w, pass_w, no_stand_w}
+use Rattle.reviewed.specs.Words.{no_compliant_w}
 use Rattle.reviewed.specs.Words.{neither_w, none_w, offset_w}
 
 -- ---- a file

@@ -11,16 +11,11 @@ use output::bytes::put;
 fn is_plain(b: u8) -> bool
     ensures { result ≡ shown_plain b }
 {
-    if b < 32 {
-        return false;
+    match b {
+        b'"' | b'\\' => false,
+        b' '..=b'~' => true,
+        _ => false,
     }
-    if 126 < b {
-        return false;
-    }
-    if b == b'"' {
-        return false;
-    }
-    b != b'\\'
 }
 
 // A digit of base sixteen, in lower case.
@@ -47,8 +42,8 @@ fn put_name(out: &mut [u8], at: usize, name: &[u8], go: bool) -> usize
     ensures { Wrote out.old at go (escaped name.now) result out.new }
 {
     let mut n = at;
-    for i in 0..name.len() {
-        n = put_shown(out, n, name[i], go);
+    for &b in name {
+        n = put_shown(out, n, b, go);
     }
     n
 }

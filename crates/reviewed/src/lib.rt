@@ -7,7 +7,6 @@ mod rows;
 
 ghost use Rattle.std.specs.Prelude.{◌≡◌, ◌++◌, length};
 ghost use Rattle.wasm.specs.Module.{said_module};
-ghost use Rattle.verdicts.specs.Evaluate.{compliant};
 ghost use Rattle.differences.specs.Compared.{given};
 ghost use Rattle.output.specs.Bytes.{Wrote};
 ghost use Rattle.reasons.specs.Reasons.{reason_lines};
@@ -15,21 +14,21 @@ ghost use Rattle.report.specs.Prints.{Prints, whole_in};
 ghost use Rattle.reviewed.specs.Words.{no_room_w};
 ghost use Rattle.reviewed.specs.Texts.{domains_text, compliance_text};
 ghost use Rattle.reviewed.specs.Review.{file_at, policy_text, rows, BuildRead, build_text, violation_row, compared_text, against_text};
-ghost use Rattle.reviewed.specs.Review.{builds_text, verdict_of, review_of, unread_of, or_no_room};
+ghost use Rattle.reviewed.specs.Review.{builds_text, verdict_of, review_of, unread_of, or_no_room, verdicts_in};
 
 use crate::lines::{
     put_compliance, put_counts, put_domains, put_name, put_none, put_path, put_reason, put_stand,
     put_verdict,
 };
 use crate::rows::{put_gone, put_new, put_violations};
-use compat::{Compared, compare_modules};
+use compat::compare_modules;
 use output::bytes::put;
-use refusal::{Answer, MAX_TEXT, Refusal};
+use refusal::{MAX_TEXT, Refusal};
 use table::shape::{
     EXPORT_DIFF_WIDTH, EXPORT_WIDTH, IMPORT_WIDTH, NAME_WIDTH, NEED_DIFF_WIDTH, SECTION_WIDTH,
 };
-use verdicts::{Evaluation, is_compliant};
-use wasm::ModuleRead;
+use verdicts::{Evaluation, Verdict, is_compliant};
+use wasm::Module;
 
 // Every table has so many rows.
 const ROWS: usize = 1024;
@@ -46,13 +45,19 @@ const EXPORT_DIFFS: usize = ROWS * EXPORT_DIFF_WIDTH;
 
 const NEED_DIFFS: usize = ROWS * NEED_DIFF_WIDTH;
 
+const UNJUDGED: Verdict = Verdict {
+    required: false,
+    allowed: false,
+    many: 0,
+};
+
 // A module of at most 65,536 bytes, with tables 2 and 3 for the caller.
-fn read_build(file: &[u8], imports: &mut [usize], exports: &mut [usize]) -> ModuleRead
+fn read_build(file: &[u8], imports: &mut [usize], exports: &mut [usize]) -> Result<Module, Refusal>
     requires { (length imports.old ≡ rows 2) × (length exports.old ≡ rows 3) }
     ensures { BuildRead file.now imports.new exports.new (said_module result) }
 {
     if file.len() > MAX_TEXT {
-        return ModuleRead::Refused(Refusal::TooLong);
+        return Err(Refusal::TooLong);
     }
     let mut sections = [0usize; SECTIONS];
     let mut names = [0usize; NAMES];
@@ -63,14 +68,9 @@ fn read_build(file: &[u8], imports: &mut [usize], exports: &mut [usize]) -> Modu
 fn put_policy(text: &[u8], out: &mut [u8], at: usize, go: bool) -> usize
     ensures { Wrote out.old at go (policy_text text.now) result out.new }
 {
-    let read = policy::read_policy(text);
-    let answer = read.answer;
-    match answer {
-        Answer::Refused(why) => put_reason(why, out, at, go),
-        Answer::Accepted => {
-            let p = read.policy;
-            put_name(text, p, out, at, go)
-        }
+    match policy::read_policy(text) {
+        Err(why) => put_reason(why, out, at, go),
+        Ok(p) => put_name(text, p, out, at, go),
     }
 }
 
@@ -81,8 +81,8 @@ fn put_build(file: &[u8], out: &mut [u8], at: usize, go: bool) -> usize
     let mut imports = [0usize; IMPORTS];
     let mut exports = [0usize; EXPORTS];
     match read_build(file, &mut imports, &mut exports) {
-        ModuleRead::Refused(why) => put_reason(why, out, at, go),
-        ModuleRead::Module(m) => put_counts(m, out, at, go),
+        Err(why) => put_reason(why, out, at, go),
+        Ok(m) => put_counts(m, out, at, go),
     }
 }
 
@@ -112,23 +112,30 @@ fn put_compared<'a, 'b, 'c, 'd, 'e, 'f>(
     match compare_modules(
         baseline, bi, nbi, be, nbe, candidate, ci, nci, ce, nce, &mut xd, &mut cd,
     ) {
-        Compared::Refused(why) => put_none(b"comparison ", why, out, at, go),
-        Compared::Lists {
-            exports,
-            capabilities,
-            compatible,
-        } => {
-            let a = put_stand(compatible, out, at, go);
-            let b = put_gone(baseline, be, &xd, exports, out, a, go);
-            let c = put_new(candidate, ci, &cd, capabilities, out, b, go);
-            put_verdict(fine, compatible, out, c, go)
+        Err(why) => put_none(b"comparison ", why, out, at, go),
+        Ok(lists) => {
+            let a = put_stand(lists.compatible, out, at, go);
+            let b = put_gone(baseline, be, &xd, lists.exports, out, a, go);
+            let c = put_new(candidate, ci, &cd, lists.capabilities, out, b, go);
+            put_verdict(fine, lists.compatible, out, c, go)
         }
+    }
+}
+
+// The seven verdicts; where the check is refused, nothing is required and nothing allowed.
+fn verdicts_of(checked: Result<Evaluation, Refusal>) -> [Verdict; 7]
+    ensures { result ≡ verdicts_in checked }
+{
+    match checked {
+        Ok(evaluation) => evaluation.verdicts,
+        Err(_) => [UNJUDGED; 7],
     }
 }
 
 // The verdicts of a candidate's check: the seven domains, whether it is compliant, and each import that is not allowed.
 fn put_check(
-    e: Evaluation,
+    fine: bool,
+    verdicts: [Verdict; 7],
     file: &[u8],
     imports: &[usize],
     n: usize,
@@ -136,12 +143,11 @@ fn put_check(
     at: usize,
     go: bool,
 ) -> usize
-    ensures { Wrote out.old at go (domains_text e.verdicts ++ (compliance_text (compliant e) e.verdicts
-        ++ reason_lines (violation_row file.now imports.now e.verdicts) n)) result out.new }
+    ensures { Wrote out.old at go (domains_text verdicts ++ (compliance_text fine verdicts
+        ++ reason_lines (violation_row file.now imports.now verdicts) n)) result out.new }
 {
-    let verdicts = e.verdicts;
     let a = put_domains(verdicts, out, at, go);
-    let b = put_compliance(is_compliant(e), verdicts, out, a, go);
+    let b = put_compliance(fine, verdicts, out, a, go);
     put_violations(file, imports, verdicts, n, out, b, go)
 }
 
@@ -165,25 +171,15 @@ fn put_against<'a, 'b, 'c, 'd, 'e>(
     let mut imports = [0usize; IMPORTS];
     let mut exports = [0usize; EXPORTS];
     match read_build(candidate, &mut imports, &mut exports) {
-        ModuleRead::Refused(why) => put_none(b"", why, out, at, go),
-        ModuleRead::Module(m) => {
-            let e = checking::check_module(candidate, text);
-            let a = put_check(e, candidate, &imports, m.imports, out, at, go);
+        Err(why) => put_none(b"", why, out, at, go),
+        Ok(m) => {
+            let checked = checking::check_module(candidate, text);
+            let fine = is_compliant(checked);
+            let verdicts = verdicts_of(checked);
+            let a = put_check(fine, verdicts, candidate, &imports, m.imports, out, at, go);
             put_compared(
-                is_compliant(e),
-                baseline,
-                bi,
-                nbi,
-                be,
-                nbe,
-                candidate,
-                &imports,
-                m.imports,
-                &exports,
-                m.exports,
-                out,
-                a,
-                go,
+                fine, baseline, bi, nbi, be, nbe, candidate, &imports, m.imports, &exports,
+                m.exports, out, a, go,
             )
         }
     }
@@ -204,8 +200,8 @@ fn put_builds<'a, 'b, 'c>(
     let mut imports = [0usize; IMPORTS];
     let mut exports = [0usize; EXPORTS];
     match read_build(baseline, &mut imports, &mut exports) {
-        ModuleRead::Refused(why) => put_none(b"baseline ", why, out, at, go),
-        ModuleRead::Module(m) => put_against(
+        Err(why) => put_none(b"baseline ", why, out, at, go),
+        Ok(m) => put_against(
             text, baseline, &imports, m.imports, &exports, m.exports, candidate, out, at, go,
         ),
     }
@@ -223,11 +219,9 @@ fn put_verdicts<'a, 'b, 'c>(
     ensures { Wrote out.old at go (verdict_of text.now baseline.now candidate.now)
         result out.new }
 {
-    let read = policy::read_policy(text);
-    let answer = read.answer;
-    match answer {
-        Answer::Refused(why) => put_none(b"policy ", why, out, at, go),
-        Answer::Accepted => put_builds(text, baseline, candidate, out, at, go),
+    match policy::read_policy(text) {
+        Err(why) => put_none(b"policy ", why, out, at, go),
+        Ok(_) => put_builds(text, baseline, candidate, out, at, go),
     }
 }
 

@@ -1,5 +1,6 @@
 // The lines of the report that need no table.
-ghost use Rattle.refusal.specs.Said.{number_of, where_of};
+ghost use Rattle.std.specs.Prelude.{◌≡◌};
+ghost use Rattle.refusal.specs.Said.{number_of, beside_of, where_of};
 ghost use Rattle.table.specs.Table.{range_of};
 ghost use Rattle.output.specs.Bytes.{Wrote};
 ghost use Rattle.report.specs.Decimal.{decimal_of};
@@ -15,11 +16,6 @@ use refusal::Refusal;
 use report::line::Line;
 use verdicts::{Verdict, is_violation};
 use wasm::Module;
-
-const DOMAINS: usize = 7;
-
-// The refusal of an import of unknown kind.
-const BAD_KIND: usize = 5;
 
 // The bytes of a text by value.
 fn put_line(l: Line, out: &mut [u8], at: usize, go: bool) -> usize
@@ -80,49 +76,51 @@ pub(crate) fn put_counts(m: Module, out: &mut [u8], at: usize, go: bool) -> usiz
     put(out, h, b"\n", go)
 }
 
-// What a refusal means, by its number.
-fn put_words(number: usize, out: &mut [u8], at: usize, go: bool) -> usize
-    ensures { Wrote out.old at go (words_of number) result out.new }
+// What a refusal means; nothing where no file is refused so.
+#[tactic(auto, unfolding(crate::specs::Texts::words_of))]
+fn words_of(why: Refusal) -> &'static [u8]
+    ensures { result.now ≡ words_of (number_of why) }
 {
-    match number {
-        1 => put(out, at, b": the bytes end too soon", go),
-        2 => put(out, at, b": not a WebAssembly module", go),
-        4 => put(out, at, b": not well-formed UTF-8", go),
-        5 => put(out, at, b": an import of unknown kind", go),
-        6 => put(out, at, b": a line that is no directive", go),
-        7 => put(out, at, b": a default that is neither allow nor deny", go),
-        8 => put(out, at, b": no such domain", go),
-        13 => put(out, at, b": more entries than are taken", go),
-        14 => put(out, at, b": longer than 65,536 bytes", go),
-        17 => put(out, at, b": a number of more than ten bytes", go),
-        18 => put(out, at, b": a number whose tenth byte is too large", go),
-        19 => put(out, at, b": a number above 4,294,967,295", go),
-        _ => at,
+    match why {
+        Refusal::UnexpectedEof(_) => b": the bytes end too soon",
+        Refusal::BadMagic(_) => b": not a WebAssembly module",
+        Refusal::BadUtf8(_) => b": not well-formed UTF-8",
+        Refusal::MalformedSection(_, _) => b": an import of unknown kind",
+        Refusal::Directive(_) => b": a line that is no directive",
+        Refusal::BadDefault(_) => b": a default that is neither allow nor deny",
+        Refusal::BadDomain(_) => b": no such domain",
+        Refusal::Full(_) => b": more entries than are taken",
+        Refusal::TooLong => b": longer than 65,536 bytes",
+        Refusal::TooManyBytes(_) => b": a number of more than ten bytes",
+        Refusal::TenthByte(_) => b": a number whose tenth byte is too large",
+        Refusal::AboveU32(_) => b": a number above 4,294,967,295",
+        _ => b"",
     }
 }
 
-// After 5, where in the file the kind byte is.
-fn put_beside(number: usize, offset: usize, out: &mut [u8], at: usize, go: bool) -> usize
-    ensures { Wrote out.old at go (beside_text number offset) result out.new }
+// Of an import of unknown kind, where in the file the kind byte is.
+fn put_beside(why: Refusal, out: &mut [u8], at: usize, go: bool) -> usize
+    ensures { Wrote out.old at go (beside_text (number_of why) (beside_of why)) result out.new }
 {
-    if number == BAD_KIND {
-        let a = put(out, at, b", offset ", go);
-        return put_number(offset, out, a, go);
+    match why {
+        Refusal::MalformedSection(_, offset) => {
+            let a = put(out, at, b", offset ", go);
+            put_number(offset, out, a, go)
+        }
+        _ => at,
     }
-    at
 }
 
 // Below its path, why a file is refused.
 pub(crate) fn put_reason(why: Refusal, out: &mut [u8], at: usize, go: bool) -> usize
     ensures { Wrote out.old at go (reason_text (number_of why) (where_of why)) result out.new }
 {
-    let number = refusal::number(why) as usize;
     let a = put(out, at, b"  refused ", go);
-    let b = put_number(number, out, a, go);
+    let b = put_number(refusal::number(why) as usize, out, a, go);
     let c = put(out, b, b" at ", go);
     let d = put_number(refusal::place(why), out, c, go);
-    let e = put_beside(number, refusal::beside(why), out, d, go);
-    let f = put_words(number, out, e, go);
+    let e = put_beside(why, out, d, go);
+    let f = put(out, e, words_of(why), go);
     put(out, f, b"\n", go)
 }
 
@@ -167,10 +165,8 @@ pub(crate) fn put_domains(verdicts: [Verdict; 7], out: &mut [u8], at: usize, go:
     ensures { Wrote out.old at go (domains_text verdicts) result out.new }
 {
     let mut m = at;
-    let mut d = 0;
-    while d < DOMAINS {
-        m = put_verdict_of(d, verdicts[d], out, m, go);
-        d += 1;
+    for (d, &v) in verdicts.iter().enumerate() {
+        m = put_verdict_of(d, v, out, m, go);
     }
     m
 }
@@ -190,10 +186,8 @@ fn put_all_violated(verdicts: [Verdict; 7], out: &mut [u8], at: usize, go: bool)
     ensures { Wrote out.old at go (violated_texts verdicts) result out.new }
 {
     let mut m = at;
-    let mut d = 0;
-    while d < DOMAINS {
-        m = put_violated(d, verdicts[d], out, m, go);
-        d += 1;
+    for (d, &v) in verdicts.iter().enumerate() {
+        m = put_violated(d, v, out, m, go);
     }
     m
 }
@@ -236,19 +230,22 @@ pub(crate) fn put_stand(yes: bool, out: &mut [u8], at: usize, go: bool) -> usize
 }
 
 // The last line: whether the candidate is compliant, and can stand in for the baseline.
+#[tactic(auto, unfolding(crate::specs::Texts::verdict_text))]
+fn verdict_line(fine: bool, stands: bool) -> &'static [u8]
+    ensures { result.now ≡ verdict_text fine stands }
+{
+    match (fine, stands) {
+        (true, true) => b"verdict: pass\n",
+        (true, false) => b"verdict: fail, no stand-in\n",
+        (false, true) => b"verdict: fail, not compliant\n",
+        (false, false) => b"verdict: fail, not compliant, no stand-in\n",
+    }
+}
+
 pub(crate) fn put_verdict(fine: bool, stands: bool, out: &mut [u8], at: usize, go: bool) -> usize
     ensures { Wrote out.old at go (verdict_text fine stands) result out.new }
 {
-    if fine {
-        if stands {
-            return put(out, at, b"verdict: pass\n", go);
-        }
-        return put(out, at, b"verdict: fail, no stand-in\n", go);
-    }
-    if stands {
-        return put(out, at, b"verdict: fail, not compliant\n", go);
-    }
-    put(out, at, b"verdict: fail, not compliant, no stand-in\n", go)
+    put(out, at, verdict_line(fine, stands), go)
 }
 
 // The last line where there is no verdict.

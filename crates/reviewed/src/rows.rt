@@ -1,5 +1,5 @@
 // A line for each row of a table that is to be told.
-ghost use Rattle.std.specs.Prelude.{◌≡◌, ◌<◌};
+ghost use Rattle.std.specs.Prelude.{◌≡◌};
 ghost use Rattle.table.specs.Shape.{width};
 ghost use Rattle.sorting.specs.Keys.{row_name};
 ghost use Rattle.domains.specs.Domain.{domain_number};
@@ -18,18 +18,10 @@ use output::bytes::{put, put_domain};
 use table::shape::{EXPORT_DIFF_WIDTH, EXPORT_WIDTH, IMPORT_WIDTH, NEED_DIFF_WIDTH};
 use verdicts::{Verdict, is_violation};
 
-// A verdict by its domain's number.
-fn violates_at(verdicts: [Verdict; 7], d: usize) -> bool
-    requires { d < 7 }
-    ensures { result ≡ violates (nth verdicts d) }
-{
-    is_violation(verdicts[d])
-}
-
 fn violated(verdicts: [Verdict; 7], domain: Domain) -> bool
     ensures { result ≡ violates (nth verdicts (domain_number domain)) }
 {
-    violates_at(verdicts, domain_number(domain))
+    is_violation(verdicts[domain_number(domain)])
 }
 
 fn put_violation(
@@ -98,10 +90,8 @@ pub(crate) fn put_violations(
         result out.new }
 {
     let mut m = at;
-    let mut i = 0;
-    while i < n {
+    for i in 0..n {
         m = put_violation_row(file, imports, verdicts, i, out, m, go);
-        i += 1;
     }
     m
 }
@@ -110,10 +100,10 @@ pub(crate) fn put_violations(
 fn put_kind(kind: usize, out: &mut [u8], at: usize, go: bool) -> usize
     ensures { Wrote out.old at go (kind_text kind) result out.new }
 {
-    if kind > 255 {
+    let Ok(kind) = u8::try_from(kind) else {
         return at;
-    }
-    let word = kind_slug(kind_of(kind as u8));
+    };
+    let word = kind_slug(kind_of(kind));
     let bytes = word.bytes;
     let n = word.len;
     put(out, at, &bytes[..n], go)
@@ -175,10 +165,8 @@ pub(crate) fn put_gone(
         result out.new }
 {
     let mut m = at;
-    let mut i = 0;
-    while i < n {
+    for i in 0..n {
         m = put_removed_row(file, exports, xd, i, out, m, go);
-        i += 1;
     }
     m
 }
@@ -240,10 +228,8 @@ pub(crate) fn put_new(
         result out.new }
 {
     let mut m = at;
-    let mut i = 0;
-    while i < n {
+    for i in 0..n {
         m = put_added_row(file, imports, cd, i, out, m, go);
-        i += 1;
     }
     m
 }

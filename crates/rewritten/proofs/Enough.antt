@@ -118,12 +118,6 @@ pub promised : (s d : List ℕ) {r : ℕ} {x : List ℕ} → Prints (printed_in 
 promised s d {r} {x} p =
     (p, ((λ h. subst (λ (w : List ℕ). Prints w d r x) (same-in-room s (length d) h) p), within (printed_in (length d) s) d p))
 
--- ---- by what the reader said
-module _ (s d : List ℕ) {r : ℕ} {x : List ℕ} {o : Said (List ℕ)} (e : o ≡ follow (read_policy s) (λ p. written s p (length d))) where
-  pub read_told : Prints (told_in (length d) o) d r x → Prints (printed_in (length d) s) d r x
-  unfolding printed_in
-  read_told p = subst (λ (o : Said (List ℕ)). Prints (told_in (length d) o) d r x) e p
-
 -- ---- the claims
 too_long : (s : List ℕ) → text_limit < length s
     → printed_of s ≡ 114 ∷ 101 ∷ 102 ∷ 117 ∷ 115 ∷ 101 ∷ 100 ∷ 32 ∷ 49 ∷ 52 ∷ 32 ∷ 97 ∷ 116 ∷ 32 ∷ 48 ∷ 10 ∷ []

@@ -23,7 +23,8 @@ use Rattle.text.specs.Piece.{Piece, beyond, trim, shorn}
 use Rattle.text.specs.Whole.{whole_text}
 use Rattle.text.proofs.FindLaws.{same-is}
 use Rattle.text.proofs.PieceLaws.{trim-bytes, begins-le}
-use Rattle.domains.specs.Domain.{Perhaps, nothing, just, domain_of, words, word_in, slug, slugs, fs, env, clock, network, random, stdio, unknown}
+use Rattle.domains.specs.Domain.{Perhaps, nothing, just, domain_of, words, word_in, slug, slugs, fs, env, clock, network, random, stdio}
+use Rattle.domains.specs.Domain.{unknown}
 use Rattle.domains.specs.Domain.{net, rand}
 use Rattle.policy.specs.Piece.{until, past_byte, bare, quotes, lines_from, lines_of}
 use Rattle.policy.specs.Directive.{policy_w, default_w, allow_w, deny_w, allow, deny, Directive, blank, wrong, called, preset, plain}
@@ -35,7 +36,8 @@ use Rattle.policy.specs.View.{says}
 use Rattle.policy.specs.declared.Policy.{Policy}
 use Rattle.policy.proofs.Lines.{lines_next, step_less}
 use Rattle.policy.proofs.Meaning.{view, map_said, policy-means}
-use Rattle.policy_text.specs.Writer.{stance_word, name_line, default_line, joined, list_part, rule_line, rule_lines, form_lines, unlines, form}
+use Rattle.policy_text.specs.Writer.{stance_word, name_line, default_line, joined, list_part, rule_line, rule_lines, form_lines}
+use Rattle.policy_text.specs.Writer.{unlines, form}
 use Rattle.policy_text.proofs.Rewrite.{read-seven, says-view}
 
 -- ---- a list of tokens

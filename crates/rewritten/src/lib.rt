@@ -2,14 +2,15 @@
 #![tactic(auto)]
 
 ghost use Rattle.std.specs.Prelude.{◌≤◌, length};
-ghost use Rattle.refusal.specs.Said.{number_of, place_of};
+ghost use Rattle.refusal.specs.Said.{number_of, place_of, follow};
+ghost use Rattle.policy.specs.Reader.{read_policy};
 ghost use Rattle.policy_text.specs.Writer.{written};
+ghost use Rattle.output.specs.Bytes.{WriterTells};
 ghost use Rattle.report.specs.Prints.{Prints, whole_in};
 ghost use Rattle.report.specs.Texts.{refused_text};
-ghost use Rattle.rewritten.specs.Printed.{told_in, printed_in, printed_of, enough};
+ghost use Rattle.rewritten.specs.Printed.{printed_in, printed_of, enough};
 
-use policy::Policy;
-use refusal::{Answer, Refusal, Written};
+use refusal::Refusal;
 
 // The line of a refusal, where there is room for it.
 fn put_refusal(why: Refusal, out: &mut [u8]) -> usize
@@ -25,15 +26,12 @@ fn put_refusal(why: Refusal, out: &mut [u8]) -> usize
     output::bytes::put(out, 0, text, true)
 }
 
-// A policy that was read, written again; or the line of why it was not.
-fn put_policy(text: &[u8], p: Policy, out: &mut [u8]) -> usize
-    ensures { Prints (told_in (length out.old) (written text.now p (length out.old)))
-        out.old result out.new }
+// A policy that is read, and written again.
+fn put_policy(text: &[u8], out: &mut [u8]) -> Result<usize, Refusal>
+    ensures { WriterTells (follow (read_policy text.now) (λ p. written text.now p (length out.old))) out.old result out.new }
 {
-    match policy_text::write_policy(text, p, out) {
-        Written::Refused(why) => put_refusal(why, out),
-        Written::Bytes(n) => n,
-    }
+    let p = policy::read_policy(text)?;
+    policy_text::write_policy(text, p, out)
 }
 
 // The policy's text in the writer's one form, or `refused N at P`; and how many bytes that is. Nothing past them is touched.
@@ -42,13 +40,8 @@ pub fn rewrite_text(text: &[u8], out: &mut [u8]) -> usize
     ensures prints_2 { enough ≤ length out.old → Prints (printed_of text.now) out.old result out.new }
     ensures upper_bound { result ≤ length out.new }
 {
-    let read = policy::read_policy(text);
-    let answer = read.answer;
-    match answer {
-        Answer::Refused(why) => put_refusal(why, out),
-        Answer::Accepted => {
-            let p = read.policy;
-            put_policy(text, p, out)
-        }
+    match put_policy(text, out) {
+        Err(why) => put_refusal(why, out),
+        Ok(n) => n,
     }
 }

@@ -1,4 +1,5 @@
 -- The examples, computed from the bytes of the files and texts. Assumes nothing.
+use Rattle.std.specs.Prelude.{None}
 use mathlib.Core.Path.{◌≡◌, refl, sym, ◌∙◌, ap}
 use mathlib.Core.Bool.{true, false}
 use mathlib.Core.List.{List, [], ◌∷◌}
@@ -39,7 +40,7 @@ use Rattle.domains.specs.Domain.{words, word_in, domain_of, slugs, slug}
 use Rattle.domains.specs.Classify as Classify
 use Rattle.domains.specs.Classify.{classed_by, preview, heads, head_of, path_domain, import_domain}
 use Rattle.policy.specs.declared.Policy.{Policy}
-use Rattle.policy.specs.declared.Stance.TheVariants.{None, Allow}
+use Rattle.policy.specs.declared.Stance.TheVariants as Stance
 use Rattle.policy.specs.Piece.{quotes, bare, lines_from, lines_of}
 use Rattle.policy.specs.Directive.{defaulted, plain_by, listed_by, rule_directive, policy_worded, policy_spoken, policy_core}
 use Rattle.policy.specs.Directive.{policy_directive, fault}
@@ -49,7 +50,8 @@ use Rattle.requirements.specs.Requirements.{module_rows}
 use Rattle.checking.specs.Checking.{weighed, held_to, read_then, checked_of}
 use Rattle.differences.specs.declared.Change.TheVariants.{Removed, Added}
 use Rattle.differences.specs.View.{ExportKey, Need, export_key_at, need_at}
-use Rattle.differences.specs.Differences.{Entry, entry, cmp_export, cmp_need, has_key, export_order, need_order, export_diff, need_diff, has_no}
+use Rattle.differences.specs.Differences.{Entry, entry, cmp_export, cmp_need, has_key, export_order, need_order, export_diff, need_diff}
+use Rattle.differences.specs.Differences.{has_no}
 use Rattle.differences.specs.Compared.{lists, viewed, verdict_on}
 use Rattle.listed.specs.Comparisons.{build}
 use Rattle.standin.specs.Passing.{witness}
@@ -72,7 +74,7 @@ read_of size exports =
             record { id = 2; from = 10; size = 7; name = part 0 0 } ∷ record { id = 7; from = 19; size = size; name = part 0 0 } ∷ [];
         imports = record { «module» = part 12 1; field = part 14 1; kind = 0; desc = func 0 } ∷ [];
         exports = exports;
-        names = record { label = record { named = false; start = 0; size = 0 }; symbols = [] };
+        names = record { label = None; symbols = [] };
       };
     }
 
@@ -142,7 +144,7 @@ answered f g es ns v = record { all = v.all; answers = v.answers }
 -- what `allow clock` is read as
 abbrev clock_policy : Policy
 clock_policy =
-    record { named = false; start = 0; size = 0; permit = false; rules = set (replicate 7 (slot None 0 0)) 2 (slot Allow 0 0) }
+    record { named = false; start = 0; size = 0; permit = false; rules = set (replicate 7 (slot Stance.None 0 0)) 2 (slot Stance.Allow 0 0) }
 
 checked : (checked_of (sole 2) clock_alone ≡ accepted (outcome clock_policy (2 ∷ [])))
     × (checked_of (sole 2) all_but_network ≡ accepted (outcome (all_but 3) (2 ∷ [])))

@@ -1,4 +1,5 @@
 -- The seven files that need one domain each, computed from their bytes. Assumes nothing.
+use Rattle.std.specs.Prelude.{None}
 use mathlib.Core.Path.{◌≡◌, refl}
 use mathlib.Core.Bool.{false}
 use mathlib.Core.List.{[], ◌∷◌}
@@ -58,7 +59,7 @@ sole_read d =
             }
             ∷ [];
         exports = [];
-        names = record { label = record { named = false; start = 0; size = 0 }; symbols = [] };
+        names = record { label = None; symbols = [] };
       };
     }
 

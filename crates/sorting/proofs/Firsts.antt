@@ -6,16 +6,16 @@ use mathlib.Core.List.{List, [], ◌∷◌}
 use Prim.Native.Nat.{ℕ, ◌≤◌, ◌<◌}
 use native.Mathlib.Omega.{arith}
 use Rattle.text.specs.Order.{flip}
-use Rattle.text.specs.declared.order.Order.{Order}
-use Rattle.text.specs.declared.order.Order.TheVariants.{Less, Equal, Greater}
+use Rattle.std.specs.declared.cmp.Ordering.{Ordering}
+use Rattle.std.specs.declared.cmp.Ordering.TheVariants.{Less, Equal, Greater}
 use Rattle.sorting.specs.Order.{Lawful}
 use Rattle.sorting.specs.Sort.{◌∈◌, place, put_in_order, sort, Ascending, First}
 use Rattle.sorting.proofs.Sorts.{before-lt, before-eq, mem-before, put_has, sort-ascends}
 
-apart-tie : {o : Order} → o ≡ Less → o ≡ Equal → ⊥
+apart-tie : {o : Ordering} → o ≡ Less → o ≡ Equal → ⊥
 apart-tie p q = let z : ◌≡◌ {A = ℕ} 0 1 = cc in omega arith
 
-module _ {A : Type 0} (cmp : A → A → Order) (laws : Lawful cmp) where
+module _ {A : Type 0} (cmp : A → A → Ordering) (laws : Lawful cmp) where
   lt-no-tie : (x e : A) → cmp x e ≡ Less → cmp e x ≡ Equal → ⊥
   lt-no-tie x e h k = apart-tie h (laws.turn e x ∙ ap flip k)
 
@@ -23,7 +23,7 @@ module _ {A : Type 0} (cmp : A → A → Order) (laws : Lawful cmp) where
   put_first x e [] a m = ⊎_elim inl (λ t. absurd (Memᴰ.not-nil t)) (Memᴰ.cases_cons m)
   put_first x e (y ∷ l) a m = go (cmp x y) refl m (put_first x e l a.1)
     where
-      go : (o : Order) → cmp x y ≡ o → e ∈ place o x y l (put_in_order cmp x l)
+      go : (o : Ordering) → cmp x y ≡ o → e ∈ place o x y l (put_in_order cmp x l)
           → (e ∈ put_in_order cmp x l → (e ≡ x) ⊎ ((cmp e x ≡ Equal → ⊥) × (e ∈ l))) → (e ≡ x) ⊎ ((cmp e x ≡ Equal → ⊥) × (e ∈ (y ∷ l)))
       go Less h i ih =
           ⊎_elim inl (λ t. inr (lt-no-tie x e (mem-before cmp laws x e (y ∷ l) (h, before-lt cmp laws x y l h a.0) t), t))
@@ -40,7 +40,7 @@ module _ {A : Type 0} (cmp : A → A → Order) (laws : Lawful cmp) where
   put_rest x e [] n m = absurd (Memᴰ.not-nil m)
   put_rest x e (y ∷ l) n m = go (cmp x y) refl (Memᴰ.cases_cons m) (put_rest x e l n)
     where
-      go : (o : Order) → cmp x y ≡ o → (e ≡ y) ⊎ (e ∈ l) → (e ∈ l → e ∈ put_in_order cmp x l) → e ∈ place o x y l (put_in_order cmp x l)
+      go : (o : Ordering) → cmp x y ≡ o → (e ≡ y) ⊎ (e ∈ l) → (e ∈ l → e ∈ put_in_order cmp x l) → e ∈ place o x y l (put_in_order cmp x l)
       go Less h i ih = Memᴰ.tail m
       go Equal h (inl p) ih = absurd (n (subst (λ (z : A). cmp z x ≡ Equal) (sym p) (laws.turn x y ∙ ap flip h)))
       go Equal h (inr t) ih = Memᴰ.tail t

@@ -1,4 +1,5 @@
 -- A table that is filled with a sorted list, row by row. Assumes nothing.
+use Rattle.std.specs.Prelude.{Option, Some, None, Ok, Err}
 use mathlib.Core.Path.{◌≡◌, refl, sym, ◌∙◌, ap, subst}
 use mathlib.Core.Bool.{Bool, true, false}
 use mathlib.Core.List.{List, [], ◌∷◌, ◌++◌, append_assoc}
@@ -8,7 +9,7 @@ use native.Mathlib.Omega.{arith}
 use lib.ListN.{length, take, drop, set, replicate, length-append, length-drop, length-replicate, take-append-drop}
 use lib.Seq.{take-take, length-take-le, set_split, drop-append-le, take_at, drop-append-add, drop-drop}
 use borrow.Author.Tests.{le-leb, lt-leb}
-use Rattle.text.specs.declared.order.Order.{Order}
+use Rattle.std.specs.declared.cmp.Ordering.{Ordering}
 use Rattle.table.specs.Table.{laid}
 use Rattle.table.specs.Entries.{finished, fitting}
 use Rattle.refusal.proofs.Following.{never}
@@ -17,25 +18,22 @@ use Rattle.sorting.specs.Order.{Lawful}
 use Rattle.sorting.specs.Sort.{put_in_order, sort, selected, up_from}
 use Rattle.sorting.specs.Keys.{said_sorted, Sorts}
 use Rattle.sorting.specs.Filling.{Placed, Ordered, Filled, Inserted, inserted}
-use Rattle.sorting.specs.declared.Place.TheVariants.{Before, Over}
-use Rattle.sorting.specs.declared.Sorted.{Sorted}
-use Rattle.sorting.specs.declared.Sorted.TheVariants.{Rows, Full}
 use Rattle.sorting.proofs.Sorts.{put-grows, sort-ascends}
 
 -- ---- a row put in, at either kind of place
-module _ (cmp : ℕ → ℕ → Order) (x : ℕ) (table : List ℕ) (k p : ℕ) where
+module _ (cmp : ℕ → ℕ → Ordering) (x : ℕ) (table : List ℕ) (k p : ℕ) where
   -- the list has one row more
-  pub placed-more : k ≤ length table → Placed cmp x (take k table) (Before p) → k + 1 ≡ length (put_in_order cmp x (take k table))
+  pub placed-more : k ≤ length table → Placed cmp x (take k table) (Err p) → k + 1 ≡ length (put_in_order cmp x (take k table))
   placed-more h g =
       let n : length (take k table) ≡ k = length-take-le k table h in
       let q : p ≤ length (take k table) = g.within in
       rw g.put_is (simp (length-append, length-drop, length-take-le p (take k table) q) (omega arith))
 
-  pub placed-full : k ≤ length table → length table ≤ k → Placed cmp x (take k table) (Before p)
+  pub placed-full : k ≤ length table → length table ≤ k → Placed cmp x (take k table) (Err p)
       → length table < length (put_in_order cmp x (take k table))
   placed-full h f g = omega (arith, placed-more h g)
 
-  pub filled-before : k < length table → Placed cmp x (take k table) (Before p)
+  pub filled-before : k < length table → Placed cmp x (take k table) (Err p)
       → Filled (put_in_order cmp x (take k table)) table (inserted table p k x) (k + 1)
   filled-before h g =
       let n : length (take k table) ≡ k = length-take-le k table (omega arith) in
@@ -45,7 +43,7 @@ module _ (cmp : ℕ → ℕ → Order) (x : ℕ) (table : List ℕ) (k p : ℕ) 
         holds = rw (g.put_is, add-one, append_assoc, take-take p k table (omega arith));
       }
 
-  pub filled-over : k ≤ length table → Placed cmp x (take k table) (Over p)
+  pub filled-over : k ≤ length table → Placed cmp x (take k table) (Ok p)
       → Filled (put_in_order cmp x (take k table)) table (set table p x) k
   filled-over h g =
       let n : length (take k table) ≡ k = length-take-le k table h in
@@ -80,7 +78,7 @@ drop_past l before k r e h =
     ∙ ap (λ (m : ℕ). drop m before) b
 
 -- ---- a table that is filled with the sorted list of some rows l
-module _ (cmp : ℕ → ℕ → Order) (laws : Lawful cmp) (l before table : List ℕ) (k : ℕ) (f : Filled (sort cmp l) before table k) where
+module _ (cmp : ℕ → ℕ → Ordering) (laws : Lawful cmp) (l before table : List ℕ) (k : ℕ) (f : Filled (sort cmp l) before table k) where
   -- it is in order
   pub filled-ordered : length table ≡ length before → Ordered cmp table k
   filled-ordered e =
@@ -90,10 +88,11 @@ module _ (cmp : ℕ → ℕ → Order) (laws : Lawful cmp) (l before table : Lis
       }
 
   -- and with one more row put in, it is filled with that of the row and l
-  pub filled-step : (x : ℕ) (after : List ℕ) {s : Sorted} (r : ℕ) → s ≡ Rows r → Inserted (put_in_order cmp x (take k table)) table after s
-      → Filled (sort cmp (x ∷ l)) before after r
+  pub filled-step : (x : ℕ) (after : List ℕ) {s : Option ℕ} (r : ℕ) → s ≡ Some r
+      → Inserted (put_in_order cmp x (take k table)) table after s → Filled (sort cmp (x ∷ l)) before after r
   filled-step x after r q h =
-      let g : Filled (put_in_order cmp x (take k table)) table after r = subst (Inserted (put_in_order cmp x (take k table)) table after) q h in
+      let g : Filled (put_in_order cmp x (take k table)) table after r =
+      subst (Inserted (put_in_order cmp x (take k table)) table after) q h in
       let e = filled-take (sort cmp l) before table k f in
       let p : put_in_order cmp x (take k table) ≡ sort cmp (x ∷ l) = ap (put_in_order cmp x) e in
       let more : k ≤ r = omega (arith, g.count, f.count, put-grows cmp x (take k table), ap length e) in
@@ -107,7 +106,7 @@ module _ (cmp : ℕ → ℕ → Order) (laws : Lawful cmp) (l before table : Lis
       }
 
   -- or the list of the row and l is longer than the table
-  pub full-step : (x : ℕ) (after : List ℕ) {s : Sorted} → s ≡ Full → Inserted (put_in_order cmp x (take k table)) table after s
+  pub full-step : (x : ℕ) (after : List ℕ) {s : Option ℕ} → s ≡ None → Inserted (put_in_order cmp x (take k table)) table after s
       → length table < length (sort cmp (x ∷ l))
   full-step x after q h =
       let g : length table < length (put_in_order cmp x (take k table)) = subst
@@ -115,7 +114,7 @@ module _ (cmp : ℕ → ℕ → Order) (laws : Lawful cmp) (l before table : Lis
       rw (filled-take (sort cmp l) before table k f) at g
 
 -- the list replaced by an equal one
-pub filled-as : (cmp : ℕ → ℕ → Order) {l m before table : List ℕ} {k : ℕ} → l ≡ m → Filled (sort cmp l) before table k
+pub filled-as : (cmp : ℕ → ℕ → Ordering) {l m before table : List ℕ} {k : ℕ} → l ≡ m → Filled (sort cmp l) before table k
     → Filled (sort cmp m) before table k
 filled-as cmp {before = before} {table} {k} e f = subst (λ (t : List ℕ). Filled (sort cmp t) before table k) e f
 
@@ -128,9 +127,6 @@ rows_step n i j h b =
     let e : n - j ≡ suc (n - i) = omega arith in
     let d : suc j ≡ i = omega arith in
     ap (up_from j) e ∙ ap (λ (m : ℕ). j ∷ up_from m (n - i)) d
-
-pub kept-none : (p : ℕ → Bool) (n i : ℕ) → n ≤ i → kept_from p i n ≡ []
-kept-none p n i h = let e : n - i ≡ 0 = omega arith in ap (λ (m : ℕ). selected p (up_from i m)) e
 
 pub kept-yes : (p : ℕ → Bool) (n i j : ℕ) → j + 1 ≡ i → i ≤ n → p j ≡ true → kept_from p j n ≡ j ∷ kept_from p i n
 kept-yes p n i j h b t = ap (selected p) (rows_step n i j h b) ∙ rw t
@@ -145,7 +141,7 @@ kept-all p n i h =
     ap (λ (m : ℕ). selected p (up_from i m)) d ∙ ap (λ (m : ℕ). selected p (up_from m n)) e
 
 -- the list only grows towards the first row
-pub kept-grows : (cmp : ℕ → ℕ → Order) (p : ℕ → Bool) (n i : ℕ) → i ≤ n
+pub kept-grows : (cmp : ℕ → ℕ → Ordering) (p : ℕ → Bool) (n i : ℕ) → i ≤ n
     → length (sort cmp (kept_from p i n)) ≤ length (sort cmp (selected p (up_from 0 n)))
 kept-grows cmp p n zero h = omega (arith, ap (λ (l : List ℕ). length (sort cmp l)) (kept-all p n zero (omega arith)))
 kept-grows cmp p n (suc i) h = by (p i) refl (kept-grows cmp p n i (omega arith))
@@ -161,7 +157,7 @@ kept-grows cmp p n (suc i) h = by (p i) refl (kept-grows cmp p n i (omega arith)
 
 -- ---- the two ends
 pub sorts-rows : (l before zeros after : List ℕ) (k : ℕ) → zeros ≡ laid (length before) [] → Filled l zeros after k
-    → length after ≡ length zeros → Sorts l before after (Rows k)
+    → length after ≡ length zeros → Sorts l before after (Some k)
 unfolding laid finished fitting
 sorts-rows l before zeros after k z f e =
     let n : length zeros ≡ length before = ap length z ∙ simp length-replicate (omega arith) in
@@ -175,7 +171,7 @@ sorts-rows l before zeros after k z f e =
       table_is = rw (le-leb (length l) (length before) fits) (f.holds ∙ ap (λ (t : List ℕ). l ++ t) rest);
     }
 
-pub sorts-full : (l before after : List ℕ) → length before < length l → after ≡ laid (length before) [] → Sorts l before after Full
+pub sorts-full : (l before after : List ℕ) → length before < length l → after ≡ laid (length before) [] → Sorts l before after None
 unfolding finished fitting
 sorts-full l before after h e =
     record {
@@ -184,13 +180,13 @@ sorts-full l before after h e =
     }
 
 -- the paper's words tell the answer
-pub said-known : (r s : Sorted) → said_sorted 0 r ≡ said_sorted 0 s → r ≡ s
-said-known (Rows m) (Rows n) e = let q : m ≡ n = cc in ap Rows q
-said-known (Rows m) Full e = absurd (never (sym e))
-said-known Full (Rows n) e = absurd (never e)
-said-known Full Full e = refl
+pub said-known : (r s : Option ℕ) → said_sorted 0 r ≡ said_sorted 0 s → r ≡ s
+said-known (Some m) (Some n) e = let q : m ≡ n = cc in ap Some q
+said-known (Some m) None e = absurd (never (sym e))
+said-known None (Some n) e = absurd (never e)
+said-known None None e = refl
 
 -- at most one answer, and one content of the table
-pub sorts-unique : {l before a b : List ℕ} {r s : Sorted} → Sorts l before a r → Sorts l before b s → (r ≡ s) × (a ≡ b)
+pub sorts-unique : {l before a b : List ℕ} {r s : Option ℕ} → Sorts l before a r → Sorts l before b s → (r ≡ s) × (a ≡ b)
 sorts-unique {r = r} {s = s} f g =
     (said-known r s (f.answer-is 0 ∙ sym (g.answer-is 0)), f.table_is ∙ sym g.table_is)

@@ -6,7 +6,7 @@ use mathlib.Core.List.{List, [], ◌∷◌, ◌++◌, map}
 use Prim.Native.Nat.{ℕ, zero, suc}
 use lib.ListN.{length, get_or}
 use Rattle.refusal.specs.Pick.{pick}
-use Rattle.text.specs.declared.order.Order.{Order}
+use Rattle.std.specs.declared.cmp.Ordering.{Ordering}
 use Rattle.sorting.specs.Order.{Lawful, on}
 use Rattle.sorting.specs.Sort.{◌∈◌, put_in_order, sort, selected, up_from, rows_at}
 use Rattle.sorting.proofs.Sorts.{sort-map, sort-only}
@@ -41,7 +41,7 @@ module _ {A : Type 0} (d : A) where
   all-rows (x ∷ l) = ap (◌∷◌ x) (shift-up x l 0 (length l) ∙ all-rows l)
 
   -- the numbers of the rows that pass a test, sorted by comparing the rows, name the sorted list of these rows
-  pub sort-numbers : (cmp : A → A → Order) (p : A → Bool) (l : List A) → let row : ℕ → A = λ i. get_or l i d in
+  pub sort-numbers : (cmp : A → A → Ordering) (p : A → Bool) (l : List A) → let row : ℕ → A = λ i. get_or l i d in
       rows_at d l (sort (on cmp row) (selected (λ i. p (row i)) (up_from 0 (length l)))) ≡ sort cmp (selected p l)
   sort-numbers cmp p l =
       let row : ℕ → A = λ i. get_or l i d in
@@ -49,7 +49,7 @@ module _ {A : Type 0} (d : A) where
       ∙ ap (sort cmp) (sym (keep-map row p (up_from 0 (length l))) ∙ ap (selected p) (all-rows l))
 
 -- ---- two orders that agree on a list sort it alike
-module _ {A : Type 0} (c d : A → A → Order) where
+module _ {A : Type 0} (c d : A → A → Ordering) where
   put-agree : (x : A) (l : List A) → ((y : A) → y ∈ l → c x y ≡ d x y) → put_in_order c x l ≡ put_in_order d x l
   put-agree x [] h = refl
   put-agree x (y ∷ l) h = rw (h y (Memᴰ.head refl), put-agree x l (λ z m. h z (Memᴰ.tail m)))

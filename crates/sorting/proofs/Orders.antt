@@ -5,8 +5,8 @@ use Prim.Native.Nat.{ℕ, ◌<◌}
 use native.Mathlib.Omega.{arith}
 use borrow.Author.Tests.{lt-ltb, le-ltb}
 use Rattle.text.specs.Order.{cmp_nat, and_then, cmp_bytes, flip}
-use Rattle.text.specs.declared.order.Order.{Order}
-use Rattle.text.specs.declared.order.Order.TheVariants.{Less, Equal, Greater}
+use Rattle.std.specs.declared.cmp.Ordering.{Ordering}
+use Rattle.std.specs.declared.cmp.Ordering.TheVariants.{Less, Equal, Greater}
 use Rattle.text.proofs.OrderLaws.{Tri, below, at, above, tri, cmp-flip, cmp-equal}
 use Rattle.sorting.specs.Order.{Joins, Lawful, on, then_by}
 
@@ -28,22 +28,22 @@ turn-nat x y = by (tri x y)
     by (at h e) = nat-same y x (sym h) ∙ ap flip (sym e)
     by (above h e) = nat-less y x h ∙ ap flip (sym e)
 
-from-lt : (b : Order) → Joins Less b Less
+from-lt : (b : Ordering) → Joins Less b Less
 from-lt Less = refl
 from-lt Equal = refl
 from-lt Greater = tt
 
-from-gt : (b : Order) → Joins Greater b Greater
+from-gt : (b : Ordering) → Joins Greater b Greater
 from-gt Less = tt
 from-gt Equal = refl
 from-gt Greater = refl
 
-to-lt : (a : Order) → Joins a Less Less
+to-lt : (a : Ordering) → Joins a Less Less
 to-lt Less = refl
 to-lt Equal = refl
 to-lt Greater = tt
 
-to-gt : (a : Order) → Joins a Greater Greater
+to-gt : (a : Ordering) → Joins a Greater Greater
 to-gt Less = tt
 to-gt Equal = refl
 to-gt Greater = refl
@@ -64,12 +64,12 @@ pub lawful-nat : Lawful cmp_nat
 lawful-nat = record { turn = turn-nat; join = join-nat }
 
 -- ---- one comparison after another
-then_flip : (a b : Order) → and_then (flip a) (flip b) ≡ flip (and_then a b)
+then_flip : (a b : Ordering) → and_then (flip a) (flip b) ≡ flip (and_then a b)
 then_flip Less b = refl
 then_flip Equal b = refl
 then_flip Greater b = refl
 
-then-join : (a b c a' b' c' : Order) → Joins a b c → Joins a' b' c' → Joins (and_then a a') (and_then b b') (and_then c c')
+then-join : (a b c a' b' c' : Ordering) → Joins a b c → Joins a' b' c' → Joins (and_then a a') (and_then b b') (and_then c c')
 then-join Less Less c a' b' c' h k = rw h
 then-join Less Equal c a' b' c' h k = rw h (from-lt b')
 then-join Less Greater c a' b' c' h k = tt
@@ -81,7 +81,7 @@ then-join Greater Equal c a' b' c' h k = rw h (from-gt b')
 then-join Greater Greater c a' b' c' h k = rw h
 
 -- two answers together tie only if both do
-pub then_tie : (a b : Order) → and_then a b ≡ Equal → (a ≡ Equal) × (b ≡ Equal)
+pub then_tie : (a b : Ordering) → and_then a b ≡ Equal → (a ≡ Equal) × (b ≡ Equal)
 then_tie Less b h = absurd (let z : ◌≡◌ {A = ℕ} 0 1 = cc in omega arith)
 then_tie Equal b h = (refl, h)
 then_tie Greater b h = absurd (let z : ◌≡◌ {A = ℕ} 0 1 = cc in omega arith)
@@ -102,10 +102,10 @@ join-bytes (x ∷ xs) (y ∷ ys) (z ∷ zs) =
 pub lawful-bytes : Lawful cmp_bytes
 lawful-bytes = record { turn = cmp-flip; join = join-bytes }
 
-pub lawful-on : {A B : Type 0} {cmp : A → A → Order} → Lawful cmp → (f : B → A) → Lawful (on cmp f)
+pub lawful-on : {A B : Type 0} {cmp : A → A → Ordering} → Lawful cmp → (f : B → A) → Lawful (on cmp f)
 lawful-on l f = record { turn = λ x y. l.turn (f x) (f y); join = λ x y z. l.join (f x) (f y) (f z) }
 
-pub lawful_then : {A : Type 0} {c d : A → A → Order} → Lawful c → Lawful d → Lawful (then_by c d)
+pub lawful_then : {A : Type 0} {c d : A → A → Ordering} → Lawful c → Lawful d → Lawful (then_by c d)
 lawful_then {c = c} {d = d} l m =
     record {
       turn = λ x y. rw (l.turn x y, m.turn x y) (then_flip (c x y) (d x y));
@@ -127,10 +127,3 @@ exact-nat x y q = by (tri x y)
 
 pub exact_bytes : (x y : List ℕ) → cmp_bytes x y ≡ Equal → x ≡ y
 exact_bytes = cmp-equal
-
--- ---- an answer in a chain: it decides, or the next one does
-pub decided : {o m : Order} (p : Order) → o ≡ m → o ≡ and_then o p → o ≡ and_then m p
-decided p e h = h ∙ ap (λ (n : Order). and_then n p) e
-
-pub undecided : {m p r : Order} → m ≡ Equal → r ≡ p → r ≡ and_then m p
-undecided e q = rw (e, q)

@@ -1,18 +1,20 @@
 -- Where an element goes in a sorted list, by index; and a list shifted up by one. Assumes nothing.
-use mathlib.Core.Path.{◌≡◌, refl, sym, ◌∙◌, ap}
+use mathlib.Core.Path.{◌≡◌, refl, ◌∙◌, ap}
 use mathlib.Core.List.{List, [], ◌∷◌, ◌++◌, append_assoc}
-use Prim.Native.Nat.{ℕ, zero, suc, ◌-◌, ◌≤◌, ◌<◌, zero-le, suc-le-suc}
+use Prim.Native.Nat.{ℕ, zero, suc, ◌+◌, ◌-◌, ◌≤◌, ◌<◌, zero-le, suc-le-suc}
 use native.Mathlib.Nat.{le_of_suc-le-suc, not-suc-le-zero}
-use native.Mathlib.Numerals.{sub-one}
+use native.Mathlib.Numerals.{add-one}
 use native.Mathlib.Omega.{arith}
-use lib.ListN.{length, get_or, take, drop, set, get_or-append, take-append-drop}
-use lib.Seq.{slice, slice_empty, slice-cons, take-suc, get_or-take, set_at, length-take-le}
-use Rattle.text.specs.declared.order.Order.{Order}
-use Rattle.text.specs.declared.order.Order.TheVariants.{Less, Equal, Greater}
+use lib.ListN.{length, get_or, take, drop, set}
+use lib.Seq.{slice, take-suc, set_at, length-take-le}
+use Rattle.std.specs.List.{copy_within}
+use Rattle.std.specs.declared.cmp.Ordering.{Ordering}
+use Rattle.std.specs.declared.cmp.Ordering.TheVariants.{Less, Equal, Greater}
+use Rattle.text.proofs.PieceLaws.{drop-take}
 use Rattle.sorting.specs.Order.{Lawful}
 use Rattle.sorting.specs.Sort.{put_in_order, Before, Ascending}
 
-module _ {A : Type 0} (cmp : A → A → Order) (x d : A) where
+module _ {A : Type 0} (cmp : A → A → Ordering) (x d : A) where
   -- past p elements that x comes after, and before one that it comes before or the end: x goes in there
   pub put-before : (l : List A) (p : ℕ) → p ≤ length l → ((j : ℕ) → j < p → cmp x (get_or l j d) ≡ Greater)
       → (p < length l → cmp x (get_or l p d) ≡ Less) → put_in_order cmp x l ≡ take p l ++ x ∷ drop p l
@@ -32,49 +34,41 @@ module _ {A : Type 0} (cmp : A → A → Order) (x d : A) where
   put-over (y ∷ l) (suc p) h b e =
       rw (b zero (suc-le-suc zero-le)) (ap (◌∷◌ y) (put-over l p (le_of_suc-le-suc h) (λ j i. b (suc j) (suc-le-suc i)) e))
 
--- the elements from j on up to k moved up by one, the one at j kept
-abbrev pub shifted : {A : Type 0} → List A → ℕ → ℕ → List A
-shifted l j k = take (suc j) l ++ (slice j k l ++ drop (suc k) l)
+-- ---- a table's elements moved up by one
+module _ (l : List ℕ) (k : ℕ) (room : k < length l) where
+  -- those from j on, the one at j kept
+  shifted : ℕ → List ℕ
+  shifted j = take (suc j) l ++ (slice j k l ++ drop (suc k) l)
 
-module _ {A : Type 0} (d : A) (l : List A) (k : ℕ) (room : k < length l) where
-  pub shift-start : l ≡ shifted l k k
-  shift-start = rw (slice_empty k l) (sym (take-append-drop (suc k) l))
+  moved : (p : ℕ) → p ≤ k → copy_within l p k (p + 1) ≡ shifted p
+  unfolding shifted
+  moved p h =
+      let n : p + 1 + (k - p) ≡ suc k = omega arith in
+      rw (n, add-one p, ← drop-take p k l) (append_assoc (take (suc p) l) (slice p k l) (drop (suc k) l))
 
-  -- what stands at j and what follows, set
-  pub shift-set : (j : ℕ) (v : A) → j ≤ k → set (shifted l j k) j v ≡ take j l ++ v ∷ (slice j k l ++ drop (suc k) l)
-  shift-set j v h =
-      rw (take-suc l j d (omega arith), append_assoc)
-      (set_at (take j l) (get_or l j d) (slice j k l ++ drop (suc k) l) v j (length-take-le j l (omega arith)))
-
-  shift-get : (j i : ℕ) → i ≤ j → j ≤ k → get_or (shifted l j k) i d ≡ get_or l i d
-  shift-get j i h g =
-      get_or-append (take (suc j) l) (slice j k l ++ drop (suc k) l) d i (rw (length-take-le (suc j) l (omega arith)) (omega arith))
-      ∙ get_or-take (suc j) l i d (omega arith)
-
-  pub shift-step : (j : ℕ) → 0 < j → j ≤ k → set (shifted l j k) j (get_or (shifted l j k) (j - 1) d) ≡ shifted l (j - 1) k
-  shift-step zero h g = absurd (not-suc-le-zero h)
-  shift-step (suc i) h g =
-      rw (sub-one (suc i), shift-get (suc i) i (omega arith) g)
-      (shift-set (suc i) (get_or l i d) g ∙ rw (slice-cons i k l d g (omega arith)))
+  -- and v in the place that is free
+  pub moved-up : (p : ℕ) (v : ℕ) → p ≤ k → set (copy_within l p k (p + 1)) p v ≡ take p l ++ v ∷ (slice p k l ++ drop (suc k) l)
+  unfolding shifted
+  moved-up p v h =
+      ap (λ (t : List ℕ). set t p v) (moved p h)
+      ∙ rw (take-suc l p 0 (omega arith), append_assoc)
+      (set_at (take p l) (get_or l p 0) (slice p k l ++ drop (suc k) l) v p (length-take-le p l (omega arith)))
 
 -- an ascending list, by index
-before-get_d : {A : Type 0} (cmp : A → A → Order) (d x : A) (l : List A) → Before cmp x l → (j : ℕ) → j < length l
+before-get_d : {A : Type 0} (cmp : A → A → Ordering) (d x : A) (l : List A) → Before cmp x l → (j : ℕ) → j < length l
     → cmp x (get_or l j d) ≡ Less
 before-get_d cmp d x [] b j h = absurd (not-suc-le-zero h)
 before-get_d cmp d x (y ∷ l) b zero h = b.0
 before-get_d cmp d x (y ∷ l) b (suc j) h = before-get_d cmp d x l b.1 j (le_of_suc-le-suc h)
 
-pub ascending-get_d : {A : Type 0} (cmp : A → A → Order) (d : A) (l : List A) → Ascending cmp l
+pub ascending-get_d : {A : Type 0} (cmp : A → A → Ordering) (d : A) (l : List A) → Ascending cmp l
     → (i j : ℕ) → i < j → j < length l → cmp (get_or l i d) (get_or l j d) ≡ Less
 ascending-get_d cmp d [] a i j h k = absurd (not-suc-le-zero k)
 ascending-get_d cmp d (y ∷ l) a i zero h k = absurd (not-suc-le-zero h)
 ascending-get_d cmp d (y ∷ l) a zero (suc j) h k = before-get_d cmp d y l a.0 j (le_of_suc-le-suc k)
 ascending-get_d cmp d (y ∷ l) a (suc i) (suc j) h k = ascending-get_d cmp d l a.1 i j (le_of_suc-le-suc h) (le_of_suc-le-suc k)
 
--- what comes after an element, or ties with it, comes after all before it
-module _ {A : Type 0} (cmp : A → A → Order) (laws : Lawful cmp) where
-  pub after-gt : (x y z : A) → cmp x y ≡ Greater → cmp z y ≡ Less → cmp x z ≡ Greater
-  after-gt x y z h k = rw (h, laws.turn z y, k) at (laws.join x y z)
-
+-- what ties with an element comes after all before it
+module _ {A : Type 0} (cmp : A → A → Ordering) (laws : Lawful cmp) where
   pub after-eq : (x y z : A) → cmp x y ≡ Equal → cmp z y ≡ Less → cmp x z ≡ Greater
   after-eq x y z h k = rw (h, laws.turn z y, k) at (laws.join x y z)

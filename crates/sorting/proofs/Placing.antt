@@ -1,49 +1,55 @@
--- Where a row goes in an ordered table. Assumes nothing.
-use mathlib.Core.Path.{◌≡◌}
+-- Where a row goes in an ordered list: what the binary search answers. Assumes nothing.
+use mathlib.Core.Path.{◌≡◌, refl, ap, ◌∙◌}
+use mathlib.Core.Bool.{Bool, true, false}
 use mathlib.Core.List.{List}
-use Prim.Native.Nat.{ℕ, ◌+◌, ◌≤◌, ◌<◌}
+use borrow.Author.Tests.{ltb-true, ltb-false}
+use Prim.Native.Nat.{ℕ, ◌≤◌}
 use native.Mathlib.Omega.{arith}
-use borrow.Author.Count.{below_more}
-use lib.ListN.{length, get_or, take}
-use lib.Seq.{get_or-take, length-take-le}
-use Rattle.text.specs.declared.order.Order.{Order}
-use Rattle.text.specs.declared.order.Order.TheVariants.{Less, Equal, Greater}
-use Rattle.sorting.specs.Order.{Lawful}
-use Rattle.sorting.specs.Filling.{Placed, Ordered}
-use Rattle.sorting.specs.declared.Place.TheVariants.{Before, Over}
-use Rattle.sorting.proofs.Places.{put-before, put-over, ascending-get_d, after-gt, after-eq}
+use lib.Dec.{ltb}
+use lib.ListN.{length, get_or}
+use Rattle.std.specs.Prelude.{Result, Ok, Err}
+use Rattle.std.specs.declared.cmp.Ordering.{Ordering}
+use Rattle.std.specs.declared.cmp.Ordering.TheVariants.{Less, Equal, Greater}
+use Rattle.std.specs.Ordering.{ordering_index}
+use Rattle.std.specs.List.Sorted.{IsBinarySearchResult, IsNonDecreasingBy, IsSearchInRange}
+use Rattle.text.specs.Order.{flip}
+use Rattle.sorting.specs.Order.{Joins, Lawful}
+use Rattle.sorting.specs.Sort.{Ascending}
+use Rattle.sorting.specs.Filling.{Placed}
+use Rattle.sorting.proofs.Places.{put-before, put-over, ascending-get_d, after-eq}
 
--- where x goes among the first k of a table, past p that it comes after
-module _ (cmp : ℕ → ℕ → Order) (x : ℕ) (table : List ℕ) (k : ℕ) (room : k ≤ length table) (p : ℕ)
-    (after : (j : ℕ) → j < p → cmp x (get_or table j 0) ≡ Greater) where
-  passed : p ≤ k → (j : ℕ) → j < p → cmp x (get_or (take k table) j 0) ≡ Greater
-  passed h j l = rw (get_or-take k table j 0 (omega arith)) (after j l)
+module _ (cmp : ℕ → ℕ → Ordering) (laws : Lawful cmp) (x : ℕ) (l : List ℕ) (asc : Ascending cmp l) where
+  turned : {y : ℕ} {o : Ordering} → cmp y x ≡ o → cmp x y ≡ flip o
+  turned {y} e = laws.turn y x ∙ ap flip e
 
-  pub placed-before : p ≤ k → (p < k → cmp x (get_or table p 0) ≡ Less) → Placed cmp x (take k table) (Before p)
-  placed-before h e =
-      let n : length (take k table) ≡ k = length-take-le k table room in
-      let next : p < length (take k table) → cmp x (get_or (take k table) p 0) ≡ Less =
-      λ l. let m : p < k = omega arith in rw (get_or-take k table p 0 m) (e m) in
-      record { within = omega arith; put_is = put-before cmp x 0 (take k table) p (omega arith) (passed h) next }
+  -- what comes before an element is no further on against x
+  lower : (b c : Ordering) → Joins Less b c → ordering_index c ≤ ordering_index b
+  lower Less c h = rw h (omega arith)
+  lower Equal c h = rw h (omega arith)
+  lower Greater Less h = omega arith
+  lower Greater Equal h = omega arith
+  lower Greater Greater h = omega arith
 
-  pub placed-over : p < k → cmp x (get_or table p 0) ≡ Equal → Placed cmp x (take k table) (Over p)
-  placed-over h e =
-      let n : length (take k table) ≡ k = length-take-le k table room in
+  rises : IsNonDecreasingBy (λ y. ordering_index (cmp y x)) l
+  rises i j d h k = by (ltb i j) refl
+    where
+      by : (t : Bool) → ltb i j ≡ t → ordering_index (cmp (get_or l i d) x) ≤ ordering_index (cmp (get_or l j d) x)
+      by true e =
+          lower (cmp (get_or l j d) x) (cmp (get_or l i d) x)
+          (rw (ascending-get_d cmp d l asc i j (ltb-true i j e) k) at (laws.join (get_or l i d) (get_or l j d) x))
+      by false e = let z : i ≡ j = omega (arith, ltb-false i j e) in rw z (omega arith)
+
+  -- the place that the binary search finds is the one at which `put_in_order` puts x
+  pub placed : (r : Result ℕ ℕ) → IsSearchInRange r (length l) → IsBinarySearchResult (λ y. cmp y x) l r → Placed cmp x l r
+  placed (Ok p) h e =
+      let same : cmp x (get_or l p 0) ≡ Equal = turned (e 0) in
       record {
-        within = omega arith;
-        put_is = put-over cmp x 0 (take k table) p (omega arith) (passed (omega arith)) (rw (get_or-take k table p 0 h) e);
+        within = h;
+        put_is = put-over cmp x 0 l p h
+            (λ j k. after-eq cmp laws x (get_or l p 0) (get_or l j 0) same (ascending-get_d cmp 0 l asc j p k h)) same;
       }
-
--- in an ordered table, what comes after the row at m, or ties with it, comes after all before it
-module _ (cmp : ℕ → ℕ → Order) (laws : Lawful cmp) {k : ℕ} {table : List ℕ} (t : Ordered cmp table k) (x : ℕ) (m : ℕ) (h : m < k) where
-  in_order : (j : ℕ) → j < m → cmp (get_or table j 0) (get_or table m 0) ≡ Less
-  in_order j l =
-      let e : length (take k table) ≡ k = length-take-le k table t.room in
-      rw (get_or-take k table j 0 (omega arith), get_or-take k table m 0 h) at
-      (ascending-get_d cmp 0 (take k table) t.ascends j m l (omega arith))
-
-  pub after-up-to : cmp x (get_or table m 0) ≡ Greater → (j : ℕ) → j < m + 1 → cmp x (get_or table j 0) ≡ Greater
-  after-up-to g = below_more _ m (λ j l. after-gt cmp laws x (get_or table m 0) (get_or table j 0) g (in_order j l)) g
-
-  pub tied_below : cmp x (get_or table m 0) ≡ Equal → (j : ℕ) → j < m → cmp x (get_or table j 0) ≡ Greater
-  tied_below g j l = after-eq cmp laws x (get_or table m 0) (get_or table j 0) g (in_order j l)
+  placed (Err p) h e =
+      record {
+        within = h;
+        put_is = put-before cmp x 0 l p h (λ j k. turned ((e rises).0 j 0 (omega arith) k)) (λ k. turned ((e rises).1 p 0 (omega arith) k));
+      }

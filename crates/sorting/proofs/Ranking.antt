@@ -9,8 +9,8 @@ use native.Mathlib.Omega.{arith}
 use borrow.Author.Tests.{eqb-true, eq-eqb}
 use Rattle.refusal.specs.Pick.{pick}
 use Rattle.text.specs.Order.{cmp_nat, and_then, cmp_bytes}
-use Rattle.text.specs.declared.order.Order.{Order}
-use Rattle.text.specs.declared.order.Order.TheVariants.{Equal}
+use Rattle.std.specs.declared.cmp.Ordering.{Ordering}
+use Rattle.std.specs.declared.cmp.Ordering.TheVariants.{Equal}
 use Rattle.text.proofs.OrderLaws.{cmp-refl}
 use Rattle.table.specs.Table.{cell_of}
 use Rattle.sorting.specs.Order.{Lawful, on}
@@ -62,7 +62,7 @@ up_of e i (suc m) h k = ⊎_elim (λ p. Memᴰ.head p) (λ l. Memᴰ.tail (up_of
     apart (suc a) (suc b) h = ⊎_elim (λ p. inl (ap suc p)) (λ l. inr (omega arith)) (apart a b (omega arith))
 
 -- row numbers that pass a test are numbered upwards
-numbered : (cmp : ℕ → ℕ → Order) (laws : Lawful cmp) (p : ℕ → Bool) (i m : ℕ) → Up cmp laws (λ e. e) (selected p (up_from i m))
+numbered : (cmp : ℕ → ℕ → Ordering) (laws : Lawful cmp) (p : ℕ → Bool) (i m : ℕ) → Up cmp laws (λ e. e) (selected p (up_from i m))
 numbered cmp laws p i zero = tt
 numbered cmp laws p i (suc m) = go (p i) (numbered cmp laws p (suc i) m)
   where
@@ -112,9 +112,9 @@ unfolding row_order
 every-apart first second rows k h i j e =
     let cell = column_at first second rows k in
     let name = name_of first second rows k in
-    let last : Order = pick k.every (cmp_nat i j) Equal in
-    let minor : Order = cmp_nat (cell k.minor i) (cell k.minor j) in
-    let bytes : Order = cmp_bytes (name i) (name j) in
+    let last : Ordering = pick k.every (cmp_nat i j) Equal in
+    let minor : Ordering = cmp_nat (cell k.minor i) (cell k.minor j) in
+    let bytes : Ordering = cmp_bytes (name i) (name j) in
     let a = (then_tie (cmp_nat (cell k.major i) (cell k.major j)) (and_then bytes (and_then minor last)) e).1 in
     let b = (then_tie bytes (and_then minor last) a).1 in
     exact-nat i j (rw h at (then_tie minor last b).1)
@@ -132,7 +132,7 @@ same_name first second rows width from len mark value i j =
     )
 
 -- ---- the claim of a list of names
-ascends-as : (c d : ℕ → ℕ → Order) → ((i j : ℕ) → c i j ≡ d i j) → (l : List ℕ) → Ascending c l → Ascending d l
+ascends-as : (c d : ℕ → ℕ → Ordering) → ((i j : ℕ) → c i j ≡ d i j) → (l : List ℕ) → Ascending c l → Ascending d l
 ascends-as c d same [] a = tt
 ascends-as c d same (x ∷ l) a = (before l a.0, ascends-as c d same l a.1)
   where

@@ -8,12 +8,12 @@ use native.Mathlib.Nat.{le_of_suc-le-suc, not-suc-le-zero}
 use native.Mathlib.Omega.{arith}
 use lib.ListN.{length, get_or}
 use Rattle.text.specs.Order.{flip}
-use Rattle.text.specs.declared.order.Order.{Order}
-use Rattle.text.specs.declared.order.Order.TheVariants.{Less, Equal, Greater}
+use Rattle.std.specs.declared.cmp.Ordering.{Ordering}
+use Rattle.std.specs.declared.cmp.Ordering.TheVariants.{Less, Equal, Greater}
 use Rattle.sorting.specs.Order.{Joins, Lawful}
 use Rattle.sorting.specs.Sort.{◌∈◌, place, put_in_order, sort, Before, Ascending}
 
-module _ {A : Type 0} (cmp : A → A → Order) where
+module _ {A : Type 0} (cmp : A → A → Ordering) where
   -- x ties with no element of l
   abbrev pub NoTie : A → List A → Type 0
   NoTie x [] = Unit {0}
@@ -24,10 +24,10 @@ module _ {A : Type 0} (cmp : A → A → Order) where
   Tied x l = (t : A) × (t ∈ l) × (cmp x t ≡ Equal)
 
 -- two constructors are not equal
-apart : {o : Order} → o ≡ Less → o ≡ Greater → ⊥
+apart : {o : Ordering} → o ≡ Less → o ≡ Greater → ⊥
 apart p q = let z : ◌≡◌ {A = ℕ} 0 1 = cc in omega arith
 
-module _ {A : Type 0} (cmp : A → A → Order) (laws : Lawful cmp) where
+module _ {A : Type 0} (cmp : A → A → Ordering) (laws : Lawful cmp) where
   -- two that do not tie can be put in in either order
   put-lt : (x y : A) → cmp x y ≡ Less → (l : List A) → put_in_order cmp x (put_in_order cmp y l) ≡ put_in_order cmp y (put_in_order cmp x l)
   put-lt x y h [] = let k : cmp y x ≡ Greater = laws.turn x y ∙ ap flip h in simp (h, k)
@@ -37,9 +37,9 @@ module _ {A : Type 0} (cmp : A → A → Order) (laws : Lawful cmp) where
       k = laws.turn x y ∙ ap flip h
 
       j : Joins Less (cmp y z) (cmp x z)
-      j = subst (λ (o : Order). Joins o (cmp y z) (cmp x z)) h (laws.join x y z)
+      j = subst (λ (o : Ordering). Joins o (cmp y z) (cmp x z)) h (laws.join x y z)
 
-      go : (o p : Order) → cmp y z ≡ o → cmp x z ≡ p
+      go : (o p : Ordering) → cmp y z ≡ o → cmp x z ≡ p
           → put_in_order cmp x (put_in_order cmp y l) ≡ put_in_order cmp y (put_in_order cmp x l)
           → put_in_order cmp x (put_in_order cmp y (z ∷ l)) ≡ put_in_order cmp y (put_in_order cmp x (z ∷ l))
       go Less p e f ih = let g : cmp x z ≡ Less = rw e at j in simp (h, k, e, g)
@@ -52,7 +52,7 @@ module _ {A : Type 0} (cmp : A → A → Order) (laws : Lawful cmp) where
       → put_in_order cmp x (put_in_order cmp y l) ≡ put_in_order cmp y (put_in_order cmp x l)
   put-comm x y h l = go (cmp x y) refl
     where
-      go : (o : Order) → cmp x y ≡ o → put_in_order cmp x (put_in_order cmp y l) ≡ put_in_order cmp y (put_in_order cmp x l)
+      go : (o : Ordering) → cmp x y ≡ o → put_in_order cmp x (put_in_order cmp y l) ≡ put_in_order cmp y (put_in_order cmp x l)
       go Less e = put-lt x y e l
       go Equal e = absurd (h e)
       go Greater e = sym (put-lt y x (laws.turn x y ∙ ap flip e) l)
@@ -72,7 +72,7 @@ module _ {A : Type 0} (cmp : A → A → Order) (laws : Lawful cmp) where
   pub tie-self : (x : A) → cmp x x ≡ Equal
   tie-self x = go (cmp x x) (laws.turn x x)
     where
-      go : (o : Order) → o ≡ flip o → o ≡ Equal
+      go : (o : Ordering) → o ≡ flip o → o ≡ Equal
       go Less e = absurd (apart {o = Less} refl e)
       go Equal e = refl
       go Greater e = absurd (apart {o = Greater} e refl)
@@ -82,7 +82,8 @@ module _ {A : Type 0} (cmp : A → A → Order) (laws : Lawful cmp) where
   put_only x e [] m = Memᴰ.cases_cons m
   put_only x e (y ∷ l) m = go (cmp x y) m (put_only x e l)
     where
-      go : (o : Order) → e ∈ place o x y l (put_in_order cmp x l) → (e ∈ put_in_order cmp x l → (e ≡ x) ⊎ (e ∈ l)) → (e ≡ x) ⊎ (e ∈ (y ∷ l))
+      go : (o : Ordering) → e ∈ place o x y l (put_in_order cmp x l) → (e ∈ put_in_order cmp x l → (e ≡ x) ⊎ (e ∈ l))
+          → (e ≡ x) ⊎ (e ∈ (y ∷ l))
       go Less m ih = Memᴰ.cases_cons m
       go Equal m ih = ⊎_elim inl (λ t. inr (Memᴰ.tail t)) (Memᴰ.cases_cons m)
       go Greater m ih = ⊎_elim (λ p. inr (Memᴰ.head p)) (λ t. ⊎_elim inl (λ u. inr (Memᴰ.tail u)) (ih t)) (Memᴰ.cases_cons m)
@@ -95,7 +96,7 @@ module _ {A : Type 0} (cmp : A → A → Order) (laws : Lawful cmp) where
   put_has x [] = Memᴰ.head refl
   put_has x (y ∷ l) = go (cmp x y) (put_has x l)
     where
-      go : (o : Order) → x ∈ put_in_order cmp x l → x ∈ place o x y l (put_in_order cmp x l)
+      go : (o : Ordering) → x ∈ put_in_order cmp x l → x ∈ place o x y l (put_in_order cmp x l)
       go Less ih = Memᴰ.head refl
       go Equal ih = Memᴰ.head refl
       go Greater ih = Memᴰ.tail ih
@@ -104,7 +105,7 @@ module _ {A : Type 0} (cmp : A → A → Order) (laws : Lawful cmp) where
   put_keeps x e [] m = absurd (Memᴰ.not-nil m)
   put_keeps x e (y ∷ l) m = go (cmp x y) refl (Memᴰ.cases_cons m) (put_keeps x e l)
     where
-      go : (o : Order) → cmp x y ≡ o → (e ≡ y) ⊎ (e ∈ l) → (e ∈ l → Tied cmp e (put_in_order cmp x l))
+      go : (o : Ordering) → cmp x y ≡ o → (e ≡ y) ⊎ (e ∈ l) → (e ∈ l → Tied cmp e (put_in_order cmp x l))
           → Tied cmp e (place o x y l (put_in_order cmp x l))
       go Less q c ih = (e, Memᴰ.tail m, tie-self e)
       go Equal q (inl p) ih = (x, Memᴰ.head refl, rw p (laws.turn x y ∙ ap flip q))
@@ -144,7 +145,7 @@ module _ {A : Type 0} (cmp : A → A → Order) (laws : Lawful cmp) where
   before-put z x [] h b = (h, tt)
   before-put z x (y ∷ l) h b = go (cmp x y) (before-put z x l h b.1)
     where
-      go : (o : Order) → Before cmp z (put_in_order cmp x l) → Before cmp z (place o x y l (put_in_order cmp x l))
+      go : (o : Ordering) → Before cmp z (put_in_order cmp x l) → Before cmp z (place o x y l (put_in_order cmp x l))
       go Less ih = (h, b)
       go Equal ih = (h, b.1)
       go Greater ih = (b.0, ih)
@@ -153,7 +154,7 @@ module _ {A : Type 0} (cmp : A → A → Order) (laws : Lawful cmp) where
   put-ascends x [] a = (tt, tt)
   put-ascends x (y ∷ l) a = go (cmp x y) refl (put-ascends x l a.1)
     where
-      go : (o : Order) → cmp x y ≡ o → Ascending cmp (put_in_order cmp x l) → Ascending cmp (place o x y l (put_in_order cmp x l))
+      go : (o : Ordering) → cmp x y ≡ o → Ascending cmp (put_in_order cmp x l) → Ascending cmp (place o x y l (put_in_order cmp x l))
       go Less h ih = ((h, before-lt x y l h a.0), a)
       go Equal h ih = (before-eq x y l h a.0, a.1)
       go Greater h ih = (before-put y x l (laws.turn x y ∙ ap flip h) a.0, ih)
@@ -192,12 +193,12 @@ module _ {A : Type 0} (cmp : A → A → Order) (laws : Lawful cmp) where
       heads (inr s) (inr t) = absurd (not-both x y (mem-before x y l a.0 t) (mem-before y x m b.0 s))
 
 -- a function that keeps the comparison keeps the sorted list
-module _ {A B : Type 0} (c : A → A → Order) (d : B → B → Order) (f : A → B) (keeps : (x y : A) → d (f x) (f y) ≡ c x y) where
+module _ {A B : Type 0} (c : A → A → Ordering) (d : B → B → Ordering) (f : A → B) (keeps : (x y : A) → d (f x) (f y) ≡ c x y) where
   put_map : (x : A) (l : List A) → put_in_order d (f x) (map f l) ≡ map f (put_in_order c x l)
   put_map x [] = refl
   put_map x (y ∷ l) = rw (keeps x y, put_map x l) (go (c x y))
     where
-      go : (o : Order) → place o (f x) (f y) (map f l) (map f (put_in_order c x l)) ≡ map f (place o x y l (put_in_order c x l))
+      go : (o : Ordering) → place o (f x) (f y) (map f l) (map f (put_in_order c x l)) ≡ map f (place o x y l (put_in_order c x l))
       go Less = refl
       go Equal = refl
       go Greater = refl
@@ -207,12 +208,12 @@ module _ {A B : Type 0} (c : A → A → Order) (d : B → B → Order) (f : A �
   sort-map (x ∷ l) = rw (sort-map l) (put_map x (sort c l))
 
 -- how long
-module _ {A : Type 0} (cmp : A → A → Order) where
+module _ {A : Type 0} (cmp : A → A → Ordering) where
   put-length : (x : A) (l : List A) → (length l ≤ length (put_in_order cmp x l)) × (length (put_in_order cmp x l) ≤ suc (length l))
   put-length x [] = (omega arith, omega arith)
   put-length x (y ∷ l) = go (cmp x y) (put-length x l)
     where
-      go : (o : Order) → (length l ≤ length (put_in_order cmp x l)) × (length (put_in_order cmp x l) ≤ suc (length l))
+      go : (o : Ordering) → (length l ≤ length (put_in_order cmp x l)) × (length (put_in_order cmp x l) ≤ suc (length l))
           → (length (y ∷ l) ≤ length (place o x y l (put_in_order cmp x l))) ×
           (length (place o x y l (put_in_order cmp x l)) ≤ suc (length (y ∷ l)))
       go Less ih = (omega arith, omega arith)

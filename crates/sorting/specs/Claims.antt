@@ -1,7 +1,7 @@
 -- docs/RULES.md, "Tables", sorted lists: what is claimed of the sorted rows, without naming how they are sorted. Assumes nothing.
 use Rattle.std.specs.Prelude.{◌≡◌, true, ◌↔◌, List, ℕ, ◌≤◌, ◌<◌}
 use Rattle.text.specs.Order.{cmp_bytes}
-use Rattle.text.specs.declared.order.Order.TheVariants.{Equal}
+use Rattle.std.specs.declared.cmp.Ordering.TheVariants.{Equal}
 use Rattle.sorting.specs.Sort.{◌∈◌, Ascending}
 use Rattle.table.specs.Table.{cell_of}
 use Rattle.sorting.specs.Order.{on}

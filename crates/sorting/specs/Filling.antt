@@ -1,30 +1,26 @@
 -- For the code: how a sorted list is made in its table, row by row: what the functions inside the crate promise. Assumes nothing.
-use Rattle.std.specs.Prelude.{◌≡◌, List, ◌∷◌, ◌++◌, ℕ, suc, ◌≤◌, ◌<◌, length, take, drop}
+use Rattle.std.specs.Prelude.{◌≡◌, List, ◌∷◌, ◌++◌, ℕ, suc, ◌≤◌, ◌<◌, length, take, drop, Option, Some, None, Result, Ok, Err}
 use Rattle.std.proofs.Math.Seq.{slice}
-use Rattle.text.specs.declared.order.Order.{Order}
+use Rattle.std.specs.declared.cmp.Ordering.{Ordering}
 use Rattle.sorting.specs.Sort.{put_in_order, Ascending}
-use Rattle.sorting.specs.declared.Place.{Place}
-use Rattle.sorting.specs.declared.Place.TheVariants.{Before, Over}
-use Rattle.sorting.specs.declared.Sorted.{Sorted}
-use Rattle.sorting.specs.declared.Sorted.TheVariants.{Rows, Full}
 
 -- the first k of the table are in order
-pub record Ordered (cmp : ℕ → ℕ → Order) (table : List ℕ) (k : ℕ) : Type 0 where
+pub record Ordered (cmp : ℕ → ℕ → Ordering) (table : List ℕ) (k : ℕ) : Type 0 where
   pub room : k ≤ length table
   pub ascends : Ascending cmp (take k table)
 
--- x put into the list at a place
-abbrev pub inserted_at : Place → ℕ → List ℕ → List ℕ
-inserted_at (Before p) x l = take p l ++ x ∷ drop p l
-inserted_at (Over p) x l = take p l ++ x ∷ drop (suc p) l
+-- x put into the list at a place: over what stands there, or in before it
+abbrev pub inserted_at : Result ℕ ℕ → ℕ → List ℕ → List ℕ
+inserted_at (Ok p) x l = take p l ++ x ∷ drop (suc p) l
+inserted_at (Err p) x l = take p l ++ x ∷ drop p l
 
 -- the place is one of the list
-abbrev pub PlaceWithin : Place → List ℕ → Type 0
-PlaceWithin (Before p) l = p ≤ length l
-PlaceWithin (Over p) l = p < length l
+abbrev pub PlaceWithin : Result ℕ ℕ → List ℕ → Type 0
+PlaceWithin (Ok p) l = p < length l
+PlaceWithin (Err p) l = p ≤ length l
 
 -- the place at which `put_in_order` puts x
-pub record Placed (cmp : ℕ → ℕ → Order) (x : ℕ) (l : List ℕ) (r : Place) : Type 0 where
+pub record Placed (cmp : ℕ → ℕ → Ordering) (x : ℕ) (l : List ℕ) (r : Result ℕ ℕ) : Type 0 where
   pub within : PlaceWithin r l
   pub put_is : put_in_order cmp x l ≡ inserted_at r x l
 
@@ -38,6 +34,6 @@ pub record Filled (l before after : List ℕ) (r : ℕ) : Type 0 where
   pub holds : after ≡ l ++ drop r before
 
 -- the table begins with the list; or the list is longer than the table
-abbrev pub Inserted : List ℕ → List ℕ → List ℕ → Sorted → Type 0
-Inserted l before after (Rows r) = Filled l before after r
-Inserted l before after Full = length before < length l
+abbrev pub Inserted : List ℕ → List ℕ → List ℕ → Option ℕ → Type 0
+Inserted l before after (Some r) = Filled l before after r
+Inserted l before after None = length before < length l

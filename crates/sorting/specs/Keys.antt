@@ -1,16 +1,14 @@
 -- docs/RULES.md, "Tables", sorted lists: which rows are listed, in which order, and what the table lent for them holds.
-use Rattle.std.specs.Prelude.{◌≡◌, Bool, true, false, List, ℕ, eqb, length}
+use Rattle.std.specs.Prelude.{◌≡◌, Bool, true, false, List, ℕ, eqb, length, Option, Some, None}
 use Rattle.refusal.specs.Pick.{pick}
 use Rattle.text.specs.Order.{cmp_nat, and_then, cmp_bytes}
-use Rattle.text.specs.declared.order.Order.{Order}
-use Rattle.text.specs.declared.order.Order.TheVariants.{Equal}
+use Rattle.std.specs.declared.cmp.Ordering.{Ordering}
+use Rattle.std.specs.declared.cmp.Ordering.TheVariants.{Equal}
 use Rattle.refusal.specs.Said.{Said, accepted, refused, spot}
 use Rattle.table.specs.Table.{laid, cell_of, range_of}
 use Rattle.table.specs.Entries.{finished, fitting}
 use Rattle.sorting.specs.Sort.{sort, selected, up_from}
 use Rattle.sorting.specs.declared.Keys.{Keys}
-use Rattle.sorting.specs.declared.Sorted.{Sorted}
-use Rattle.sorting.specs.declared.Sorted.TheVariants.{Rows, Full}
 
 -- by a name alone, that of the first file at cells `from` and `len`; of rows with one name the lowest
 abbrev pub by_name : ℕ → ℕ → ℕ → ℕ → ℕ → Keys
@@ -45,7 +43,7 @@ module _ (first second rows : List ℕ) (k : Keys) where
   name_of i = row_name (file_of i) rows k.width k.from k.len i
 
   -- by the major cell, then by bytes, then by the minor cell; and by row number where every row is wanted
-  unfoldable pub row_order : ℕ → ℕ → Order
+  unfoldable pub row_order : ℕ → ℕ → Ordering
   row_order i j =
       and_then (cmp_nat (column_at k.major i) (column_at k.major j))
       (and_then (cmp_bytes (name_of i) (name_of j))
@@ -75,11 +73,11 @@ module _ (first second rows : List ℕ) (k : Keys) where
   wanted_rows like n = sort row_order (selected (wanted like) (up_from 0 n))
 
 -- the answer in the paper's words, for a table with the number tn
-abbrev pub said_sorted : ℕ → Sorted → Said ℕ
-said_sorted tn (Rows n) = accepted n
-said_sorted tn Full = refused 13 (spot tn)
+abbrev pub said_sorted : ℕ → Option ℕ → Said ℕ
+said_sorted tn (Some n) = accepted n
+said_sorted tn None = refused 13 (spot tn)
 
 -- a list in a table that is lent: all of it, then zeros; or 13, whatever the table's number, and zeros throughout
-pub record Sorts (l before after : List ℕ) (r : Sorted) : Type 0 where
+pub record Sorts (l before after : List ℕ) (r : Option ℕ) : Type 0 where
   pub answer-is : (tn : ℕ) → said_sorted tn r ≡ finished tn (length before) l
   pub table_is : after ≡ laid (length before) (fitting (length before) l)

@@ -2,8 +2,8 @@
 use Rattle.std.specs.Prelude.{◌≡◌, Bool, ◌⊎◌, ℕ, zero, suc, get_or}
 use mathlib.Core.List.{List, [], ◌∷◌, map, Memᴰ}
 use Rattle.refusal.specs.Pick.{pick}
-use Rattle.text.specs.declared.order.Order.{Order}
-use Rattle.text.specs.declared.order.Order.TheVariants.{Less, Equal, Greater}
+use Rattle.std.specs.declared.cmp.Ordering.{Ordering}
+use Rattle.std.specs.declared.cmp.Ordering.TheVariants.{Less, Equal, Greater}
 
 -- x stands in l
 infix 40 ◌∈◌
@@ -12,7 +12,7 @@ abbrev pub ◌∈◌ : {A : Type 0} → A → List A → Type 0
 
 module _ {A : Type 0} where
   -- where x goes beside y, with r the list in which it goes further on: before y, in place of y, or after y
-  abbrev pub place : Order → A → A → List A → List A → List A
+  abbrev pub place : Ordering → A → A → List A → List A → List A
   place Less x y l r = x ∷ y ∷ l
   place Equal x y l r = x ∷ l
   place Greater x y l r = y ∷ r
@@ -22,7 +22,7 @@ module _ {A : Type 0} where
   selected p [] = []
   selected p (x ∷ l) = pick (p x) (x ∷ selected p l) (selected p l)
 
-module _ {A : Type 0} (cmp : A → A → Order) where
+module _ {A : Type 0} (cmp : A → A → Ordering) where
   -- x put into a sorted list, in the place of an element that it ties with
   abbrev pub put_in_order : A → List A → List A
   put_in_order x [] = x ∷ []

@@ -8,7 +8,7 @@ ghost use Rattle.sorting.specs.Sort.{put_in_order};
 ghost use Rattle.sorting.specs.Keys.{by_name, name_of, row_order, wanted, wanted_rows, sorted_rows, other_rows, Sorts};
 ghost use Rattle.sorting.specs.Filling.{Placed, Ordered, inserted, Inserted};
 
-use text::order::Order;
+use std::cmp::Ordering;
 
 // Which rows are sorted, and by which of their cells. A cell that a row does not have is zero, so a column from `width` on leaves the
 // matter out.
@@ -30,20 +30,6 @@ pub struct Keys {
     pub every: bool,
 }
 
-// How many rows the list has; or that the table lent for it has no room for them all.
-#[derive(Clone, Copy)]
-pub enum Sorted {
-    Rows(usize),
-    Full,
-}
-
-// Where a row goes in an ordered list: in before a place, or over the row at a place.
-#[derive(Clone, Copy)]
-enum Place {
-    Before(usize),
-    Over(usize),
-}
-
 // The keys of a list of names without repeats: the range at cells `from` and `len`, of the marked rows.
 pub fn by_name(width: usize, from: usize, len: usize, mark: usize, value: usize) -> Keys
     ensures { result ≡ by_name width from len mark value }
@@ -61,7 +47,8 @@ pub fn by_name(width: usize, from: usize, len: usize, mark: usize, value: usize)
     }
 }
 
-// The numbers below `n` of the marked rows, sorted; then zeros. Zero throughout where there is no room.
+// The numbers below `n` of the marked rows, sorted; then zeros. Says how many there are; none, and zero throughout, where there is no room
+// for them all.
 pub fn sort<'a, 'b, 'c>(
     first: &'a [u8],
     second: &'a [u8],
@@ -69,7 +56,7 @@ pub fn sort<'a, 'b, 'c>(
     keys: Keys,
     n: usize,
     sorted: &'c mut [usize],
-) -> Sorted
+) -> Option<usize>
     ensures { Sorts (sorted_rows first.now second.now rows.now keys n)
         sorted.old sorted.new result }
 {
@@ -84,7 +71,7 @@ pub fn sort_others<'a, 'b, 'c>(
     keys: Keys,
     n: usize,
     sorted: &'c mut [usize],
-) -> Sorted
+) -> Option<usize>
     ensures { Sorts (other_rows first.now second.now rows.now keys n)
         sorted.old sorted.new result }
 {
@@ -95,10 +82,8 @@ pub fn sort_others<'a, 'b, 'c>(
 fn is_wanted(rows: &[usize], keys: Keys, like: bool, i: usize) -> bool
     ensures { (first second : List ℕ) → result ≡ wanted first second rows.now keys like i }
 {
-    if table::cell(rows, keys.width, i, keys.mark) == keys.value {
-        return like;
-    }
-    !like
+    let marked = table::cell(rows, keys.width, i, keys.mark) == keys.value;
+    marked == like
 }
 
 fn sort_wanted<'a, 'b, 'c>(
@@ -109,28 +94,24 @@ fn sort_wanted<'a, 'b, 'c>(
     like: bool,
     n: usize,
     sorted: &'c mut [usize],
-) -> Sorted
+) -> Option<usize>
     ensures { Sorts (wanted_rows first.now second.now rows.now keys like n)
         sorted.old sorted.new result }
 {
     table::clear(sorted);
     let mut k = 0;
-    let mut passed = 0;
     // from the last row to the first, so that of rows that tie the lowest stays
-    while passed < n {
-        passed += 1;
-        let i = n - passed;
+    for i in (0..n).rev() {
         if is_wanted(rows, keys, like, i) {
-            let put = insert(first, second, rows, keys, sorted, k, i);
-            let Sorted::Rows(more) = put else {
+            let Some(more) = insert(first, second, rows, keys, sorted, k, i) else {
                 // the list only grows: once it has no room it has none in the end
                 table::clear(sorted);
-                return Sorted::Full;
+                return None;
             };
             k = more;
         }
     }
-    Sorted::Rows(k)
+    Some(k)
 }
 
 // Row x put into the first k of the list: how many there are then, or that there is no room.
@@ -142,24 +123,23 @@ fn insert<'a, 'b, 'c>(
     sorted: &'c mut [usize],
     k: usize,
     x: usize,
-) -> Sorted
+) -> Option<usize>
     requires { Ordered (row_order first.now second.now rows.now keys) sorted.old k }
     ensures { Inserted
         (put_in_order (row_order first.now second.now rows.now keys) x (take k sorted.old))
         sorted.old sorted.new result }
 {
-    let place = find_place(first, second, rows, keys, sorted, k, x);
-    match place {
-        Place::Before(p) => {
+    match find_place(first, second, rows, keys, sorted, k, x) {
+        Ok(p) => {
+            sorted[p] = x;
+            Some(k)
+        }
+        Err(p) => {
             if sorted.len() <= k {
-                return Sorted::Full;
+                return None;
             }
             insert_at(sorted, p, k, x);
-            Sorted::Rows(k + 1)
-        }
-        Place::Over(p) => {
-            sorted[p] = x;
-            Sorted::Rows(k)
+            Some(k + 1)
         }
     }
 }
@@ -169,16 +149,11 @@ fn insert_at(sorted: &mut [usize], p: usize, k: usize, v: usize)
     requires { (p ≤ k) × (k < length sorted.old) }
     ensures { sorted.new ≡ inserted sorted.old p k v }
 {
-    let mut j = k;
-    while p < j {
-        let t = sorted[j - 1];
-        sorted[j] = t;
-        j -= 1;
-    }
+    sorted.copy_within(p..k, p + 1);
     sorted[p] = v;
 }
 
-// Where row x goes among the first k of the list, by halving.
+// Where row x goes among the first k of the list: over the row that it ties with, or in before a row.
 fn find_place<'a, 'b, 'c>(
     first: &'a [u8],
     second: &'a [u8],
@@ -187,27 +162,12 @@ fn find_place<'a, 'b, 'c>(
     sorted: &'c [usize],
     k: usize,
     x: usize,
-) -> Place
+) -> Result<usize, usize>
     requires { Ordered (row_order first.now second.now rows.now keys) sorted.now k }
     ensures { Placed (row_order first.now second.now rows.now keys)
         x (take k sorted.now) result }
 {
-    let mut lo = 0;
-    let mut hi = k;
-    while lo < hi {
-        let mid = lo + (hi - lo) / 2;
-        let o = compare_rows(first, second, rows, keys, x, sorted[mid]);
-        match o {
-            Order::Less => {
-                hi = mid;
-            }
-            Order::Equal => return Place::Over(mid),
-            Order::Greater => {
-                lo = mid + 1;
-            }
-        }
-    }
-    Place::Before(lo)
+    sorted[..k].binary_search_by(|y| compare_rows(first, second, rows, keys, *y, x))
 }
 
 // The order of rows i and j.
@@ -218,28 +178,22 @@ fn compare_rows<'a, 'b>(
     keys: Keys,
     i: usize,
     j: usize,
-) -> Order
+) -> Ordering
     ensures { result ≡ row_order first.now second.now rows.now keys i j }
 {
-    let major = compare_cells(rows, keys.width, keys.major, i, j);
-    let Order::Equal = major else {
-        return major;
-    };
-    let bytes = text::order::compare(
-        name_of(first, second, rows, keys, i),
-        name_of(first, second, rows, keys, j),
-    );
-    let Order::Equal = bytes else {
-        return bytes;
-    };
-    let minor = compare_cells(rows, keys.width, keys.minor, i, j);
-    let Order::Equal = minor else {
-        return minor;
-    };
-    if keys.every {
-        return compare_numbers(i, j);
-    }
-    Order::Equal
+    compare_cells(rows, keys.width, keys.major, i, j)
+        .then_with(|| {
+            text::order::compare(
+                name_of(first, second, rows, keys, i),
+                name_of(first, second, rows, keys, j),
+            )
+        })
+        .then_with(|| compare_cells(rows, keys.width, keys.minor, i, j))
+        .then_with(|| if keys.every {
+            i.cmp(&j)
+        } else {
+            Ordering::Equal
+        })
 }
 
 // The bytes of row i, a part of the file that it names.
@@ -254,30 +208,17 @@ fn name_of<'a, 'b>(
 {
     let from = table::cell(rows, keys.width, i, keys.from);
     let len = table::cell(rows, keys.width, i, keys.len);
-    if table::cell(rows, keys.width, i, keys.file) == 0 {
-        return table::range(first, from, len);
-    }
-    table::range(second, from, len)
+    let file = if table::cell(rows, keys.width, i, keys.file) == 0 {
+        first
+    } else {
+        second
+    };
+    table::range(file, from, len)
 }
 
 // The order of rows i and j by one cell.
-fn compare_cells(rows: &[usize], width: usize, column: usize, i: usize, j: usize) -> Order
+fn compare_cells(rows: &[usize], width: usize, column: usize, i: usize, j: usize) -> Ordering
     ensures { result ≡ cmp_nat (cell_of rows.now width i column) (cell_of rows.now width j column) }
 {
-    compare_numbers(
-        table::cell(rows, width, i, column),
-        table::cell(rows, width, j, column),
-    )
-}
-
-fn compare_numbers(x: usize, y: usize) -> Order
-    ensures { result ≡ cmp_nat x y }
-{
-    if x < y {
-        return Order::Less;
-    }
-    if y < x {
-        return Order::Greater;
-    }
-    Order::Equal
+    table::cell(rows, width, i, column).cmp(&table::cell(rows, width, j, column))
 }

@@ -1,4 +1,5 @@
 -- The examples, computed from the bytes of the files. Assumes nothing.
+use Rattle.std.specs.Prelude.{None}
 use mathlib.Core.Path.{◌≡◌, refl, sym, ◌∙◌, ap, subst}
 use mathlib.Core.Logic.{◌↔◌}
 use mathlib.Core.Bool.{Bool, true, false, ◌&&◌, true≢false}
@@ -94,7 +95,7 @@ read_of size exports =
         sections = needs ∷ record { id = 7; from = 19; size = size; name = part 0 0 } ∷ [];
         imports = needed ∷ [];
         exports = exports;
-        names = record { label = record { named = false; start = 0; size = 0 }; symbols = [] };
+        names = record { label = None; symbols = [] };
       };
     }
 

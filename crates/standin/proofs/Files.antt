@@ -1,4 +1,4 @@
--- Demand 3 of files and calls alone. Assumes nothing.
+-- When a build can replace another, of files and calls alone. Assumes nothing.
 use mathlib.Core.Path.{◌≡◌, refl, sym, ◌∙◌, ap, subst, subst₂}
 use mathlib.Core.Logic.{◌↔◌}
 use mathlib.Core.Bool.{Bool, true, false}

@@ -1,4 +1,5 @@
 -- The proofs of Claims. Assumes nothing.
+use Rattle.std.specs.Prelude.{Result, Ok, Err}
 use mathlib.Core.Path.{◌≡◌, refl, sym, ◌∙◌, ap, subst₂}
 use mathlib.Core.Logic.{◌⊎◌, inl, inr, ◌↔◌, ⊎_elim}
 use mathlib.Core.Bool.{Bool, true, false, true≢false}
@@ -7,12 +8,12 @@ use mathlib.Core.List.{List, [], ◌∷◌}
 use Prim.Native.Nat.{ℕ, ◌≤◌, ◌<◌}
 use native.Mathlib.Omega.{arith}
 use native.Mathlib.Decide.{ℕ_discrete}
-use lib.Dec.{leb, eqb}
+use lib.Dec.{leb}
 use lib.ListN.{length, length-map}
 use borrow.Author.Tests.{leb-true, leb-false}
-use Rattle.refusal.specs.Pick.{pick, both}
-use Rattle.refusal.specs.Said.{Said, accepted, refused, follow, said_answer, spot, Place}
-use Rattle.refusal.specs.declared.Answer.{Answer}
+use Rattle.refusal.specs.Pick.{pick}
+use Rattle.refusal.specs.Said.{Said, accepted, refused, follow, spot, Place}
+use Rattle.refusal.specs.declared.Refusal.{Refusal}
 use Rattle.refusal.proofs.Following.{never, one_value, follow-goes, follow-stops}
 use Rattle.table.specs.Entries.{finished}
 use Rattle.table.specs.Table.{laid, cells}
@@ -23,7 +24,7 @@ use Rattle.conform.specs.Claims.{Bytes}
 use Rattle.conform.specs.Sound.{limits}
 use Rattle.policy.specs.declared.Policy.{Policy}
 use Rattle.verdicts.specs.declared.Evaluation.{Evaluation}
-use Rattle.verdicts.specs.Evaluate.{EvaluatedAs, accepted_as, compliant}
+use Rattle.verdicts.specs.Evaluate.{said_evaluation, compliant}
 use Rattle.import_rows.specs.Queries.{kind_is}
 use Rattle.differences.specs.View.{Need, need_at}
 use Rattle.differences.specs.Differences.{cmp_export, cmp_need, export_order, need_order, export_diff, need_diff}
@@ -305,16 +306,12 @@ pub explanation : Explanation
 explanation = record { passes = lists-pass; refuses = explained-lists; files = files }
 
 pub fail_safe : FailSafe
-unfolding compliant
 fail_safe =
     record {
       evaluation = evaluation;
       comparisons = λ b c room8 room9 n place e lent8 left8 lent9 left9 a h. h.answer-is ∙ sym (follow-stops _ e);
     }
   where
-    evaluation : (n : ℕ) (place : Place) (r : Evaluation) → EvaluatedAs (refused n place) r → compliant r ≡ true → ⊥
-    evaluation n place r h k = by r.answer h.answer k
-      where
-        by : (a : Answer) → said_answer a ≡ refused n place → both (accepted_as a) (eqb r.count 0) ≡ true → ⊥
-        by Answer.Accepted e k = never (sym e)
-        by (Answer.Refused w) e k = true≢false (sym k)
+    evaluation : (n : ℕ) (place : Place) (r : Result Evaluation Refusal) → said_evaluation r ≡ refused n place → compliant r ≡ true → ⊥
+    evaluation n place (Ok e) h k = never (sym h)
+    evaluation n place (Err why) h k = true≢false (sym k)

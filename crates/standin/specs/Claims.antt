@@ -1,12 +1,13 @@
--- Demand 3: of files and calls alone (`OfFiles`); and of builds that `read_module` accepted and policies that `read_policy` accepted.
--- Theorems and Files prove the records. Assumes nothing.
-use Rattle.std.specs.Prelude.{◌≡◌, ◌↔◌, true, List, ◌∷◌, ℕ, ◌+◌, ◌≤◌, ◌<◌, length}
+-- When a build can replace another: of files and calls alone (`OfFiles`); and of builds that `read_module` accepted and policies that
+-- `read_policy` accepted. Theorems and Files prove the records. Assumes nothing.
+use Rattle.std.specs.Prelude.{◌≡◌, ◌↔◌, true, List, ◌∷◌, ℕ, ◌+◌, ◌≤◌, ◌<◌, length, Result}
 use Rattle.refusal.specs.Said.{Said, accepted, refused, follow, spot, Place}
+use Rattle.refusal.specs.declared.Refusal.{Refusal}
 use Rattle.table.specs.Shape.{limit, capacity_in, cell_in}
 use Rattle.sorting.specs.Sort.{◌∈◌, Ascending}
 use Rattle.policy.specs.declared.Policy.{Policy}
 use Rattle.verdicts.specs.declared.Evaluation.{Evaluation}
-use Rattle.verdicts.specs.Evaluate.{EvaluatedAs, compliant}
+use Rattle.verdicts.specs.Evaluate.{said_evaluation, compliant}
 use Rattle.differences.specs.declared.Change.TheVariants.{Removed, Added}
 use Rattle.differences.specs.View.{ExportKey, Need}
 use Rattle.differences.specs.Differences.{Entry, export_order, need_order, export_diff, need_diff}
@@ -123,7 +124,7 @@ pub record Explanation : Type 0 where
 -- A refusal is never a pass.
 pub record FailSafe : Type 0 where
   -- A refused evaluation is not compliant.
-  pub evaluation : (n : ℕ) (place : Place) (r : Evaluation) → EvaluatedAs (refused n place) r → compliant r ≡ true → ⊥
+  pub evaluation : (n : ℕ) (place : Place) (r : Result Evaluation Refusal) → said_evaluation r ≡ refused n place → compliant r ≡ true → ⊥
   -- Where the comparison of any two modules, with any room, is refused, so is every answer that satisfies the promise of
   -- `compare_modules`: it has no verdict.
   pub comparisons : (b c : Given) (room8 room9 n : ℕ) (place : Place) → compared b c room8 room9 ≡ refused n place

@@ -1,5 +1,5 @@
--- Demand 3, of builds that `read_strict` accepted: along any chain of replacements the last one is read strictly too, stands in for the
--- first and meets every policy that the first meets. proofs/Strict proves the record. Assumes nothing.
+-- When a build can replace another, of builds that `read_strict` accepted: along any chain of replacements the last one is read strictly
+-- too, stands in for the first and meets every policy that the first meets. proofs/Strict proves the record. Assumes nothing.
 use Rattle.std.specs.Prelude.{◌≡◌, List, [], ◌∷◌, map, ℕ, length}
 use Rattle.refusal.specs.Said.{accepted}
 use Rattle.wasm.specs.declared.Module.{Module}

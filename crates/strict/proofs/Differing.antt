@@ -1,4 +1,6 @@
 -- Rule 6 by a sort: names are all different exactly where a list of them without repeats is as long. Assumes nothing.
+use Rattle.std.specs.Prelude.{Option, Some, None}
+use Rattle.std.specs.Option.{option_eq}
 use Prim.Native.Nat.{ℕ, zero, suc, ◌≤◌}
 use native.Mathlib.Omega.{arith}
 use mathlib.Core.Path.{◌≡◌, refl, sym, ◌∙◌, ap}
@@ -13,8 +15,8 @@ use Rattle.refusal.specs.Pick.{pick}
 use Rattle.refusal.specs.Said.{accepted}
 use Rattle.refusal.proofs.Following.{never, one_value}
 use Rattle.text.specs.Find.{same}
-use Rattle.text.specs.declared.order.Order.{Order}
-use Rattle.text.specs.declared.order.Order.TheVariants.{Less, Equal, Greater}
+use Rattle.std.specs.declared.cmp.Ordering.{Ordering}
+use Rattle.std.specs.declared.cmp.Ordering.TheVariants.{Less, Equal, Greater}
 use Rattle.text.proofs.FindLaws.{same-is, same_self}
 use Rattle.table.specs.Shape.{width, limit}
 use Rattle.table.proofs.Cells.{cell-beside}
@@ -22,18 +24,16 @@ use Rattle.table.proofs.Reading.{finished-room}
 use Rattle.sorting.specs.Order.{Lawful}
 use Rattle.sorting.specs.Sort.{◌∈◌, place, put_in_order, sort, selected, up_from, Ascending}
 use Rattle.sorting.specs.Keys.{by_name, row_name, row_order, row_marked, sorted_rows, said_sorted, Sorts}
-use Rattle.sorting.specs.declared.Sorted.{Sorted}
-use Rattle.sorting.specs.declared.Sorted.TheVariants.{Rows, Full}
 use Rattle.sorting.proofs.Sorts.{NoTie, sort-only, sort-ascends, mem-before, sort-has, sort-length}
 use Rattle.sorting.proofs.Rowing.{lawful-rows}
 use Rattle.sorting.proofs.Ranking.{same_name}
 use Rattle.strict.specs.Rules.{has, different, names_of}
 
 -- two cases of an order are not equal
-not_equal : {o : Order} → o ≡ Less → o ≡ Equal → ⊥
+not_equal : {o : Ordering} → o ≡ Less → o ≡ Equal → ⊥
 not_equal p q = let z : ◌≡◌ {A = ℕ} 0 1 = cc in omega arith
 
-not-greater : {o : Order} → o ≡ Greater → o ≡ Equal → ⊥
+not-greater : {o : Ordering} → o ≡ Greater → o ≡ Equal → ⊥
 not-greater p q = let z : ◌≡◌ {A = ℕ} 0 1 = cc in omega arith
 
 eqb-suc : (a b : ℕ) → eqb (suc a) (suc b) ≡ eqb a b
@@ -44,7 +44,7 @@ eqb-suc a b = go (eqb a b) refl
     go false e = ne_eqb (suc a) (suc b) (λ q. false≢true (sym e ∙ eq-eqb a b (omega arith)))
 
 -- ---- how long a list is when one more is put in
-module _ {A : Type 0} (cmp : A → A → Order) (laws : Lawful cmp) where
+module _ {A : Type 0} (cmp : A → A → Ordering) (laws : Lawful cmp) where
   pub put-tied : (x t : A) (l : List A) → Ascending cmp l → t ∈ l → cmp x t ≡ Equal → length (put_in_order cmp x l) ≡ length l
   put-tied x t [] a m e = absurd (Memᴰ.not-nil m)
   put-tied x t (y ∷ l) a m e = go (cmp x y) refl (Memᴰ.cases_cons m) (λ i. put-tied x t l a.1 i e)
@@ -52,7 +52,7 @@ module _ {A : Type 0} (cmp : A → A → Order) (laws : Lawful cmp) where
       here : t ≡ y → cmp x y ≡ Equal
       here p = rw (sym p) e
 
-      go : (o : Order) → cmp x y ≡ o → (t ≡ y) ⊎ (t ∈ l) → (t ∈ l → length (put_in_order cmp x l) ≡ length l)
+      go : (o : Ordering) → cmp x y ≡ o → (t ≡ y) ⊎ (t ∈ l) → (t ∈ l → length (put_in_order cmp x l) ≡ length l)
           → length (place o x y l (put_in_order cmp x l)) ≡ length (y ∷ l)
       go Less q (inl p) ih = absurd (not_equal q (here p))
       go Less q (inr i) ih =
@@ -66,7 +66,7 @@ module _ {A : Type 0} (cmp : A → A → Order) (laws : Lawful cmp) where
   put-new x [] n = refl
   put-new x (y ∷ l) n = go (cmp x y) refl (put-new x l n.1)
     where
-      go : (o : Order) → cmp x y ≡ o → length (put_in_order cmp x l) ≡ suc (length l) → length (place o x y l (put_in_order cmp x l))
+      go : (o : Ordering) → cmp x y ≡ o → length (put_in_order cmp x l) ≡ suc (length l) → length (place o x y l (put_in_order cmp x l))
           ≡ suc (suc (length l))
       go Less q ih = refl
       go Equal q ih = absurd (n.0 q)
@@ -146,15 +146,21 @@ module _ (file table : List ℕ) (n : ℕ) where
       let order = row_order file file table (by_name (width 3) 0 1 (width 3) 0) in
       rw (all-marked (up_from 0 n)) (omega (arith, sort-length order (up_from 0 n), length_up 0 n))
 
-  module _ {before after : List ℕ} {r : Sorted} (long : length before ≡ limit 3) (room : n ≤ limit 3)
+  module _ {before after : List ℕ} {r : Option ℕ} (long : length before ≡ limit 3) (room : n ≤ limit 3)
       (h : Sorts (sorted_rows file file table (by_name (width 3) 0 1 (width 3) 0) n) before after r) where
     told : said_sorted 0 r ≡ accepted (length (sorted_rows file file table (by_name (width 3) 0 1 (width 3) 0) n))
     told =
         h.answer-is 0 ∙ finished-room 0 (length before) (sorted_rows file file table (by_name (width 3) 0 1 (width 3) 0) n)
         (omega (arith, fewer, long))
 
-    pub differ-count : {k : ℕ} → r ≡ Rows k → eqb k n ≡ different (names_of file table n)
+    pub differ-count : {k : ℕ} → r ≡ Some k → eqb k n ≡ different (names_of file table n)
     differ-count {k} e = ap (λ (x : ℕ). eqb x n) (one_value (ap (said_sorted 0) (sym e) ∙ told)) ∙ names-full
 
-    pub differ-room : r ≡ Full → ⊥
+    pub differ-room : r ≡ None → ⊥
     differ-room e = never (ap (said_sorted 0) (sym e) ∙ told)
+
+pub differ-sorted : (file table : List ℕ) (n : ℕ) (before after : List ℕ) (r : Option ℕ) → length before ≡ limit 3 → n ≤ limit 3
+    → Sorts (sorted_rows file file table (by_name (width 3) 0 1 (width 3) 0) n) before after r
+    → option_eq eqb r (Some n) ≡ different (names_of file table n)
+differ-sorted file table n before after (Some k) long room h = differ-count file table n long room h refl
+differ-sorted file table n before after None long room h = absurd (differ-room file table n long room h refl)

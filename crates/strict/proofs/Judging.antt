@@ -7,9 +7,11 @@ use mathlib.Core.List.{List, [], ◌∷◌, ◌++◌}
 use borrow.Author.Tests.{ltb-true}
 use lib.ListN.{length, length-append}
 use lib.Dec.{eqb, ltb}
+use Rattle.std.specs.Prelude.{Result, Ok, Err}
+use Rattle.std.specs.Result.{IsErrAnd}
 use Rattle.refusal.specs.Pick.{pick}
 use Rattle.refusal.specs.Sizes.{file_limit}
-use Rattle.refusal.specs.Said.{Said, accepted, refused, relocated, follow, Got, got, spot}
+use Rattle.refusal.specs.Said.{Said, accepted, refused, refused_by, relocated, follow, Got, got, spot}
 use Rattle.refusal.specs.declared.Refusal.{Refusal}
 use Rattle.refusal.proofs.Following.{Followed, followed, first-refused, one_value, relocated-got}
 use Rattle.table.specs.Table.{laid, cells}
@@ -20,15 +22,17 @@ use Rattle.table.proofs.Cells.{capacity-limit}
 use Rattle.table.proofs.Giving.{Gives, Of, gives-done, gives-stop, gives-pick, gives-onward, gives-from}
 use Rattle.leb.specs.Reads.{byte_at, u32_at, counted_at, part_bytes}
 use Rattle.wasm.specs.declared.Module.{Module}
-use Rattle.wasm.specs.declared.ModuleRead.{ModuleRead}
 use Rattle.wasm.specs.Entry.{export_at}
 use Rattle.wasm.specs.Rows.{export_cells, imports_of, exports_of}
 use Rattle.wasm.specs.Custom.{custom_at}
 use Rattle.wasm.specs.Module.{Tables, Sizes, Inner, Parsed, Lent, Holds, no_tables, counts_of, module_of, tables_of, said_module, ModuleIs}
 use Rattle.wasm.specs.Module.{contents_at, add_section, section_at, section_cells, header_at, module_at}
 use Rattle.strict.specs.declared.again.Marks.{Marks}
+use Rattle.strict.specs.declared.rules.Rule.{Rule}
+use Rattle.strict.specs.declared.rules.Rule.TheVariants.{Version, ShortNumbers, KnownSections, SectionOrder, UsedSections}
+use Rattle.strict.specs.declared.rules.Rule.TheVariants.{DifferentNames, KnownExports, PlainFlags}
 use Rattle.strict.specs.Again.{marks_at}
-use Rattle.strict.specs.Rules.{ids_of, kinds_of, export_names, broken, broken_in, lowest_of, strict_at, Judged}
+use Rattle.strict.specs.Rules.{ids_of, kinds_of, export_names, broken, broken_in, lowest_of, number_of_rule, strict_at, Judged}
 use Rattle.strict.specs.Claims.{Walked}
 use Rattle.strict.proofs.Ruling.{ids-rows, names-rows, kinds-rows}
 use Rattle.strict.proofs.Strictly.{walks-again, clean-strict, broken-refused}
@@ -172,46 +176,60 @@ module _ (b : List ℕ) (z : Sizes) where
   unfolding module_of counts_of
   broken-as p s e hs he q k = rw (sym q) (broken-rows p s e hs he k)
 
-  module _ {l : Lent} {r : ModuleRead} (h : ModuleIs (length b) z (module_at b z) l (said_module r)) where
-    pub strict-stops : {why : Refusal} → r ≡ ModuleRead.Refused why → ModuleIs (length b) z (strict_at b z) l (said_module r)
-    unfolding strict_at follow
-    strict-stops {why} e =
-        let f = first-refused (module_at b z) (module_of (length b)) (sym h.answer-is ∙ ap said_module e) in
-        let s : strict_at b z ≡ module_at b z = rw f in
-        subst (λ (x : Said Parsed). ModuleIs (length b) z x l (said_module r)) (sym s) h
+  -- the plain read is refused
+  pub strict-stops : (l : Lent) (w : Refusal) (r : Result Module Refusal) → ModuleIs (length b) z (module_at b z) l (refused_by w)
+      → IsErrAnd r (λ e. e ≡ w) → ModuleIs (length b) z (strict_at b z) l (said_module r)
+  unfolding strict_at follow
+  strict-stops l w (Ok m) h q = absurd q
+  strict-stops l w (Err e) h q =
+      let f = first-refused (module_at b z) (module_of (length b)) (sym h.answer-is) in
+      let s : strict_at b z ≡ module_at b z = rw f in
+      rw q (subst (λ (x : Said Parsed). ModuleIs (length b) z x l (refused_by w)) (sym s) h)
 
-    module _ {m : Module} (is : r ≡ ModuleRead.Module m) where
-      found : Followed (module_at b z) (λ p. accepted (module_of (length b) p)) m
-      found = followed (module_at b z) (λ p. accepted (module_of (length b) p)) (sym h.answer-is ∙ ap said_module is)
+  -- it is accepted
+  module _ (l : Lent) (m : Module) (h : ModuleIs (length b) z (module_at b z) l (accepted m)) where
+    found : Followed (module_at b z) (λ p. accepted (module_of (length b) p)) m
+    found = followed (module_at b z) (λ p. accepted (module_of (length b) p)) (sym h.answer-is)
 
-      rows : Holds l z found.what.tables
-      unfolding tables_of
-      rows = rw found.first at h.tables-are
+    rows : Holds l z found.what.tables
+    unfolding tables_of
+    rows = rw found.first at h.tables-are
 
-      pub few-counted : m.exports ≤ limit 3
-      unfolding module_of counts_of Gives FewRead Few
-      few-counted =
-          rw (sym (one_value found.then)) (few-module b z found.what found.first)
+    pub few-counted : m.exports ≤ limit 3
+    unfolding module_of counts_of Gives FewRead Few
+    few-counted = rw (sym (one_value found.then)) (few-module b z found.what found.first)
 
-      walked : (k : Marks) × Walked b z found.what k
-      walked = walks-again b z found.what found.first
+    walked : (k : Marks) × Walked b z found.what k
+    walked = walks-again b z found.what found.first
 
-      module _ {rule : ℕ} (judged : Judged b m.version l.sections m.sections l.exports m.exports rule) where
-        rule-is : rule ≡ broken b found.what walked.0
-        rule-is =
-            judged walked.0 walked.1.end walked.1.marks-are
-            ∙ broken-as found.what l.sections l.exports rows.sections-are rows.exports-are (one_value found.then) walked.0
+    module _ (rule : ℕ) (judged : Judged b m.version l.sections m.sections l.exports m.exports rule) where
+      rule-is : rule ≡ broken b found.what walked.0
+      rule-is =
+          judged walked.0 walked.1.end walked.1.marks-are
+          ∙ broken-as found.what l.sections l.exports rows.sections-are rows.exports-are (one_value found.then) walked.0
 
-        pub strict-good : rule ≡ 0 → ModuleIs (length b) z (strict_at b z) l (accepted m)
-        strict-good q =
-            let s : strict_at b z ≡ module_at b z =
-            clean-strict b z found.what walked.0 walked.1 (sym rule-is ∙ q) ∙ sym found.first in
-            subst (λ (x : Said Parsed). ModuleIs (length b) z x l (accepted m)) (sym s)
-            (subst (λ (y : Said Module). ModuleIs (length b) z (module_at b z) l y) (ap said_module is) h)
+      pub strict-good : rule ≡ 0 → ModuleIs (length b) z (strict_at b z) l (accepted m)
+      strict-good q =
+          let s : strict_at b z ≡ module_at b z =
+          clean-strict b z found.what walked.0 walked.1 (sym rule-is ∙ q) ∙ sym found.first in
+          subst (λ (x : Said Parsed). ModuleIs (length b) z x l (accepted m)) (sym s) h
 
-        pub strict-bad : {l1 : Lent} → (rule ≡ 0 → ⊥) → Holds l1 z no_tables → ModuleIs (length b) z (strict_at b z) l1 (refused 20 (spot rule))
-        unfolding follow tables_of
-        strict-bad q hl =
-            let s : strict_at b z ≡ refused 20 (spot rule) =
-            broken-refused b z found.what walked.0 walked.1 (λ e. q (rule-is ∙ e)) ∙ ap (λ (x : ℕ). refused 20 (spot x)) (sym rule-is) in
-            rw s (record { answer-is = refl; tables-are = hl })
+      pub strict-bad : (l1 : Lent) (n : ℕ) → n ≡ rule → (rule ≡ 0 → ⊥) → Holds l1 z no_tables
+          → ModuleIs (length b) z (strict_at b z) l1 (refused 20 (spot n))
+      unfolding follow tables_of
+      strict-bad l1 n e q hl =
+          let s : strict_at b z ≡ refused 20 (spot n) =
+          broken-refused b z found.what walked.0 walked.1 (λ e. q (rule-is ∙ e))
+          ∙ ap (λ (x : ℕ). refused 20 (spot x)) (sym (e ∙ rule-is)) in
+          rw s (record { answer-is = refl; tables-are = hl })
+
+-- a rule has a number
+pub rule-some : (r : Rule) → number_of_rule r ≡ 0 → ⊥
+rule-some Version e = omega (arith, e)
+rule-some ShortNumbers e = omega (arith, e)
+rule-some KnownSections e = omega (arith, e)
+rule-some SectionOrder e = omega (arith, e)
+rule-some UsedSections e = omega (arith, e)
+rule-some DifferentNames e = omega (arith, e)
+rule-some KnownExports e = omega (arith, e)
+rule-some PlainFlags e = omega (arith, e)

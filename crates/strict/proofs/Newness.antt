@@ -1,5 +1,5 @@
 -- Rule 6 by marks: a name whose print is not marked is none of those whose prints are. Assumes nothing.
-use Prim.Native.Nat.{ℕ, zero, suc, ◌+◌, ◌-◌, ◌*◌, ◌/◌, ◌%◌, ◌≤◌, ◌<◌}
+use Prim.Native.Nat.{ℕ, zero, suc, min, ◌+◌, ◌-◌, ◌*◌, ◌/◌, ◌%◌, ◌≤◌, ◌<◌}
 use native.Mathlib.Omega.{arith}
 use native.Mathlib.Nat.{lt_of_le_of_lt}
 use mathlib.Core.Path.{◌≡◌, refl, sym, ◌∙◌, ap}
@@ -9,7 +9,7 @@ use lib.Bits.{bit_and, bit_xor, and_le_r}
 use lib.Dec.{ltb}
 use lib.ListN.{length, get_or, set, drop, length-set}
 use lib.Seq.{get_or-set_same}
-use borrow.Author.Tests.{lt-ltb, le-ltb}
+use borrow.Author.Tests.{lt-ltb, le-ltb, ltb-true, ltb-false}
 use Rattle.refusal.specs.Pick.{pick}
 use Rattle.refusal.specs.Said.{accepted, refused, got, Place}
 use Rattle.refusal.specs.Each.{Each, each_nil, each-cons}
@@ -43,6 +43,14 @@ module _ (s : List ℕ) (at : ℕ) where
   pub half-none : {n : ℕ} {p : Place} → fixed_at s at ≡ refused n p → 0 ≡ half_at s at
   unfolding half_at four_found
   half-none e = rw e
+
+-- the lesser of two numbers, by a test
+pub least : (a b r : ℕ) → r ≡ min a b → r ≡ pick (ltb a b) a b
+least a b r e = go (ltb a b) refl
+  where
+    go : (t : Bool) → ltb a b ≡ t → r ≡ pick t a b
+    go true q = omega (arith, e, ltb-true a b q)
+    go false q = omega (arith, e, ltb-false a b q)
 
 -- a word of two halves, and what a print is made of
 module _ (s : List ℕ) where

@@ -1,158 +1,122 @@
 -- The rules' loops, a row at a time; and the rows that a table holds. Assumes nothing.
 use Prim.Native.Nat.{ℕ, zero, suc, ◌+◌, ◌≤◌, ◌<◌}
 use native.Mathlib.Omega.{arith}
-use native.Mathlib.Numerals.{add-one}
+use native.Mathlib.Nat.{zero-add}
 use mathlib.Core.Path.{◌≡◌, refl, sym, ◌∙◌, ap}
 use mathlib.Core.Bool.{Bool, true, false}
 use mathlib.Core.List.{List, [], ◌∷◌, ◌++◌, map}
-use borrow.Author.Tests.{ne_eqb, le-leb, lt-leb, lt-ltb, le-ltb}
-use lib.ListN.{length, get_or}
-use lib.Dec.{leb, ltb, eqb}
-use Rattle.refusal.specs.Pick.{pick, both}
+use borrow.Author.Tests.{ne_eqb, le-leb, lt-leb, lt-ltb, le-ltb, ltb-true, ltb-false}
+use lib.ListN.{length, get_or, drop, get_or-append}
+use lib.Seq.{get_or-append_seam}
+use Rattle.std.proofs.lemmas.List.FromFn.{length-range_with_len, get_or-range_with_len}
+use lib.Dec.{leb, ltb}
+use Rattle.std.specs.Bool.{MatchBool}
+use Rattle.std.specs.List.{range_with_len, AllWithin, HoldsAt}
+use Rattle.refusal.specs.Pick.{both}
 use Rattle.table.specs.Table.{cell_of, range_of, rows_of, laid, cells}
 use Rattle.table.specs.Shape.{width}
-use Rattle.table.proofs.Laws.{cell-laid, rows_back}
+use Rattle.text.proofs.Laws.{left-next, left-none}
+use Rattle.table.proofs.Laws.{cell-laid, rows_back, length-rows}
 use Rattle.sorting.specs.Sort.{up_from}
 use Rattle.sorting.specs.Keys.{row_name}
 use Rattle.wasm.specs.Shapes.{Export, Section}
 use Rattle.wasm.specs.Rows.{export_cells}
 use Rattle.wasm.specs.Module.{section_cells}
-use Rattle.strict.specs.declared.rules.Rank.{Rank}
-use Rattle.strict.specs.Rules.{none_above, section_place, ordered_from, ordered, column_of, names_of, passed}
+use Rattle.strict.specs.Rules.{none_above, section_place, ordered_from, ordered, column_of, names_of}
 
--- ---- one more at the end
-none-snoc : (n : ℕ) (l : List ℕ) (x : ℕ) → none_above n (l ++ (x ∷ [])) ≡ both (none_above n l) (leb x n)
+-- ---- where a section stands
+module _ (id : ℕ) where
+  pub place-few : id < 10 → id ≡ section_place id
+  unfolding section_place
+  place-few h = rw (lt-ltb id 10 h)
+
+  pub place-late : 10 ≤ id → (id ≡ 10 → ⊥) → (id ≡ 11 → ⊥) → (id ≡ 12 → ⊥) → 13 ≡ section_place id
+  unfolding section_place
+  place-late h a b c = rw (le-ltb id 10 h, ne_eqb id 10 a, ne_eqb id 11 b, ne_eqb id 12 c)
+
+-- ---- the rows of a column
+row-at : {R : Type 0} (g : ℕ → R) (d : R) (n i : ℕ) → i < n → get_or (rows_of g n) i d ≡ g i
+unfolding rows_of
+row-at g d zero i h = absurd (omega arith)
+row-at {R} g d (suc n) i h = go (ltb i n) refl (row-at g d n i)
+  where
+    go : (t : Bool) → ltb i n ≡ t → (i < n → get_or (rows_of g n) i d ≡ g i) → get_or (rows_of g n ++ (g n ∷ [])) i d ≡ g i
+    go true q ih =
+        let k = ltb-true i n q in
+        let m : i < length (rows_of g n) = rw (length-rows g n) k in
+        get_or-append (rows_of g n) (g n ∷ []) d i m ∙ ih k
+    go false q ih =
+        let e : i ≡ length (rows_of g n) = omega (arith, ltb-false i n q, length-rows g n) in
+        let f : i ≡ n = omega (arith, e, length-rows g n) in
+        ap (λ (k : ℕ). get_or (rows_of g n ++ (g n ∷ [])) k d) e ∙ get_or-append_seam (rows_of g n) (g n) [] d ∙ ap g (sym f)
+
+none-all : (last : ℕ) (l : List ℕ) → ((k : ℕ) → k < length l → get_or l k 0 ≤ last) → true ≡ none_above last l
 unfolding none_above
-none-snoc n [] x = go (leb x n) where
-  go : (t : Bool) → both t true ≡ t
-  go true = refl
-  go false = refl
-none-snoc n (y ∷ l) x = rw (none-snoc n l x) (go (leb y n))
+none-all last [] h = refl
+none-all last (x ∷ l) h = rw (le-leb x last (h 0 (omega arith))) (none-all last l (λ k b. h (suc k) (omega arith)))
+
+none-some : (last : ℕ) (l : List ℕ) (k : ℕ) → k < length l → last < get_or l k 0 → false ≡ none_above last l
+unfolding none_above
+none-some last [] k h a = absurd (omega arith)
+none-some last (x ∷ l) zero h a = rw (lt-leb x last a)
+none-some last (x ∷ l) (suc k) h a = go (leb x last) (none-some last l k (omega arith) a)
   where
-    go : (t : Bool) → both t (both (none_above n l) (leb x n)) ≡ both (both t (none_above n l)) (leb x n)
-    go true = refl
-    go false = refl
+    go : (t : Bool) → false ≡ none_above last l → false ≡ both t (none_above last l)
+    go true e = e
+    go false e = refl
 
--- the last place of a section with an id of its own
-unfoldable pub last_of : ℕ → List ℕ → ℕ
-last_of last [] = last
-last_of last (id ∷ l) = last_of (pick (eqb (section_place id) 0) last (section_place id)) l
+module _ (table : List ℕ) (w j n : ℕ) where
+  column-long : length (column_of table w j n) ≡ n
+  unfolding column_of
+  column-long = length-rows (λ i. cell_of table w i j) n
 
--- a section comes after a place, or is passed over
-abbrev after : ℕ → ℕ → Bool
-after last id = pick (eqb (section_place id) 0) true (ltb last (section_place id))
+  column-at : (i : ℕ) → i < n → get_or (column_of table w j n) i 0 ≡ cell_of table w i j
+  unfolding column_of
+  column-at i h = row-at (λ i. cell_of table w i j) 0 n i h
 
-ordered-snoc : (last : ℕ) (l : List ℕ) (x : ℕ) → ordered_from last (l ++ (x ∷ [])) ≡ both (ordered_from last l) (after (last_of last l) x)
-unfolding ordered_from last_of
-ordered-snoc last [] x = go (eqb (section_place x) 0) (ltb last (section_place x)) where
-  go : (t u : Bool) → pick t true (both u true) ≡ pick t true u
-  go true u = refl
-  go false true = refl
-  go false false = refl
-ordered-snoc last (y ∷ l) x =
-    go (eqb (section_place y) 0) (ordered-snoc last l x) (ordered-snoc (section_place y) l x) (ltb last (section_place y))
-  where
-    go : (t : Bool) → ordered_from last (l ++ (x ∷ [])) ≡ both (ordered_from last l) (after (last_of last l) x)
-        → ordered_from (section_place y) (l ++ (x ∷ [])) ≡ both (ordered_from (section_place y) l) (after (last_of (section_place y) l) x)
-        → (u : Bool)
-        → pick t (ordered_from last (l ++ (x ∷ []))) (both u (ordered_from (section_place y) (l ++ (x ∷ []))))
-        ≡ both (pick t (ordered_from last l) (both u (ordered_from (section_place y) l))) (after (last_of (pick t last (section_place y)) l) x)
-    go true a b u = a
-    go false a b true = b
-    go false a b false = refl
+  -- none of them is above a bound, as a test of each told
+  pub none-told : (last : ℕ) (r : Bool)
+      → MatchBool r (AllWithin (λ i. cell_of table w i j ≤ last) (range_with_len 0 n) 0 (length (range_with_len 0 n)))
+      ((k : ℕ) × (k < length (range_with_len 0 n)) × HoldsAt (λ i. last < cell_of table w i j) (range_with_len 0 n) k)
+      → r ≡ none_above last (column_of table w j n)
+  none-told last true h =
+      none-all last (column_of table w j n) (λ k b.
+      let m : k < n = omega (arith, b, column-long) in
+      let g : cell_of table w (get_or (range_with_len 0 n) k 0) j ≤ last = h k 0 (omega arith) (rw (length-range_with_len 0 n) m) in
+      rw (column-at k m) (rw (get_or-range_with_len 0 n k 0 m, zero-add) at g))
+  none-told last false h =
+      let k = h.0 in
+      let m : k < n = omega (arith, h.1, length-range_with_len 0 n) in
+      let g : last < cell_of table w (get_or (range_with_len 0 n) k 0) j = h.2 0 in
+      none-some last (column_of table w j n) k (rw column-long m) (rw (column-at k m) (rw (get_or-range_with_len 0 n k 0 m, zero-add) at g))
 
-last_snoc : (last : ℕ) (l : List ℕ) (x : ℕ) → last_of last (l ++ (x ∷ [])) ≡ pick (eqb (section_place x) 0) (last_of last l) (section_place x)
-unfolding last_of
-last_snoc last [] x = refl
-last_snoc last (y ∷ l) x = last_snoc (pick (eqb (section_place y) 0) last (section_place y)) l x
+  -- ---- the order's loop: what is left from row i on, after the last place so far
+  pub order-whole : ordered_from 0 (drop 0 (column_of table w j n)) ≡ ordered (column_of table w j n)
+  unfolding ordered
+  order-whole = refl
 
--- ---- the loops
-column-next : (table : List ℕ) (w j i : ℕ) → column_of table w j (i + 1) ≡ column_of table w j i ++ (cell_of table w i j ∷ [])
-unfolding column_of rows_of
-column-next table w j i = rw (add-one i)
+  pub order-none : (last i : ℕ) → n ≤ i → true ≡ ordered_from last (drop i (column_of table w j n))
+  unfolding ordered_from
+  order-none last i h = rw (left-none (column_of table w j n) i (rw column-long h))
 
-module _ (table : List ℕ) (w j n i : ℕ) {x : ℕ} (is : x ≡ cell_of table w i j) where
-  pub none-next : (b : Bool) → b ≡ none_above n (column_of table w j i) → x ≤ n → b ≡ none_above n (column_of table w j (i + 1))
-  none-next b e h =
-      let k : leb (cell_of table w i j) n ≡ true = rw (sym is) (le-leb x n h) in
-      rw (column-next table w j i, none-snoc n (column_of table w j i) (cell_of table w i j), k, sym e) (go b)
-    where
-      go : (t : Bool) → t ≡ both t true
-      go true = refl
-      go false = refl
+  module _ (last i : ℕ) {x p : ℕ} (is : x ≡ cell_of table w i j) (at : p ≡ section_place x) (h : i < n) where
+    column-rest : drop i (column_of table w j n) ≡ x ∷ drop (i + 1) (column_of table w j n)
+    column-rest =
+        left-next (column_of table w j n) i (rw column-long h)
+        ∙ ap (λ (y : ℕ). y ∷ drop (i + 1) (column_of table w j n)) (column-at i h ∙ sym is)
 
-  pub none_over : n < x → false ≡ none_above n (column_of table w j (i + 1))
-  none_over h =
-      let k : leb (cell_of table w i j) n ≡ false = rw (sym is) (lt-leb x n h) in
-      rw (column-next table w j i, none-snoc n (column_of table w j i) (cell_of table w i j), k) (go (none_above n (column_of table w j i)))
-    where
-      go : (t : Bool) → false ≡ both t false
-      go true = refl
-      go false = refl
+    pub order-passes : p ≡ 0 → ordered_from last (drop (i + 1) (column_of table w j n)) ≡ ordered_from last (drop i (column_of table w j n))
+    unfolding ordered_from
+    order-passes e = rw (column-rest, sym at, e)
 
--- the state of the order's loop
-pub record Placing (l : List ℕ) (good : Bool) (last : ℕ) : Type 0 where
-  pub good-is : good ≡ ordered l
-  pub last-is : last ≡ last_of 0 l
+    pub order_on : (p ≡ 0 → ⊥) → last < p
+        → ordered_from p (drop (i + 1) (column_of table w j n)) ≡ ordered_from last (drop i (column_of table w j n))
+    unfolding ordered_from
+    order_on o k = rw (column-rest, sym at, ne_eqb p 0 o, lt-ltb last p k)
 
-one_more : (t : Bool) → t ≡ both t true
-one_more true = refl
-one_more false = refl
-
-no_more : (t : Bool) → false ≡ both t false
-no_more true = refl
-no_more false = refl
-
-pub placing-next : {l : List ℕ} {r : Rank} (h : Placing l r.good r.last) (x : ℕ) → let q = passed r x in
-    Placing (l ++ (x ∷ [])) q.good q.last
-unfolding ordered passed
-placing-next {l} {r} h x = go (eqb (section_place x) 0) refl (ltb r.last (section_place x)) refl
-  where
-    last-ltb : (t : Bool) → ltb r.last (section_place x) ≡ t → ltb (last_of 0 l) (section_place x) ≡ t
-    last-ltb t e = ap (λ (n : ℕ). ltb n (section_place x)) (sym h.last-is) ∙ e
-
-    go : (t : Bool) → eqb (section_place x) 0 ≡ t → (u : Bool) → ltb r.last (section_place x) ≡ u
-        → let q : Rank = pick t r (record { good = pick u r.good false; last = section_place x }) in
-        Placing (l ++ (x ∷ [])) q.good q.last
-    go true e u f =
-        record {
-          good-is = rw (ordered-snoc 0 l x, e) (h.good-is ∙ one_more (ordered_from 0 l));
-          last-is = rw (last_snoc 0 l x, e) h.last-is;
-        }
-    go false e true f =
-        record {
-          good-is = rw (ordered-snoc 0 l x, e, last-ltb true f) (h.good-is ∙ one_more (ordered_from 0 l));
-          last-is = rw (last_snoc 0 l x, e);
-        }
-    go false e false f =
-        record {
-          good-is = rw (ordered-snoc 0 l x, e, last-ltb false f) (no_more (ordered_from 0 l));
-          last-is = rw (last_snoc 0 l x, e);
-        }
-
--- what `pass` makes of a section
-module _ (r : Rank) (id : ℕ) {p : ℕ} (is : p ≡ section_place id) (own : p ≡ 0 → ⊥) where
-  pub passed_on : r.last < p → ◌≡◌ {A = Rank} (record { good = r.good; last = p }) (passed r id)
-  unfolding passed
-  passed_on h =
-      let k : ltb r.last (section_place id) ≡ true = lt-ltb r.last (section_place id) (omega (arith, is)) in
-      rw (ne_eqb (section_place id) 0 (λ q. own (is ∙ q)), k, is)
-
-  pub passed-off : p ≤ r.last → ◌≡◌ {A = Rank} (record { good = false; last = p }) (passed r id)
-  unfolding passed
-  passed-off h =
-      let k : ltb r.last (section_place id) ≡ false = le-ltb r.last (section_place id) (omega (arith, is)) in
-      rw (ne_eqb (section_place id) 0 (λ q. own (is ∙ q)), k, is)
-
--- a turn of the order's loop
-pub placing-turn : (table : List ℕ) (i : ℕ) {r q : Rank} {x : ℕ} → Placing (column_of table (width 1) 0 i) r.good r.last
-    → x ≡ cell_of table (width 1) i 0 → q ≡ passed r x → Placing (column_of table (width 1) 0 (i + 1)) q.good q.last
-placing-turn table i {r} {q} {x} h is e =
-    rw (column-next table (width 1) 0 i, e, is) (placing-next {r = r} h (cell_of table (width 1) i 0))
-
-pub placing-none : (table : List ℕ) → Placing (column_of table (width 1) 0 0) true 0
-unfolding ordered ordered_from column_of rows_of last_of
-placing-none table = record { good-is = refl; last-is = refl }
+    pub order-ends : (p ≡ 0 → ⊥) → p ≤ last → false ≡ ordered_from last (drop i (column_of table w j n))
+    unfolding ordered_from
+    order-ends o k = rw (column-rest, sym at, ne_eqb p 0 o, le-ltb last p k)
 
 -- ---- a column of a table that holds rows
 get_d_map : {A B : Type 0} (f : A → B) (l : List A) (i : ℕ) (d : A) (e : B) → i < length l → get_or (map f l) i e ≡ f (get_or l i d)
@@ -187,7 +151,8 @@ map-up : {A B : Type 0} (g : ℕ → B) (h : A → B) (d : A) (rs : List A) (a :
 map-up g h d [] a f = refl
 map-up g h d (r ∷ rs) a f =
     let e : g a ≡ h r = ap g (omega arith) ∙ f 0 (omega arith) in
-    let q : map g (up_from (suc a) (length rs)) ≡ map h rs = map-up g h d rs (suc a) (λ i b. ap g (omega arith) ∙ f (suc i) (omega arith)) in
+    let q : map g (up_from (suc a) (length rs)) ≡ map h rs =
+    map-up g h d rs (suc a) (λ i b. ap g (omega arith) ∙ f (suc i) (omega arith)) in
     cc
 
 module _ (b : List ℕ) (size : ℕ) where

@@ -3,15 +3,13 @@
 -- ever told and no place of them is moved (proofs/Seeing). Assumes nothing.
 use Rattle.std.specs.Prelude.{ℕ, zero, suc, ◌-◌, ◌%◌, true, false, List, length, leb, eqb}
 use Rattle.refusal.specs.Pick.{pick}
-use Rattle.refusal.specs.Said.{Said, accepted, refused, refused_by, Got, got, onward, kind_at}
-use Rattle.refusal.specs.declared.Refusal.{Refusal}
-use Rattle.refusal.specs.declared.Refusal.TheVariants.{UnexpectedEof}
+use Rattle.refusal.specs.Said.{Said, accepted, refused, Got, got, onward, kind_at}
 use Rattle.text.specs.Find.{same}
 use Rattle.table.specs.Walking.{walk_from}
 use Rattle.leb.specs.Reads.{part_bytes, byte_at, u32_at, counted_at}
 use Rattle.wasm.specs.Custom.{name_word}
 use Rattle.strict.specs.declared.again.Marks.{Marks}
-use Rattle.strict.specs.declared.again.Marked.{Marked}
+use Rattle.strict.specs.declared.again.Frame.{Frame}
 
 -- nothing is broken yet
 unfoldable pub fresh : Marks
@@ -134,10 +132,8 @@ unfoldable pub marks_at : List ℕ → Said (Got Marks)
 marks_at b = walk_from (section_marks b) b 8 fresh
 
 -- ---- for the code
-abbrev pub said_marked : Marked → Said (Got Marks)
-said_marked (Marked.Read m next) = accepted (got m next.at)
-said_marked (Marked.Refused why) = refused_by why
-
-abbrev pub why_marked : Marked → Refusal
-why_marked (Marked.Read m next) = UnexpectedEof 0
-why_marked (Marked.Refused why) = why
+-- an id, a size and so many bytes, and what holds after the size
+unfoldable pub frame_at : List ℕ → ℕ → Marks → Said (Got Frame)
+frame_at s at m =
+    onward (byte_at s at) (λ id a.
+    onward (counted_at s a) (λ p next. accepted (got (record { id = id; bytes = p; marks = with_number m (p.from - a) }) next)))

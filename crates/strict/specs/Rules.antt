@@ -1,5 +1,5 @@
 -- docs/RULES.md, "Strict reading": the eight rules, the lowest one that a file breaks, and what a strict read answers. Assumes nothing.
-use Rattle.std.specs.Prelude.{ℕ, ◌≡◌, Bool, true, false, List, [], ◌∷◌, map, leb, ltb, eqb}
+use Rattle.std.specs.Prelude.{ℕ, ◌≡◌, Bool, true, false, Option, Some, None, List, [], ◌∷◌, map, leb, ltb, eqb}
 use Rattle.refusal.specs.Pick.{pick, both}
 use Rattle.refusal.specs.Said.{Said, accepted, refused, follow, got, onward, spot}
 use Rattle.text.specs.Find.{same}
@@ -10,7 +10,9 @@ use Rattle.sorting.specs.Keys.{row_name}
 use Rattle.wasm.specs.Shapes.{Section, Export}
 use Rattle.wasm.specs.Module.{Parsed, Sizes, module_at}
 use Rattle.strict.specs.declared.again.Marks.{Marks}
-use Rattle.strict.specs.declared.rules.Rank.{Rank}
+use Rattle.strict.specs.declared.rules.Rule.{Rule}
+use Rattle.strict.specs.declared.rules.Rule.TheVariants.{Version, ShortNumbers, KnownSections, SectionOrder, UsedSections}
+use Rattle.strict.specs.declared.rules.Rule.TheVariants.{DifferentNames, KnownExports, PlainFlags}
 use Rattle.strict.specs.Again.{marks_at}
 
 -- ---- what the rules are about
@@ -80,10 +82,20 @@ column_of table w column n = rows_of (λ i. cell_of table w i column) n
 unfoldable pub names_of : List ℕ → List ℕ → ℕ → List (List ℕ)
 names_of file table n = map (row_name file table (width 3) 0 1) (up_from 0 n)
 
--- one section more: custom ones are passed over
-unfoldable pub passed : Rank → ℕ → Rank
-passed r id =
-    pick (eqb (section_place id) 0) r (record { good = pick (ltb r.last (section_place id)) r.good false; last = section_place id })
+-- the numbers of the rules; 0 is none
+abbrev pub number_of_rule : Rule → ℕ
+number_of_rule Version = 1
+number_of_rule ShortNumbers = 2
+number_of_rule KnownSections = 3
+number_of_rule SectionOrder = 4
+number_of_rule UsedSections = 5
+number_of_rule DifferentNames = 6
+number_of_rule KnownExports = 7
+number_of_rule PlainFlags = 8
+
+abbrev pub rule_told : Option Rule → ℕ
+rule_told (Some r) = number_of_rule r
+rule_told None = 0
 
 -- the lowest rule that is broken, of n rows that table 1 holds, k that table 3 holds, and the marks
 abbrev pub broken_in : List ℕ → ℕ → List ℕ → ℕ → List ℕ → ℕ → Marks → ℕ
@@ -95,3 +107,7 @@ broken_in b version sections n exports k m =
 abbrev pub Judged : List ℕ → ℕ → List ℕ → ℕ → List ℕ → ℕ → ℕ → Type 0
 Judged b version sections n exports k rule =
     (m : Marks) (d : ℕ) → marks_at b ≡ accepted (got m d) → rule ≡ broken_in b version sections n exports k m
+
+-- tables of so many cells
+abbrev pub sized : ℕ → ℕ → ℕ → ℕ → Sizes
+sized s i e n = record { sections = s; imports = i; exports = e; names = n }

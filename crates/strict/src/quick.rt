@@ -1,10 +1,9 @@
 // Rule 6 without a sort: names whose prints are all new are all different. Where two prints meet nothing is said.
-ghost use Rattle.std.specs.Prelude.{◌≡◌, true, ◌+◌, ◌≤◌, ◌<◌, ltb, length};
-ghost use Rattle.refusal.specs.Pick.{pick};
+ghost use Rattle.std.specs.Prelude.{◌≡◌, true, ◌+◌, ◌≤◌, ◌<◌, length};
 ghost use Rattle.strict.specs.Rules.{different, names_of};
 ghost use Rattle.strict.specs.Quick.{mixed, stirred, half_at, word_at, name_print, Marked, Noted};
 
-use leb::{Cursor, U32Read};
+use leb::Cursor;
 use table::shape::EXPORT_WIDTH;
 
 // Half a word is below this; the factors are odd and take every bit of it along.
@@ -49,10 +48,8 @@ fn mix(bytes: &[u8], start: usize) -> usize
     ensures { (result ≡ mixed start bytes.now) × (result < 4294967296) }
 {
     let mut print = start;
-    let mut i = 0;
-    while i < bytes.len() {
-        print = (print * SPREAD + bytes[i] as usize) % HALF;
-        i += 1;
+    for byte in bytes {
+        print = (print * SPREAD + *byte as usize) % HALF;
     }
     print
 }
@@ -69,8 +66,8 @@ fn half(s: &[u8], at: usize) -> usize
     ensures { result ≡ half_at s.now at }
 {
     match (Cursor { at }).u32_le(s) {
-        U32Read::Read(v, _) => v as usize,
-        U32Read::Refused(_, _) => 0,
+        Ok((v, _)) => v as usize,
+        Err(_) => 0,
     }
 }
 
@@ -80,15 +77,6 @@ fn word(s: &[u8], at: usize) -> usize
     ensures { result ≡ word_at s.now at }
 {
     stir(half(s, at), half(s, at + HALF_WORD))
-}
-
-fn lesser(a: usize, b: usize) -> usize
-    ensures { (result ≡ pick (ltb a b) a b) × (result ≤ b) }
-{
-    if a < b {
-        return a;
-    }
-    b
 }
 
 // A number that tells most names apart: of the length, the first eight bytes, eight from `spot` on and the last eight.
@@ -102,7 +90,7 @@ fn print_of(name: &[u8], spot: usize) -> usize
     }
     let last = n - WORD;
     let one = word(name, 0);
-    let two = word(name, lesser(spot, last));
+    let two = word(name, spot.min(last));
     let three = word(name, last);
     // by shares that differ, so that words that are the same do not cancel out
     let all = one ^ two / 8 ^ three / 64 ^ n;
@@ -117,16 +105,7 @@ fn is_new(marks: &[u8], last: usize, print: usize) -> bool
     let a = print / FIRST & last;
     let b = print / SECOND & last;
     let c = print / THIRD & last;
-    if marks[a] != 1 {
-        return true;
-    }
-    if marks[b] != 1 {
-        return true;
-    }
-    if marks[c] != 1 {
-        return true;
-    }
-    false
+    marks[a] != 1 || marks[b] != 1 || marks[c] != 1
 }
 
 fn note(marks: &mut [u8], last: usize, print: usize)
@@ -142,7 +121,7 @@ fn note(marks: &mut [u8], last: usize, print: usize)
 }
 
 // From the last name to the first, each print is new.
-pub(crate) fn all_new(
+fn all_new(
     file: &[u8],
     exports: &[usize],
     n: usize,
@@ -153,9 +132,7 @@ pub(crate) fn all_new(
     requires { last < length marks.old }
     ensures { result ≡ true → different (names_of file.now exports.now n) ≡ true }
 {
-    let mut i = n;
-    while i > 0 {
-        i -= 1;
+    for i in (0..n).rev() {
         let from = table::cell(exports, EXPORT_WIDTH, i, 0);
         let len = table::cell(exports, EXPORT_WIDTH, i, 1);
         let print = print_of(table::range(file, from, len), spot);
@@ -167,20 +144,32 @@ pub(crate) fn all_new(
     true
 }
 
+// The same, with marks of N places.
+pub(crate) fn all_new_in<const N: usize>(
+    file: &[u8],
+    exports: &[usize],
+    n: usize,
+    spot: usize,
+) -> bool
+    requires some { 0 < N }
+    requires most { N ≤ 65536 }
+    ensures { result ≡ true → different (names_of file.now exports.now n) ≡ true }
+{
+    let mut marks = [0u8; N];
+    all_new(file, exports, n, spot, &mut marks, N - 1)
+}
+
 // Whether the first n export names are surely all different.
 pub(crate) fn surely_differ(file: &[u8], exports: &[usize], n: usize, spot: usize) -> bool
     ensures { result ≡ true → different (names_of file.now exports.now n) ≡ true }
 {
     if n <= FEW {
-        let mut marks = [0u8; FEW_PLACES];
-        return all_new(file, exports, n, spot, &mut marks, FEW_PLACES - 1);
+        all_new_in::<FEW_PLACES>(file, exports, n, spot)
+    } else if n <= SOME {
+        all_new_in::<SOME_PLACES>(file, exports, n, spot)
+    } else {
+        all_new_in::<PLACES>(file, exports, n, spot)
     }
-    if n <= SOME {
-        let mut marks = [0u8; SOME_PLACES];
-        return all_new(file, exports, n, spot, &mut marks, SOME_PLACES - 1);
-    }
-    let mut marks = [0u8; PLACES];
-    all_new(file, exports, n, spot, &mut marks, PLACES - 1)
 }
 
 // How far two names are the same, in steps of a block.
@@ -197,17 +186,12 @@ fn common_blocks(a: &[u8], b: &[u8]) -> usize {
 
 // How far two names are the same.
 fn parting(a: &[u8], b: &[u8]) -> usize {
-    let mut i = common_blocks(a, b);
-    while i < a.len() {
-        if b.len() <= i {
+    for i in common_blocks(a, b)..a.len() {
+        if b.len() <= i || a[i] != b[i] {
             return i;
         }
-        if a[i] != b[i] {
-            return i;
-        }
-        i += 1;
     }
-    i
+    a.len()
 }
 
 // Where the names of the first and of the last row part: of names that are numbered, where the number begins. Any place is as good as

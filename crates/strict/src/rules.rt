@@ -1,11 +1,11 @@
 // The eight rules, of the rows that a plain read leaves and of the marks of the second walk.
 ghost use Rattle.std.specs.Prelude.{◌≡◌, ◌≤◌};
 ghost use Rattle.table.specs.Shape.{width, limit};
-ghost use Rattle.strict.specs.Rules.{section_place, none_above, ordered, different, column_of, names_of, passed, broken_in};
+ghost use Rattle.strict.specs.Rules.{section_place, none_above, ordered, different, column_of, names_of};
+ghost use Rattle.strict.specs.Rules.{number_of_rule, rule_told, broken_in};
 
 use crate::again::Marks;
-use crate::quick::{FEW, FEW_PLACES, FIRST_SPOT, all_new, parting_of, surely_differ};
-use sorting::Sorted;
+use crate::quick::{FEW, FEW_PLACES, FIRST_SPOT, all_new_in, parting_of, surely_differ};
 use table::shape::{EXPORT_WIDTH, MAX_EXPORTS, SECTION_WIDTH};
 
 // What the rules name: the version (rule 1), the last section id (3), the last export kind (7).
@@ -13,16 +13,47 @@ const VERSION: u32 = 1;
 
 const LAST_ID: usize = 12;
 
+// The place of a custom section, which may stand anywhere.
+const CUSTOM: usize = 0;
+
 const LAST_KIND: usize = 3;
+
+// The rules that a file can break, by their numbers.
+#[derive(Clone, Copy)]
+pub(crate) enum Rule {
+    Version,
+    ShortNumbers,
+    KnownSections,
+    SectionOrder,
+    UsedSections,
+    DifferentNames,
+    KnownExports,
+    PlainFlags,
+}
+
+impl Rule {
+    pub(crate) fn number(self) -> usize
+        ensures { result ≡ number_of_rule self }
+    {
+        match self {
+            Rule::Version => 1,
+            Rule::ShortNumbers => 2,
+            Rule::KnownSections => 3,
+            Rule::SectionOrder => 4,
+            Rule::UsedSections => 5,
+            Rule::DifferentNames => 6,
+            Rule::KnownExports => 7,
+            Rule::PlainFlags => 8,
+        }
+    }
+}
 
 // Where a section stands among those with an id of their own: 1 to 9, 12, 10, 11; custom ones are 0, ids above 12 come last.
 fn section_place(id: usize) -> usize
     ensures { result ≡ section_place id }
 {
-    if id < 10 {
-        return id;
-    }
     match id {
+        0..=9 => id,
         10 => 11,
         11 => 12,
         12 => 10,
@@ -34,50 +65,24 @@ fn section_place(id: usize) -> usize
 fn at_most(table: &[usize], wide: usize, column: usize, n: usize, last: usize) -> bool
     ensures { result ≡ none_above last (column_of table.now wide column n) }
 {
-    let mut good = true;
-    for i in 0..n {
-        if last < table::cell(table, wide, i, column) {
-            good = false;
-        }
-    }
-    good
-}
-
-// How far the sections stand in order, and the place of the last one with an id of its own.
-#[derive(Clone, Copy)]
-struct Rank {
-    good: bool,
-    last: usize,
-}
-
-impl Rank {
-    // One section more.
-    fn pass(self, id: usize) -> Rank
-        ensures { result ≡ passed self id }
-    {
-        let place = section_place(id);
-        if place == 0 {
-            return self;
-        }
-        Rank {
-            good: if self.last < place { self.good } else { false },
-            last: place,
-        }
-    }
+    (0..n).all(|i| table::cell(table, wide, i, column) <= last)
 }
 
 // The first n sections stand in order, each once but for custom ones.
 fn in_order(sections: &[usize], n: usize) -> bool
     ensures { result ≡ ordered (column_of sections.now (width 1) 0 n) }
 {
-    let mut rank = Rank {
-        good: true,
-        last: 0,
-    };
+    let mut last = 0;
     for i in 0..n {
-        rank = rank.pass(table::cell(sections, SECTION_WIDTH, i, 0));
+        let place = section_place(table::cell(sections, SECTION_WIDTH, i, 0));
+        if place != CUSTOM {
+            if place <= last {
+                return false;
+            }
+            last = place;
+        }
     }
-    rank.good
+    true
 }
 
 // The first n export names are all different: as many are left when they are sorted and repeats are dropped.
@@ -86,17 +91,9 @@ fn sorted_differ(file: &[u8], exports: &[usize], n: usize) -> bool
     ensures { result ≡ different (names_of file.now exports.now n) }
 {
     let mut sorted = [0usize; MAX_EXPORTS];
-    match sorting::sort(
-        file,
-        file,
-        exports,
-        sorting::by_name(EXPORT_WIDTH, 0, 1, EXPORT_WIDTH, 0),
-        n,
-        &mut sorted,
-    ) {
-        Sorted::Rows(k) => k == n,
-        Sorted::Full => false,
-    }
+    let by_name = sorting::by_name(EXPORT_WIDTH, 0, 1, EXPORT_WIDTH, 0);
+    let left = sorting::sort(file, file, exports, by_name, n, &mut sorted);
+    left == Some(n)
 }
 
 // The same by quick looks: few names were looked at already. They are sorted where these do not tell.
@@ -126,16 +123,13 @@ fn names_differ(file: &[u8], more: bool, exports: &[usize], n: usize) -> bool
     if more {
         return looked_differ(file, exports, n);
     }
-    if n <= FEW {
-        let mut marks = [0u8; FEW_PLACES];
-        if all_new(file, exports, n, FIRST_SPOT, &mut marks, FEW_PLACES - 1) {
-            return true;
-        }
+    if n <= FEW && all_new_in::<FEW_PLACES>(file, exports, n, FIRST_SPOT) {
+        return true;
     }
     names_differ(file, true, exports, n)
 }
 
-// The lowest rule that is broken, of n rows of table 1, k rows of table 3 and the marks; 0 where none is.
+// The lowest rule that is broken, of n rows of table 1, k rows of table 3 and the marks.
 pub(crate) fn lowest<'a, 'b>(
     file: &'a [u8],
     version: u32,
@@ -144,33 +138,33 @@ pub(crate) fn lowest<'a, 'b>(
     exports: &'b [usize],
     k: usize,
     m: Marks,
-) -> usize
+) -> Option<Rule>
     requires { k ≤ limit 3 }
-    ensures { result ≡ broken_in file.now version sections.now n exports.now k m }
+    ensures { rule_told result ≡ broken_in file.now version sections.now n exports.now k m }
 {
     if version != VERSION {
-        return 1;
+        return Some(Rule::Version);
     }
     if !m.short {
-        return 2;
+        return Some(Rule::ShortNumbers);
     }
     if !at_most(sections, SECTION_WIDTH, 0, n, LAST_ID) {
-        return 3;
+        return Some(Rule::KnownSections);
     }
     if !in_order(sections, n) {
-        return 4;
+        return Some(Rule::SectionOrder);
     }
     if !m.used {
-        return 5;
+        return Some(Rule::UsedSections);
     }
     if !names_differ(file, false, exports, k) {
-        return 6;
+        return Some(Rule::DifferentNames);
     }
     if !at_most(exports, EXPORT_WIDTH, 2, k, LAST_KIND) {
-        return 7;
+        return Some(Rule::KnownExports);
     }
     if !m.plain {
-        return 8;
+        return Some(Rule::PlainFlags);
     }
-    0
+    None
 }

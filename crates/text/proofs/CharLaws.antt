@@ -1,4 +1,5 @@
 -- White_Space and characters. Assumes nothing.
+use Rattle.std.specs.Prelude.{Some, None}
 use mathlib.Core.Path.{◌≡◌, refl, ap, ◌∙◌, sym}
 use mathlib.Core.Bool.{Bool, true, false}
 use mathlib.Core.List.{List, [], ◌∷◌}
@@ -16,7 +17,6 @@ use Rattle.text.specs.Steps.{step_at, sequence_of}
 use Rattle.text.specs.Chars.{more, code_by, code_of, more_by, Char, char, chars_from, chars}
 use Rattle.text.specs.White.{whites, is_white}
 use Rattle.text.specs.Trim.{start_len, end_len, trim_start, trim_end}
-use Rattle.text.specs.declared.utf8.Seq.TheVariants.{Next, Bad}
 use Rattle.text.proofs.Utf8Laws.{seq-long}
 use Rattle.text.proofs.Laws.{both_one, both-two, both_left, both_right, left-next, left-none}
 
@@ -71,19 +71,19 @@ pub record Long (s : List ℕ) (at n : ℕ) : Type 0 where
   pub inside : n ≤ length s
   pub long : seq_len (drop at s) ≡ n - at
 
-pub long : (s : List ℕ) (at n : ℕ) → at < length s → step_at s at ≡ Next n → Long s at n
+pub long : (s : List ℕ) (at n : ℕ) → at < length s → step_at s at ≡ Some n → Long s at n
 unfolding step_at sequence_of
 long s at n h e = by (seq_len (drop at s)) refl (omega (arith, seq-long (drop at s), length-drop at s)) e
   where
-    by : (k : ℕ) → seq_len (drop at s) ≡ k → k ≤ length s - at → sequence_of at k ≡ Next n → Long s at n
+    by : (k : ℕ) → seq_len (drop at s) ≡ k → k ≤ length s - at → sequence_of at k ≡ Some n → Long s at n
     by zero q b e = absurd (let z : ◌≡◌ {A = ℕ} 0 1 = cc in omega arith)
     by (suc k) q b e = let p : at + suc k ≡ n = cc in record { later = omega arith; inside = omega arith; long = omega arith }
 
-pub short : (s : List ℕ) (at : ℕ) → step_at s at ≡ Bad → seq_len (drop at s) ≡ 0
+pub short : (s : List ℕ) (at : ℕ) → step_at s at ≡ None → seq_len (drop at s) ≡ 0
 unfolding step_at sequence_of
 short s at e = by (seq_len (drop at s)) refl e
   where
-    by : (k : ℕ) → seq_len (drop at s) ≡ k → sequence_of at k ≡ Bad → seq_len (drop at s) ≡ 0
+    by : (k : ℕ) → seq_len (drop at s) ≡ k → sequence_of at k ≡ None → seq_len (drop at s) ≡ 0
     by zero q e = q
     by (suc k) q e = absurd (let z : ◌≡◌ {A = ℕ} 0 1 = cc in omega arith)
 

@@ -11,7 +11,7 @@ use Rattle.text.specs.White.{is_white}
 use Rattle.text.specs.Ranges.{in_some}
 use Rattle.text.specs.Lines.{lines, before, onto}
 use Rattle.text.specs.Order.{cmp_bytes}
-use Rattle.text.specs.declared.order.Order.TheVariants.{Less}
+use Rattle.std.specs.declared.cmp.Ordering.TheVariants.{Less}
 
 abbrev pub Utf8s : Type 0
 Utf8s =

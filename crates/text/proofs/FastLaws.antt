@@ -1,4 +1,5 @@
 -- ASCII bytes are sequences. Assumes nothing.
+use Rattle.std.specs.Prelude.{Option, Some, None}
 use mathlib.Core.Path.{◌≡◌, sym, ◌∙◌, refl}
 use mathlib.Core.List.{List}
 use Prim.Native.Nat.{ℕ, suc, ◌+◌, ◌≤◌, ◌<◌}
@@ -10,8 +11,6 @@ use Rattle.bits.proofs.Masks.{below_two, below-three, below-four}
 use Rattle.text.specs.Scan.{scan}
 use Rattle.text.specs.Utf8.{seq_len}
 use Rattle.text.specs.Steps.{Went, Ran, step_at, Jumped}
-use Rattle.text.specs.declared.utf8.Seq.{Seq}
-use Rattle.text.specs.declared.utf8.Seq.TheVariants.{Next, Bad}
 use Rattle.text.proofs.Laws.{scan-next, left-next}
 use Rattle.text.proofs.Utf8Laws.{seq-ascii, went, stuck}
 
@@ -70,6 +69,6 @@ jump-one s at h f =
     record { more = omega arith; inside = omega arith; same = omega arith }
 
 -- one sequence, or none
-pub jump-step : (s : List ℕ) (at : ℕ) (r : Seq) → at < length s → r ≡ step_at s at → Jumped s at r
-jump-step s at (Next n) h e = went s at n h (sym e)
-jump-step s at Bad h e = stuck s at (sym e)
+pub jump-step : (s : List ℕ) (at : ℕ) (r : Option ℕ) → at < length s → r ≡ step_at s at → Jumped s at r
+jump-step s at (Some n) h e = went s at n h (sym e)
+jump-step s at None h e = stuck s at (sym e)

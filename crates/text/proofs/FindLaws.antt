@@ -1,15 +1,15 @@
 -- Searching and comparing for equality, as what is left of a text answers. Assumes nothing.
-use mathlib.Core.Path.{◌≡◌, refl, ap}
+use mathlib.Core.Path.{◌≡◌, refl}
 use mathlib.Core.Bool.{Bool, true, false, false≢true}
 use mathlib.Core.List.{List, [], ◌∷◌}
 use Prim.Native.Nat.{ℕ, suc, ◌+◌, ◌≤◌, ◌<◌}
 use native.Mathlib.Omega.{arith}
 use lib.Dec.{eqb}
-use lib.ListN.{length, get_or, drop}
-use borrow.Author.Tests.{eq-eqb, ne_eqb, eqb-true}
+use lib.ListN.{length, drop, get_or}
+use borrow.Author.Tests.{ne_eqb, eq-eqb, eqb-true}
 use Rattle.refusal.specs.Pick.{pick}
 use Rattle.text.specs.Find.{seek, begins, same, index_of}
-use Rattle.text.proofs.Laws.{left-next, left-none, both_yes, both-no, both_one, both-two}
+use Rattle.text.proofs.Laws.{left-next, left-none, both_yes, both_one, both-two, both-no}
 
 -- ---- seek: the first place
 module _ (p : List ℕ → Bool) where
@@ -33,10 +33,6 @@ module _ (p : List ℕ → Bool) where
   seek-end s i h = rw (left-none s i h)
 
 -- ---- a byte
-pub begins-one : (b : ℕ) (s : List ℕ) (i : ℕ) → i < length s → begins (b ∷ []) (drop i s) ≡ eqb (get_or s i 0) b
-unfolding begins
-begins-one b s i h = rw (left-next s i h) (both_yes _)
-
 -- the place is within the text, or at its end
 pub index-le : (b : ℕ) (s : List ℕ) → index_of b s ≤ length s
 unfolding index_of seek
@@ -52,47 +48,23 @@ pub index-cons : (b x : ℕ) (s : List ℕ) → index_of b (x ∷ s) ≡ pick (e
 unfolding index_of seek begins
 index-cons b x s = rw both_yes
 
--- ---- s begins with w: from i on
-module _ (w s : List ℕ) (i : ℕ) where
-  pub begins-short : i < length w → length s ≤ i → begins (drop i w) (drop i s) ≡ false
+-- ---- two bytes at a place
+module _ (a b : ℕ) (s : List ℕ) (i : ℕ) where
+  pub pair-here : i + 1 < length s → get_or s i 0 ≡ a → get_or s (i + 1) 0 ≡ b → begins (a ∷ b ∷ []) (drop i s) ≡ true
   unfolding begins
-  begins-short h k = rw (left-next w i h, left-none s i k)
+  pair-here h e f = rw (left-next s i (omega arith), left-next s (i + 1) h, eq-eqb _ _ e, eq-eqb _ _ f)
 
-  pub begins-other : i < length w → i < length s → (get_or s i 0 ≡ get_or w i 0 → ⊥) → begins (drop i w) (drop i s) ≡ false
+  pub pair-first : i < length s → (get_or s i 0 ≡ a → ⊥) → begins (a ∷ b ∷ []) (drop i s) ≡ false
   unfolding begins
-  begins-other h k d = rw (left-next w i h, left-next s i k, ne_eqb _ _ d)
+  pair-first h d = rw (left-next s i h, ne_eqb _ _ d)
 
-  pub begins-on : i < length w → i < length s → get_or s i 0 ≡ get_or w i 0
-      → begins (drop i w) (drop i s) ≡ begins (drop (i + 1) w) (drop (i + 1) s)
+  pub pair-last : i < length s → length s ≤ i + 1 → begins (a ∷ b ∷ []) (drop i s) ≡ false
   unfolding begins
-  begins-on h k e = rw (left-next w i h, left-next s i k, eq-eqb _ _ e)
+  pair-last h k = rw (left-next s i h, left-none s (i + 1) k) (both-no (eqb (get_or s i 0) a))
 
-  pub begins-all : length w ≤ i → begins (drop i w) (drop i s) ≡ true
+  pub pair-second : i + 1 < length s → (get_or s (i + 1) 0 ≡ b → ⊥) → begins (a ∷ b ∷ []) (drop i s) ≡ false
   unfolding begins
-  begins-all h = rw (left-none w i h)
-
--- ---- s is w: from i on
-module _ (w s : List ℕ) (i : ℕ) where
-  pub same-other : i < length w → i < length s → (get_or s i 0 ≡ get_or w i 0 → ⊥) → same (drop i w) (drop i s) ≡ false
-  unfolding same
-  same-other h k d = rw (left-next w i h, left-next s i k, ne_eqb _ _ d)
-
-  pub same-on : i < length w → i < length s → get_or s i 0 ≡ get_or w i 0
-      → same (drop i w) (drop i s) ≡ same (drop (i + 1) w) (drop (i + 1) s)
-  unfolding same
-  same-on h k e = rw (left-next w i h, left-next s i k, eq-eqb _ _ e)
-
-  pub same-all : length w ≤ i → length s ≤ i → same (drop i w) (drop i s) ≡ true
-  unfolding same
-  same-all h k = rw (left-none w i h, left-none s i k)
-
--- texts of different lengths are not the same
-pub same-long : (w s : List ℕ) → (length s ≡ length w → ⊥) → same w s ≡ false
-unfolding same
-same-long [] [] d = absurd (d refl)
-same-long [] (x ∷ s) d = refl
-same-long (c ∷ w) [] d = refl
-same-long (c ∷ w) (x ∷ s) d = rw (same-long w s (λ e. d (ap suc e))) (both-no (eqb x c))
+  pair-second h d = rw (left-next s i (omega arith), left-next s (i + 1) h, ne_eqb _ _ d) (both-no (eqb (get_or s i 0) a))
 
 -- `same` is equality
 pub same-is : (w s : List ℕ) → same w s ≡ true → s ≡ w

@@ -2,14 +2,12 @@
 use mathlib.Core.Path.{◌≡◌, refl, sym}
 use mathlib.Core.Bool.{Bool, true, false}
 use mathlib.Core.List.{List, [], ◌∷◌}
-use Prim.Native.Nat.{ℕ, ◌<◌, ◌+◌, ◌≤◌}
+use Prim.Native.Nat.{ℕ, ◌<◌}
 use native.Mathlib.Omega.{arith}
 use lib.Dec.{ltb}
-use lib.ListN.{length, get_or, drop}
 use borrow.Author.Tests.{lt-ltb, le-ltb, ltb-true, ltb-false}
 use Rattle.text.specs.Order.{cmp_nat, and_then, cmp_bytes, flip}
-use Rattle.text.specs.declared.order.Order.TheVariants.{Less, Equal, Greater}
-use Rattle.text.proofs.Laws.{left-next, left-none}
+use Rattle.std.specs.declared.cmp.Ordering.TheVariants.{Less, Equal, Greater}
 
 -- ---- a number's order, by the three cases
 pub data Tri (x y : ℕ) : Type 0 where
@@ -49,7 +47,8 @@ cmp-flip [] (y ∷ t) = refl
 cmp-flip (x ∷ s) [] = refl
 cmp-flip (x ∷ s) (y ∷ t) = by (cmp-flip s t) (tri x y)
   where
-    by : cmp_bytes t s ≡ flip (cmp_bytes s t) → Tri x y → and_then (cmp_nat y x) (cmp_bytes t s) ≡ flip (and_then (cmp_nat x y) (cmp_bytes s t))
+    by : cmp_bytes t s ≡ flip (cmp_bytes s t) → Tri x y
+        → and_then (cmp_nat y x) (cmp_bytes t s) ≡ flip (and_then (cmp_nat x y) (cmp_bytes s t))
     by ih (below h e) = rw (e, nat-greater y x h)
     by ih (at h e) = rw (e, nat-same y x (sym h), ih)
     by ih (above h e) = rw (e, nat-less y x h)
@@ -77,7 +76,8 @@ cmp-trans (x ∷ s) [] u e f = absurd (let z : ◌≡◌ {A = ℕ} 0 1 = cc in o
 cmp-trans (x ∷ s) (y ∷ t) [] e f = absurd (let z : ◌≡◌ {A = ℕ} 0 1 = cc in omega arith)
 cmp-trans (x ∷ s) (y ∷ t) (z ∷ u) e f = by (cmp-trans s t u) (tri x y) (tri y z)
   where
-    by : (cmp_bytes s t ≡ Less → cmp_bytes t u ≡ Less → cmp_bytes s u ≡ Less) → Tri x y → Tri y z → and_then (cmp_nat x z) (cmp_bytes s u) ≡ Less
+    by : (cmp_bytes s t ≡ Less → cmp_bytes t u ≡ Less → cmp_bytes s u ≡ Less) → Tri x y → Tri y z
+        → and_then (cmp_nat x z) (cmp_bytes s u) ≡ Less
     by ih (below h p) (below k q) = rw (nat-less x z (omega arith))
     by ih (below h p) (at k q) = rw (nat-less x z (omega arith))
     by ih (below h p) (above k q) = let f' = rw q at f in absurd (let z : ◌≡◌ {A = ℕ} 0 1 = cc in omega arith)
@@ -85,30 +85,3 @@ cmp-trans (x ∷ s) (y ∷ t) (z ∷ u) e f = by (cmp-trans s t u) (tri x y) (tr
     by ih (at h p) (at k q) = rw (nat-same x z (omega arith), ih (rw p at e) (rw q at f))
     by ih (at h p) (above k q) = let f' = rw q at f in absurd (let z : ◌≡◌ {A = ℕ} 0 1 = cc in omega arith)
     by ih (above h p) k = let e' = rw p at e in absurd (let z : ◌≡◌ {A = ℕ} 0 1 = cc in omega arith)
-
--- ---- two texts from i on
-module _ (a b : List ℕ) (i : ℕ) where
-  pub cmp-longer : i < length a → length b ≤ i → cmp_bytes (drop i a) (drop i b) ≡ Greater
-  unfolding cmp_bytes
-  cmp-longer h k = rw (left-next a i h, left-none b i k)
-
-  pub cmp-shorter : length a ≤ i → i < length b → cmp_bytes (drop i a) (drop i b) ≡ Less
-  unfolding cmp_bytes
-  cmp-shorter h k = rw (left-none a i h, left-next b i k)
-
-  pub cmp-ended : length a ≤ i → length b ≤ i → cmp_bytes (drop i a) (drop i b) ≡ Equal
-  unfolding cmp_bytes
-  cmp-ended h k = rw (left-none a i h, left-none b i k)
-
-  pub cmp-less : i < length a → i < length b → get_or a i 0 < get_or b i 0 → cmp_bytes (drop i a) (drop i b) ≡ Less
-  unfolding cmp_bytes
-  cmp-less h k l = rw (left-next a i h, left-next b i k, lt-ltb _ _ l)
-
-  pub cmp-greater : i < length a → i < length b → get_or b i 0 < get_or a i 0 → cmp_bytes (drop i a) (drop i b) ≡ Greater
-  unfolding cmp_bytes
-  cmp-greater h k g = rw (left-next a i h, left-next b i k, nat-greater _ _ g)
-
-  pub cmp-on : i < length a → i < length b → get_or b i 0 ≤ get_or a i 0 → get_or a i 0 ≤ get_or b i 0
-      → cmp_bytes (drop i a) (drop i b) ≡ cmp_bytes (drop (i + 1) a) (drop (i + 1) b)
-  unfolding cmp_bytes
-  cmp-on h k l g = rw (left-next a i h, left-next b i k, le-ltb _ _ l, le-ltb _ _ g)

@@ -1,10 +1,11 @@
 -- Pieces by their ends: what the code's numbers say of them. Assumes nothing.
 use mathlib.Core.Path.{◌≡◌, refl, sym, ap, ◌∙◌}
 use mathlib.Core.Bool.{Bool, true, false, false≢true}
+use mathlib.Core.Logic.{◌⊎◌, inl, inr}
 use mathlib.Core.List.{List, [], ◌∷◌, ◌++◌}
 use Prim.Native.Nat.{ℕ, zero, suc, ◌+◌, ◌-◌, ◌≤◌, ◌<◌}
 use native.Mathlib.Omega.{arith}
-use lib.Dec.{eqb}
+use lib.Dec.{eqb, leb}
 use lib.ListN.{length, get_or, take, drop, length-drop}
 use lib.Seq.{length-take-le, take-take, drop-drop, take-suc, take-nil}
 use borrow.Author.Tests.{eq-eqb, ne_eqb, le-leb, lt-leb}
@@ -12,7 +13,7 @@ use Rattle.refusal.specs.Pick.{pick, both}
 use Rattle.refusal.specs.declared.Part.{Part}
 use Rattle.text.specs.Trim.{trim_start, trim_end, trimmed, trim_of}
 use Rattle.text.specs.Find.{begins}
-use Rattle.text.proofs.Laws.{both-two}
+use Rattle.text.proofs.Laws.{both-two, both-no}
 use Rattle.text.proofs.CharLaws.{end-long, start-long}
 use Rattle.text.specs.Piece.{Piece, first, beyond, trim, shorn, bytes_between, piece, span, trimmed_at, TrimTo}
 use Rattle.text.specs.declared.pieces.Span.{Span}
@@ -53,13 +54,10 @@ trim-is s a e t h k q =
 
 -- by the ends that the code hands back
 module _ (s : List ℕ) (a e : ℕ) where
-  pub trim-backward : e < a → span 0 0 ≡ trimmed_at s a e
+  pub trim-none : (e < a) ⊎ (length s < e) → span 0 0 ≡ trimmed_at s a e
   unfolding trimmed_at
-  trim-backward h = rw (lt-leb a e h)
-
-  pub trim-outside : a ≤ e → length s < e → span 0 0 ≡ trimmed_at s a e
-  unfolding trimmed_at
-  trim-outside h k = rw (le-leb a e h, lt-leb e (length s) k)
+  trim-none (inl h) = rw (lt-leb a e h)
+  trim-none (inr h) = rw (lt-leb e (length s) h, both-no (leb a e))
 
   module _ (h : a ≤ e) (k : e ≤ length s) where
     pub trim-ends : {f g : ℕ} → TrimTo s a e f g → span f g ≡ trimmed_at s a e

@@ -1,11 +1,12 @@
 -- UTF-8: the table's rows on ranges of first bytes, by computing; and a sequence by its parts. Assumes nothing.
+use Rattle.std.specs.Prelude.{Some, None}
 use mathlib.Core.Path.{◌≡◌, refl, ap, ◌∙◌}
 use mathlib.Core.Bool.{Bool, true, false, false≢true}
 use mathlib.Core.List.{List, [], ◌∷◌}
 use Prim.Native.Nat.{ℕ, zero, suc, ◌+◌, ◌-◌, ◌≤◌, ◌<◌, suc-le-suc, zero-le}
 use native.Mathlib.Omega.{arith}
 use native.Mathlib.Nat.{le_of_suc-le-suc, not-suc-le-zero}
-use borrow.Author.Tests.{leb-true, leb-false}
+use borrow.Author.Tests.{leb-true, leb-false, eq-eqb, ne_eqb}
 use lib.Dec.{T, eqb, eqb→eq, leb, leb→le}
 use lib.ListN.{length, get_or, drop, length-drop}
 use Rattle.refusal.specs.Pick.{both, pick, within}
@@ -13,7 +14,6 @@ use Rattle.text.specs.Scan.{scan}
 use Rattle.text.specs.Ranges.{Range, ◌to◌, in_range}
 use Rattle.text.specs.Utf8.{Follow, none, these, tail, followers, follow_in, covers, after, seq_len}
 use Rattle.text.specs.Steps.{sequence_of, step_at, Went}
-use Rattle.text.specs.declared.utf8.Seq.TheVariants.{Next, Bad}
 use Rattle.text.proofs.Laws.{scan-next, scan-stop, left-next, every, on-range, both_left, both_right, both_yes, both-no, both-assoc}
 
 -- ---- equal by a test
@@ -58,7 +58,8 @@ leads-by : (v : ℕ → Follow) (lo n : ℕ) → T (every (λ (k : ℕ). follow_
     → followers a ≡ v a
 leads-by v lo n t a h k = follow-is (followers a) (v a) (on-range (λ (k : ℕ). follow_eq (followers k) (v k)) lo n t a h k)
 
-pub leads : (v : Follow) (lo n : ℕ) → T (every (λ (k : ℕ). follow_eq (followers k) v) lo n) → (a : ℕ) → lo ≤ a → a < lo + n → followers a ≡ v
+pub leads : (v : Follow) (lo n : ℕ) → T (every (λ (k : ℕ). follow_eq (followers k) v) lo n)
+    → (a : ℕ) → lo ≤ a → a < lo + n → followers a ≡ v
 leads v = leads-by (λ (k : ℕ). v)
 
 -- so many bytes more, the first of them from lo to hi
@@ -138,7 +139,7 @@ module _ (s : List ℕ) (at : ℕ) where
       let p : at + 3 + 1 ≡ at + 4 = omega arith in
       rw (left-3 (omega arith), left-next s (at + 3) (omega arith), p)
 
-  pub step-1 : at < length s → get_or s at 0 < 0x80 → Next (at + 1) ≡ step_at s at
+  pub step-1 : at < length s → get_or s at 0 < 0x80 → Some (at + 1) ≡ step_at s at
   unfolding step_at sequence_of
   step-1 h k = rw (left-next s at h, seq-ascii (get_or s at 0) (drop (at + 1) s) k)
 
@@ -177,7 +178,7 @@ after-short none n s t h = refl
 after-short (these rs) n s t h = rw (covers-short rs s (omega (arith, leb→le n (length rs) t)))
 
 step-short : (lo k n : ℕ) → T (every (λ (a : ℕ). asks n (followers a)) lo k) → (s : List ℕ) (at : ℕ) → at < length s
-    → lo ≤ get_or s at 0 → get_or s at 0 < lo + k → length s - at ≤ n → Bad ≡ step_at s at
+    → lo ≤ get_or s at 0 → get_or s at 0 < lo + k → length s - at ≤ n → None ≡ step_at s at
 unfolding step_at sequence_of seq_len
 step-short lo k n t s at h p q l =
     let f = on-range (λ (a : ℕ). asks n (followers a)) lo k t (get_or s at 0) p q in
@@ -185,15 +186,15 @@ step-short lo k n t s at h p q l =
     rw (left-next s at h, after-short (followers (get_or s at 0)) n (drop (at + 1) s) f few)
 
 module _ (s : List ℕ) (at : ℕ) (h : at < length s) where
-  pub short-2 : 0x80 ≤ get_or s at 0 → get_or s at 0 < 0xE0 → length s - at < 2 → Bad ≡ step_at s at
+  pub short-2 : 0x80 ≤ get_or s at 0 → get_or s at 0 < 0xE0 → length s - at < 2 → None ≡ step_at s at
   unfolding followers follow_in
   short-2 p q l = step-short 0x80 96 1 tt s at h p q (omega arith)
 
-  pub short-3 : 0xE0 ≤ get_or s at 0 → get_or s at 0 < 0xF0 → length s - at < 3 → Bad ≡ step_at s at
+  pub short-3 : 0xE0 ≤ get_or s at 0 → get_or s at 0 < 0xF0 → length s - at < 3 → None ≡ step_at s at
   unfolding followers follow_in
   short-3 p q l = step-short 0xE0 16 2 tt s at h p q (omega arith)
 
-  pub short-4 : 0xF0 ≤ get_or s at 0 → get_or s at 0 < 0x100 → length s - at < 4 → Bad ≡ step_at s at
+  pub short-4 : 0xF0 ≤ get_or s at 0 → get_or s at 0 < 0x100 → length s - at < 4 → None ≡ step_at s at
   unfolding followers follow_in
   short-4 p q l = step-short 0xF0 16 3 tt s at h p q (omega arith)
 
@@ -223,11 +224,11 @@ seq-long [] = zero-le
 seq-long (a ∷ s) = after-long (followers a) s
 
 -- ---- what a step's answer says of the whole
-pub went : (s : List ℕ) (at n : ℕ) → at < length s → step_at s at ≡ Next n → Went s at n
+pub went : (s : List ℕ) (at n : ℕ) → at < length s → step_at s at ≡ Some n → Went s at n
 unfolding step_at sequence_of
 went s at n h e = by (seq_len (drop at s)) refl (omega (arith, seq-long (drop at s), length-drop at s)) e
   where
-    by : (k : ℕ) → seq_len (drop at s) ≡ k → k ≤ length s - at → sequence_of at k ≡ Next n → Went s at n
+    by : (k : ℕ) → seq_len (drop at s) ≡ k → k ≤ length s - at → sequence_of at k ≡ Some n → Went s at n
     by zero q b e = absurd (let z : ◌≡◌ {A = ℕ} 0 1 = cc in omega arith)
     by (suc k) q b e =
         let p : at + suc k ≡ n = cc in
@@ -235,10 +236,17 @@ went s at n h e = by (seq_len (drop at s)) refl (omega (arith, seq-long (drop at
         rw (← p) (record { more = omega arith; inside = omega arith; same = omega (arith, w) })
 
 -- no step: the text is well formed no further
-pub stuck : (s : List ℕ) (at : ℕ) → step_at s at ≡ Bad → scan seq_len 0 (drop at s) ≡ 0
+pub stuck : (s : List ℕ) (at : ℕ) → step_at s at ≡ None → scan seq_len 0 (drop at s) ≡ 0
 unfolding step_at sequence_of
 stuck s at e = by (seq_len (drop at s)) refl e
   where
-    by : (k : ℕ) → seq_len (drop at s) ≡ k → sequence_of at k ≡ Bad → scan seq_len 0 (drop at s) ≡ 0
+    by : (k : ℕ) → seq_len (drop at s) ≡ k → sequence_of at k ≡ None → scan seq_len 0 (drop at s) ≡ 0
     by zero q e = scan-stop seq_len s at q
     by (suc k) q e = absurd (let z : ◌≡◌ {A = ℕ} 0 1 = cc in omega arith)
+
+-- ---- an end of a range that another stands for at one byte
+pub at-byte : {a n x : ℕ} (y : ℕ) {v : ℕ} → v ≡ x → a ≡ n → v ≡ pick (eqb a n) x y
+at-byte y e h = rw (e, eq-eqb _ _ h)
+
+pub at-others : {a n : ℕ} (x : ℕ) {y v : ℕ} → v ≡ y → (a ≡ n → ⊥) → v ≡ pick (eqb a n) x y
+at-others x e h = rw (e, ne_eqb _ _ h)

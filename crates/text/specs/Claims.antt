@@ -9,7 +9,7 @@ use Rattle.text.specs.Ranges.{ascending}
 use Rattle.text.specs.White.{whites, is_white}
 use Rattle.text.specs.Trim.{trim_of, trim_start, trim_end}
 use Rattle.text.specs.Order.{cmp_bytes, flip}
-use Rattle.text.specs.declared.order.Order.TheVariants.{Less, Equal}
+use Rattle.std.specs.declared.cmp.Ordering.TheVariants.{Less, Equal}
 
 -- the bytes are the encoding of scalar values
 pub record Decoded (s : List ℕ) : Type 0 where

@@ -3,7 +3,6 @@ pub mod Scan
 pub mod Walk
 pub mod Find
 pub mod Order
-pub mod Agree
 pub mod Lines
 pub mod Ranges
 pub mod Utf8

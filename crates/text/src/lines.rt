@@ -18,17 +18,15 @@ pub fn line_at(s: &[u8], at: usize) -> Line
     if s.len() <= at {
         return Line { end: at, next: at };
     }
-    let lf = at + find(&s[at..], 10);
+    let lf = at + find(&s[at..], b'\n');
     if s.len() <= lf {
         return Line { end: lf, next: lf };
     }
-    if at < lf {
-        if s[lf - 1] == 13 {
-            return Line {
-                end: lf - 1,
-                next: lf + 1,
-            };
-        }
+    if at < lf && s[lf - 1] == b'\r' {
+        return Line {
+            end: lf - 1,
+            next: lf + 1,
+        };
     }
     Line {
         end: lf,

@@ -1,10 +1,10 @@
 // A text taken apart: the text as a whole, before a line of it is read; a part of it, trimmed; and the end of a piece.
 ghost use Rattle.std.specs.Prelude.{◌≡◌, ◌≤◌, length};
-ghost use Rattle.refusal.specs.Said.{said_answer};
+ghost use Rattle.refusal.specs.Said.{said_by};
 ghost use Rattle.text.specs.Whole.{whole_text};
 ghost use Rattle.text.specs.Piece.{shorn, trimmed_at};
 
-use refusal::{Answer, MAX_TEXT, Refusal};
+use refusal::{MAX_TEXT, Refusal};
 
 // A part of a text by its ends.
 #[derive(Clone, Copy)]
@@ -14,30 +14,27 @@ pub struct Span {
 }
 
 // 14, then 4 over the whole text.
-pub fn test_text(s: &[u8]) -> Answer
-    ensures { said_answer result ≡ whole_text s.now }
+pub fn test_text(s: &[u8]) -> Result<(), Refusal>
+    ensures { said_by result ≡ whole_text s.now }
 {
     if MAX_TEXT < s.len() {
-        return Answer::Refused(Refusal::TooLong);
+        return Err(Refusal::TooLong);
     }
     let good = crate::utf8::valid_up_to(s);
     if good < s.len() {
-        return Answer::Refused(Refusal::BadUtf8(good));
+        return Err(Refusal::BadUtf8(good));
     }
-    Answer::Accepted
+    Ok(())
 }
 
 // The part from a to e, trimmed; the empty part at the start where the text has no such part.
 pub fn trimmed_at(s: &[u8], a: usize, e: usize) -> Span
     ensures { (result ≡ trimmed_at s.now a e) × (result.from ≤ result.past) × (result.past ≤ length s.now) }
 {
-    if e < a {
+    let Some(part) = s.get(a..e) else {
         return Span { from: 0, past: 0 };
-    }
-    if s.len() < e {
-        return Span { from: 0, past: 0 };
-    }
-    let t = crate::white::trim(&s[a..e]);
+    };
+    let t = crate::white::trim(part);
     let from = a + t.from;
     Span {
         from,
@@ -49,12 +46,10 @@ pub fn trimmed_at(s: &[u8], a: usize, e: usize) -> Span
 pub fn shorn_of(s: &[u8], b: u8) -> usize
     ensures { result ≡ shorn b s.now }
 {
-    let mut n = s.len();
-    while 0 < n {
-        if s[n - 1] != b {
-            return n;
+    for i in (0..s.len()).rev() {
+        if s[i] != b {
+            return i + 1;
         }
-        n -= 1;
     }
     0
 }

@@ -5,13 +5,6 @@ ghost use Rattle.text.specs.Ranges.{in_range};
 ghost use Rattle.text.specs.Utf8.{tail, seq_len, up_to};
 ghost use Rattle.text.specs.Steps.{step_at, Ran, Jumped};
 
-// Past a well-formed sequence, or none stands there.
-#[derive(Clone, Copy)]
-pub(crate) enum Seq {
-    Next(usize),
-    Bad,
-}
-
 // From 80 to BF. `&` and not `&&`, here and below: each byte is compared, whatever comes of the others, so that less branches.
 fn follows(b: u8) -> bool
     ensures { result ≡ in_range tail b }
@@ -47,32 +40,32 @@ fn four(a: u8, b: u8, c: u8, d: u8) -> bool
     (a <= 0xF4) & (lo <= b) & (b <= hi) & follows(c) & follows(d)
 }
 
-// The sequence at `at`.
-pub(crate) fn step(s: &[u8], at: usize) -> Seq
+// Past the well-formed sequence at `at`; none where no such sequence stands there.
+pub(crate) fn step(s: &[u8], at: usize) -> Option<usize>
     requires { at < length s.now }
     ensures { result ≡ step_at s.now at }
 {
     let a = s[at];
     let left = s.len() - at;
     if a < 0x80 {
-        return Seq::Next(at + 1);
+        return Some(at + 1);
     }
     if a < 0xE0 {
         if 2 <= left && two(a, s[at + 1]) {
-            return Seq::Next(at + 2);
+            return Some(at + 2);
         }
-        return Seq::Bad;
+        return None;
     }
     if a < 0xF0 {
         if 3 <= left && three(a, s[at + 1], s[at + 2]) {
-            return Seq::Next(at + 3);
+            return Some(at + 3);
         }
-        return Seq::Bad;
+        return None;
     }
     if 4 <= left && four(a, s[at + 1], s[at + 2], s[at + 3]) {
-        return Seq::Next(at + 4);
+        return Some(at + 4);
     }
-    Seq::Bad
+    None
 }
 
 // The 32 bytes from `at` on are ASCII. Each is looked at, whatever those before it are, so that many are at once.
@@ -81,10 +74,8 @@ fn plain(s: &[u8], at: usize) -> bool
     ensures { result ≡ true → Ran s.now at (at + 32) }
 {
     let mut all: u8 = 0;
-    let mut i = 0;
-    while i < 32 {
+    for i in 0..32 {
         all |= s[at + i];
-        i += 1;
     }
     all < 0x80
 }
@@ -105,7 +96,7 @@ fn run(s: &[u8], from: usize) -> usize
 }
 
 // Past eight ASCII bytes, each a sequence, and more that follow them, or past one sequence.
-fn jump(s: &[u8], at: usize) -> Seq
+fn jump(s: &[u8], at: usize) -> Option<usize>
     requires { at < length s.now }
     ensures { Jumped s.now at result }
 {
@@ -114,10 +105,10 @@ fn jump(s: &[u8], at: usize) -> Seq
             let low = s[at + 1] | s[at + 2] | s[at + 3];
             let high = s[at + 4] | s[at + 5] | s[at + 6] | s[at + 7];
             if low | high < 0x80 {
-                return Seq::Next(run(s, at + 8));
+                return Some(run(s, at + 8));
             }
         }
-        return Seq::Next(at + 1);
+        return Some(at + 1);
     }
     step(s, at)
 }
@@ -128,14 +119,10 @@ pub fn valid_up_to(s: &[u8]) -> usize
 {
     let mut at = 0;
     while at < s.len() {
-        match jump(s, at) {
-            Seq::Next(n) => {
-                at = n;
-            }
-            Seq::Bad => {
-                return at;
-            }
-        }
+        let Some(n) = jump(s, at) else {
+            return at;
+        };
+        at = n;
     }
     at
 }

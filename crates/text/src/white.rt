@@ -5,16 +5,13 @@ ghost use Rattle.text.specs.White.{is_white};
 ghost use Rattle.text.specs.Chars.{code_of, more};
 ghost use Rattle.text.specs.Trim.{trim_start, trim_end, trimmed};
 
-use crate::utf8::{Seq, step};
+use crate::utf8::step;
 use refusal::Part;
 
 fn in_range(c: u32, lo: u32, hi: u32) -> bool
     ensures { result ≡ within lo hi c }
 {
-    if lo <= c {
-        return c <= hi;
-    }
-    false
+    lo <= c && c <= hi
 }
 
 // The lines of PropList.txt, in its order: each test has the printed line beside it. tools/white holds them against the file.
@@ -59,10 +56,10 @@ fn low(s: &[u8], i: usize, m: u8) -> u32
     requires { 0 < m }
     ensures { (result ≡ get_or s.now i 0 % m) × (result < 256) }
 {
-    if i < s.len() {
-        return (s[i] % m) as u32;
+    match s.get(i) {
+        Some(b) => u32::from(b % m),
+        None => 0,
     }
-    0
 }
 
 // A code point, and how many bytes its sequence has after the first.
@@ -77,31 +74,23 @@ pub(crate) fn char_at(s: &[u8], at: usize) -> Glyph
     requires { at < length s.now }
     ensures { (result.code ≡ code_of (drop at s.now)) × (result.more ≡ more (drop at s.now)) }
 {
-    let Seq::Next(n) = step(s, at) else {
+    let Some(n) = step(s, at) else {
         return Glyph {
             code: 0x110000,
             more: 0,
         };
     };
-    let k = n - at;
-    if k == 1 {
-        let c = low(s, at, 128);
-        return Glyph { code: c, more: 0 };
-    }
-    if k == 2 {
-        let c = low(s, at, 32) * 64 + low(s, at + 1, 64);
-        return Glyph { code: c, more: 1 };
-    }
-    if k == 3 {
-        let c = (low(s, at, 16) * 64 + low(s, at + 1, 64)) * 64 + low(s, at + 2, 64);
-        return Glyph { code: c, more: 2 };
-    }
-    let c = ((low(s, at, 8) * 64 + low(s, at + 1, 64)) * 64 + low(s, at + 2, 64)) * 64
-        + low(s, at + 3, 64);
-    Glyph {
-        code: c,
-        more: k - 1,
-    }
+    let more = n - at - 1;
+    let code = match more {
+        0 => low(s, at, 128),
+        1 => low(s, at, 32) * 64 + low(s, at + 1, 64),
+        2 => (low(s, at, 16) * 64 + low(s, at + 1, 64)) * 64 + low(s, at + 2, 64),
+        _ => {
+            ((low(s, at, 8) * 64 + low(s, at + 1, 64)) * 64 + low(s, at + 2, 64)) * 64
+                + low(s, at + 3, 64)
+        }
+    };
+    Glyph { code, more }
 }
 
 // How many bytes the White_Space at the front takes.
@@ -110,13 +99,11 @@ pub fn trim_start(s: &[u8]) -> usize
 {
     let mut at = 0;
     while at < s.len() {
-        let g = char_at(s, at);
-        let c = g.code;
-        let m = g.more;
-        if !is_white(c) {
+        let Glyph { code, more } = char_at(s, at);
+        if !is_white(code) {
             return at;
         }
-        at = at + 1 + m;
+        at = at + 1 + more;
     }
     at
 }
@@ -126,18 +113,15 @@ pub fn trim_start(s: &[u8]) -> usize
 pub fn trim_end(s: &[u8]) -> usize
     ensures { result ≡ trim_end s.now }
 {
-    let mut end = s.len();
-    while 0 < end {
-        let last = s[end - 1];
-        if 0x80 <= last {
-            return scan_end(&s[..end]);
+    for i in (0..s.len()).rev() {
+        if 0x80 <= s[i] {
+            return scan_end(&s[..i + 1]);
         }
-        if !is_white(last as u32) {
-            return end;
+        if !is_white(u32::from(s[i])) {
+            return i + 1;
         }
-        end -= 1;
     }
-    end
+    0
 }
 
 // The same, character by character from the front: where the last that is not White_Space ends.
@@ -147,11 +131,9 @@ fn scan_end(s: &[u8]) -> usize
     let mut last = 0;
     let mut at = 0;
     while at < s.len() {
-        let g = char_at(s, at);
-        let c = g.code;
-        let m = g.more;
-        at = at + 1 + m;
-        if !is_white(c) {
+        let Glyph { code, more } = char_at(s, at);
+        at = at + 1 + more;
+        if !is_white(code) {
             last = at;
         }
     }

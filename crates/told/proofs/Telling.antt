@@ -1,39 +1,24 @@
--- The answers in structs of numbers, from the promises of the calls. Assumes nothing.
-use Prim.Native.Nat.{ℕ}
-use mathlib.Core.Bool.{true, false}
-use mathlib.Core.Path.{◌≡◌, refl, sym, ◌∙◌, ap, subst}
-use mathlib.Core.List.{List}
-use lib.ListN.{length}
-use Rattle.refusal.specs.Said.{Said, accepted, refused, said_answer, said_written, Place}
-use Rattle.refusal.proofs.Following.{never}
-use Rattle.refusal.specs.declared.Answer.{Answer}
-use Rattle.refusal.specs.declared.Written.{Written}
-use Rattle.verdicts.specs.Evaluate.{Outcome, compliant, accepted_as, no_outcome, EvaluatedAs}
-use Rattle.policy.specs.declared.Policy.{Policy}
-use Rattle.verdicts.specs.declared.Evaluation.{Evaluation}
-use Rattle.policy_text.specs.Writer.{Writes, written}
-use Rattle.told.specs.declared.policies.WrittenTold.{WrittenTold}
-use Rattle.told.specs.Check.{evaluation_as, evaluation_told}
-use Rattle.told.specs.Policies.{number_in, place_in, beside_in, written_told, WriteTells}
+-- A list that `map` gave, from what each call gave. Assumes nothing.
+use Prim.Native.Nat.{ℕ, zero, suc, ◌+◌, ◌<◌}
+use native.Mathlib.Omega.{arith}
+use mathlib.Core.Path.{◌≡◌, refl, ◌∙◌, ap, ap₂}
+use mathlib.Core.List.{List, [], ◌∷◌}
+use lib.ListN.{length, get_or}
 
-pub write-told : (s : List ℕ) (p q : Policy) {d x : List ℕ} {r : Written} {t : WrittenTold} → p ≡ q → Writes s p d r x
-    → t ≡ written_told (said_written r) → WriteTells (written s q (length d)) d t x
-write-told s p q {d} {x} {r} e w h =
-    let v = subst (λ (z : Policy). Writes s z d r x) e w in
-    record { answer-is = h ∙ ap written_told v.answer; output-is = v.output }
+-- n values from place i on
+abbrev pub placed : {B : Type 0} → (ℕ → B) → ℕ → ℕ → List B
+placed f i zero = []
+placed f i (suc n) = f i ∷ placed f (suc i) n
 
--- an answer is an acceptance, or is none
-accepted-as : (a : Answer) → said_answer a ≡ accepted tt → accepted_as a ≡ true
-accepted-as Answer.Accepted e = refl
-accepted-as (Answer.Refused w) e = absurd (never e)
+tabled : {B : Type 0} (f : ℕ → B) (i : ℕ) (ys : List B) → ((k : ℕ) (e : B) → k < length ys → get_or ys k e ≡ f (i + k))
+    → ys ≡ placed f i (length ys)
+tabled f i [] h = refl
+tabled f i (y ∷ ys) h =
+    let a : y ≡ f i = h 0 y (omega arith) ∙ ap f (omega arith) in
+    let b = tabled f (suc i) ys (λ k e l. h (suc k) e (omega (arith, l)) ∙ ap f (omega arith)) in
+    ap₂ (λ z zs. z ∷ zs) a b
 
-refused_as : (a : Answer) {n : ℕ} {p : Place} → said_answer a ≡ refused n p → accepted_as a ≡ false
-refused_as Answer.Accepted e = absurd (never (sym e))
-refused_as (Answer.Refused w) e = refl
-
-pub evaluation : (d : Said Outcome) (e : Evaluation) → EvaluatedAs d e
-    → evaluation_as (number_in (said_answer e.answer)) (place_in (said_answer e.answer)) (beside_in (said_answer e.answer))
-    e.verdicts e.set e.count (compliant e) ≡ evaluation_told d
-unfolding compliant no_outcome
-evaluation (accepted o) e h = rw (h.answer, h.verdicts, h.set, h.count, accepted-as e.answer h.answer)
-evaluation (refused n p) e h = rw (h.answer, h.verdicts, h.set, h.count, refused_as e.answer h.answer)
+pub told-of : {B : Type 0} (f : ℕ → B) (n : ℕ) (ys : List B) → length ys ≡ n → ((k : ℕ) (e : B) → k < n → get_or ys k e ≡ f k)
+    → ys ≡ placed f 0 n
+told-of f n ys l h =
+    tabled f 0 ys (λ k e u. h k e (omega (arith, l, u)) ∙ ap f (omega arith)) ∙ ap (placed f 0) l

@@ -1,10 +1,10 @@
 // What an answer with no value tells.
 ghost use Rattle.std.specs.Prelude.{◌≡◌};
-ghost use Rattle.refusal.specs.Said.{said_answer};
+ghost use Rattle.refusal.specs.Said.{said_by};
 ghost use Rattle.told.specs.Answers.{answer_told};
 
 use crate::policies::{beside_of, number_of, place_of};
-use refusal::Answer;
+use refusal::Refusal;
 
 // `offset`, here and in every struct that answers for a module, is the offset beside 5; 0 for any other.
 #[repr(C)]
@@ -15,8 +15,8 @@ pub struct AnswerTold {
     pub offset: usize,
 }
 
-pub fn answer_of(a: Answer) -> AnswerTold
-    ensures { result ≡ answer_told (said_answer a) }
+pub fn answer_of(a: Result<(), Refusal>) -> AnswerTold
+    ensures { result ≡ answer_told (said_by a) }
 {
     AnswerTold {
         number: number_of(a),

@@ -1,11 +1,9 @@
 // What verdicts tell.
 ghost use Rattle.std.specs.Prelude.{◌≡◌};
-ghost use Rattle.refusal.specs.Said.{said_answer};
-ghost use Rattle.verdicts.specs.Evaluate.{compliant};
-ghost use Rattle.told.specs.Policies.{number_in, place_in, beside_in};
-ghost use Rattle.told.specs.Check.{verdict_told, evaluation_as};
+ghost use Rattle.verdicts.specs.Evaluate.{said_evaluation};
+ghost use Rattle.told.specs.Check.{verdict_told, evaluation_told};
 
-use crate::policies::{beside_of, number_of, place_of};
+use refusal::Refusal;
 use verdicts::{Evaluation, Verdict};
 
 #[repr(C)]
@@ -29,6 +27,12 @@ pub struct EvaluationTold {
     pub compliant: bool,
 }
 
+const NO_VERDICT: VerdictTold = VerdictTold {
+    required: false,
+    allowed: false,
+    many: 0,
+};
+
 fn verdict_of(v: Verdict) -> VerdictTold
     ensures { result ≡ verdict_told v }
 {
@@ -39,29 +43,28 @@ fn verdict_of(v: Verdict) -> VerdictTold
     }
 }
 
-pub fn evaluation_of(e: Evaluation) -> EvaluationTold
-    ensures { result ≡ evaluation_as (number_in (said_answer e.answer)) (place_in (said_answer e.answer))
-        (beside_in (said_answer e.answer)) e.verdicts e.set e.count (compliant e) }
+// Refused, everything but number, place and the offset beside it is zero.
+pub fn evaluation_of(e: Result<Evaluation, Refusal>) -> EvaluationTold
+    ensures { result ≡ evaluation_told (said_evaluation e) }
 {
-    let answer = e.answer;
-    let number = number_of(answer);
-    let place = place_of(answer);
-    let offset = beside_of(answer);
-    let compliant = verdicts::is_compliant(e);
-    let a = verdict_of(e.verdicts[0]);
-    let b = verdict_of(e.verdicts[1]);
-    let c = verdict_of(e.verdicts[2]);
-    let d = verdict_of(e.verdicts[3]);
-    let f = verdict_of(e.verdicts[4]);
-    let g = verdict_of(e.verdicts[5]);
-    let h = verdict_of(e.verdicts[6]);
-    EvaluationTold {
-        number,
-        place,
-        offset,
-        verdicts: [a, b, c, d, f, g, h],
-        set: e.set,
-        count: e.count,
-        compliant,
+    match e {
+        Ok(told) => EvaluationTold {
+            number: 0,
+            place: 0,
+            offset: 0,
+            verdicts: told.verdicts.map(verdict_of),
+            set: told.set,
+            count: told.count,
+            compliant: verdicts::is_compliant(e),
+        },
+        Err(why) => EvaluationTold {
+            number: refusal::number(why),
+            place: refusal::place(why),
+            offset: refusal::beside(why),
+            verdicts: [NO_VERDICT; 7],
+            set: 0,
+            count: 0,
+            compliant: false,
+        },
     }
 }

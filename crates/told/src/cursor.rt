@@ -1,9 +1,10 @@
 // What a read at an offset tells.
 ghost use Rattle.std.specs.Prelude.{◌≡◌};
-ghost use Rattle.leb.specs.Answers.{finding_of, said_u32, said_part};
+ghost use Rattle.leb.specs.Answers.{finding_of, said_read};
 ghost use Rattle.told.specs.Reading.{unsigned_told, range_told};
 
-use leb::{PartRead, U32Read};
+use leb::Read;
+use refusal::Part;
 
 // What a read answers: number and place, then the value and the offset after it, all zero on a refusal.
 #[repr(C)]
@@ -25,39 +26,45 @@ pub struct Range {
     pub next: usize,
 }
 
-pub fn narrow_of(r: U32Read) -> Unsigned
-    ensures { result ≡ unsigned_told (finding_of (said_u32 r)) }
+pub fn unsigned_of(r: Read<u64>) -> Unsigned
+    ensures { result ≡ unsigned_told (finding_of (said_read r)) }
 {
     match r {
-        U32Read::Read(value, next) => Unsigned {
+        Ok((value, next)) => Unsigned {
             number: 0,
             place: 0,
-            value: value as u64,
+            value,
             next: next.at,
         },
-        U32Read::Refused(why, _) => Unsigned {
-            number: refusal::number(why),
-            place: refusal::place(why),
+        Err(unread) => Unsigned {
+            number: refusal::number(unread.why),
+            place: refusal::place(unread.why),
             value: 0,
             next: 0,
         },
     }
 }
 
-pub fn range_of(r: PartRead) -> Range
-    ensures { result ≡ range_told (finding_of (said_part r)) }
+pub fn narrow_of(r: Read<u32>) -> Unsigned
+    ensures { result ≡ unsigned_told (finding_of (said_read r)) }
+{
+    unsigned_of(r.map(|(value, next)| (u64::from(value), next)))
+}
+
+pub fn range_of(r: Read<Part>) -> Range
+    ensures { result ≡ range_told (finding_of (said_read r)) }
 {
     match r {
-        PartRead::Read(part, next) => Range {
+        Ok((part, next)) => Range {
             number: 0,
             place: 0,
             from: part.from,
             len: part.len,
             next: next.at,
         },
-        PartRead::Refused(why, _) => Range {
-            number: refusal::number(why),
-            place: refusal::place(why),
+        Err(unread) => Range {
+            number: refusal::number(unread.why),
+            place: refusal::place(unread.why),
             from: 0,
             len: 0,
             next: 0,

@@ -1,13 +1,13 @@
 // What a token, and a text that is written, tell.
 ghost use Rattle.std.specs.Prelude.{◌≡◌};
-ghost use Rattle.refusal.specs.Said.{said_answer, said_written};
+ghost use Rattle.refusal.specs.Said.{said_by};
 ghost use Rattle.policy_text.specs.Token.{said_token};
 ghost use Rattle.told.specs.Policies.{number_in, place_in, beside_in, no_token, token_told, token_asked, written_told};
 
-use domains::{DomainFound, domain_of};
+use domains::domain_of;
 use policy::Policy;
-use policy_text::token::Token;
-use refusal::{Answer, Written};
+use policy_text::token::{Token, next_token};
+use refusal::Refusal;
 
 // Where a token was found: its range, and the offset from which the next is looked for.
 #[repr(C)]
@@ -29,31 +29,31 @@ pub struct WrittenTold {
     pub bytes: usize,
 }
 
-pub fn number_of(a: Answer) -> u32
-    ensures { result ≡ number_in (said_answer a) }
+pub fn number_of(a: Result<(), Refusal>) -> u32
+    ensures { result ≡ number_in (said_by a) }
 {
     match a {
-        Answer::Accepted => 0,
-        Answer::Refused(why) => refusal::number(why),
+        Ok(()) => 0,
+        Err(why) => refusal::number(why),
     }
 }
 
-pub fn place_of(a: Answer) -> usize
-    ensures { result ≡ place_in (said_answer a) }
+pub fn place_of(a: Result<(), Refusal>) -> usize
+    ensures { result ≡ place_in (said_by a) }
 {
     match a {
-        Answer::Accepted => 0,
-        Answer::Refused(why) => refusal::place(why),
+        Ok(()) => 0,
+        Err(why) => refusal::place(why),
     }
 }
 
 // The offset beside 5.
-pub fn beside_of(a: Answer) -> usize
-    ensures { result ≡ beside_in (said_answer a) }
+pub fn beside_of(a: Result<(), Refusal>) -> usize
+    ensures { result ≡ beside_in (said_by a) }
 {
     match a {
-        Answer::Accepted => 0,
-        Answer::Refused(why) => refusal::beside(why),
+        Ok(()) => 0,
+        Err(why) => refusal::beside(why),
     }
 }
 
@@ -70,20 +70,20 @@ pub fn no_token(number: u32, place: usize) -> TokenTold
     }
 }
 
-pub fn token_of(t: Token) -> TokenTold
+pub fn token_of(t: Result<Option<Token>, Refusal>) -> TokenTold
     ensures { result ≡ token_told (said_token t) }
 {
     match t {
-        Token::At(part, next) => TokenTold {
+        Ok(Some(token)) => TokenTold {
             number: 0,
             place: 0,
             found: true,
-            from: part.from,
-            len: part.len,
-            next,
+            from: token.part.from,
+            len: token.part.len,
+            next: token.next,
         },
-        Token::Done => no_token(0, 0),
-        Token::Refused(why) => no_token(refusal::number(why), refusal::place(why)),
+        Ok(None) => no_token(0, 0),
+        Err(why) => no_token(refusal::number(why), refusal::place(why)),
     }
 }
 
@@ -91,23 +91,22 @@ pub fn token_of(t: Token) -> TokenTold
 pub fn token_for(text: &[u8], p: Policy, domain: usize, from: usize) -> TokenTold
     ensures { result ≡ token_told (token_asked text.now p domain from) }
 {
-    let found = domain_of(domain);
-    let DomainFound::Domain(d) = found else {
-        return no_token(0, 0);
-    };
-    token_of(policy_text::token::next_token(text, p, d, from))
+    match domain_of(domain) {
+        Some(d) => token_of(next_token(text, p, d, from)),
+        None => no_token(0, 0),
+    }
 }
 
-pub fn written_of(w: Written) -> WrittenTold
-    ensures { result ≡ written_told (said_written w) }
+pub fn written_of(w: Result<usize, Refusal>) -> WrittenTold
+    ensures { result ≡ written_told (said_by w) }
 {
     match w {
-        Written::Bytes(bytes) => WrittenTold {
+        Ok(bytes) => WrittenTold {
             number: 0,
             place: 0,
             bytes,
         },
-        Written::Refused(why) => WrittenTold {
+        Err(why) => WrittenTold {
             number: refusal::number(why),
             place: refusal::place(why),
             bytes: 0,

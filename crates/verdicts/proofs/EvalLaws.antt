@@ -9,40 +9,34 @@ use lib.Count.{ones}
 use lib.Dec.{eqb, ltb}
 use lib.ListN.{length, get_or, take, drop, set, replicate}
 use lib.Seq.{take-suc, get_or-take, length-take-le}
+use Rattle.std.proofs.lemmas.List.{take-map, length-map, get_or-map}
+use Rattle.std.proofs.Math.Seq.{take-length}
 use borrow.Author.Tests.{lt-ltb, le-ltb, ltb-false}
 use native.Mathlib.Nat.{div-one, min-le_left}
-use Rattle.refusal.specs.Pick.{pick, both}
-use Rattle.refusal.specs.Said.{Said, accepted, refused, refused_by, follow, said_answer, spot, Place}
-use Rattle.refusal.specs.declared.Answer.{Answer}
-use Rattle.refusal.specs.declared.Refusal.{Refusal}
+use Rattle.refusal.specs.Pick.{pick}
+use Rattle.refusal.specs.Said.{Said, accepted, refused, follow, spot, Place}
 use Rattle.refusal.proofs.Following.{never}
 use Rattle.text.proofs.Laws.{left-next, left-none}
 use Rattle.table.specs.Table.{capacity_of}
 use Rattle.table.specs.Shape.{limit, capacity_in}
 use Rattle.verdicts.specs.Evaluate.{how_many, verdict_for, violates, bits, members, firsts, seven_of, outcome_by, outcome, first_past}
-use Rattle.verdicts.specs.Evaluate.{domains_test, evaluated, no_verdict, EvaluatedAs, compliant, accepted_as}
+use Rattle.verdicts.specs.Evaluate.{Outcome, domains_test, evaluated, no_verdict, outcome_in, tallied}
 use Rattle.policy.specs.declared.Policy.{Policy}
 use Rattle.verdicts.specs.declared.Verdict.{Verdict}
-use Rattle.verdicts.specs.declared.Evaluation.{Evaluation}
 
--- ---- the first row past the domains, in a loop up over the first n
-module _ (ns : List ℕ) (n : ℕ) (inside : n ≤ length ns) (i : ℕ) where
-  here : i < n → drop i (take n ns) ≡ get_or ns i 0 ∷ drop (i + 1) (take n ns)
-  here h =
-      let l = length-take-le n ns inside in
-      left-next (take n ns) i (omega arith) ∙ ap (λ (x : ℕ). x ∷ drop (i + 1) (take n ns)) (get_or-take n ns i 0 h)
-
-  pub past-here : i < n → 6 < get_or ns i 0 → first_past (drop i (take n ns)) ≡ 0
+-- ---- the first row past the domains, in a loop up
+module _ (ns : List ℕ) (i : ℕ) where
+  pub past-here : i < length ns → 6 < get_or ns i 0 → first_past (drop i ns) ≡ 0
   unfolding first_past
-  past-here h e = rw (here h, lt-ltb 6 (get_or ns i 0) e)
+  past-here h e = rw (left-next ns i h, lt-ltb 6 (get_or ns i 0) e)
 
-  pub past-on : i < n → get_or ns i 0 ≤ 6 → first_past (drop i (take n ns)) ≡ suc (first_past (drop (i + 1) (take n ns)))
+  pub past-on : i < length ns → get_or ns i 0 ≤ 6 → first_past (drop i ns) ≡ suc (first_past (drop (i + 1) ns))
   unfolding first_past
-  past-on h e = rw (here h, le-ltb 6 (get_or ns i 0) e)
+  past-on h e = rw (left-next ns i h, le-ltb 6 (get_or ns i 0) e)
 
-  pub past_end : n ≤ i → first_past (drop i (take n ns)) ≡ 0
+  past_end : length ns ≤ i → first_past (drop i ns) ≡ 0
   unfolding first_past
-  past_end h = let l = length-take-le n ns inside in rw (left-none (take n ns) i (omega arith))
+  past_end h = rw (left-none ns i h)
 
 past-small : (ns : List ℕ) (i : ℕ) → i < first_past ns → get_or ns i 0 < 7
 unfolding first_past
@@ -54,29 +48,6 @@ past-small (x ∷ ns) i h = by (ltb 6 x) refl i h (past-small ns)
     by true q i h ih = absurd (omega arith)
     by false q zero h ih = omega (arith, ltb-false 6 x q)
     by false q (suc i) h ih = ih i (omega arith)
-
--- ---- what test_domains answers, and what is known where it accepts
-module _ (ns : List ℕ) (n room : ℕ) (is : room ≡ capacity_in 7 (length ns)) where
-  room-is : room ≡ min (length ns) (limit 7)
-  unfolding capacity_of
-  room-is = is ∙ ap (λ (k : ℕ). min k (limit 7)) (div-one (length ns))
-
-  pub test-room : room < n → refused 15 (spot room) ≡ domains_test ns n
-  unfolding domains_test
-  test-room h = rw (← room-is, lt-ltb room n h)
-
-  module _ (fits : n ≤ room) where
-    pub room_fits : n ≤ length ns
-    room_fits = omega (arith, room-is, min-le_left (length ns) (limit 7))
-
-    module _ (row : ℕ) (at : row ≡ first_past (take n ns)) where
-      pub test-row : row < n → refused 15 (spot row) ≡ domains_test ns n
-      unfolding domains_test
-      test-row h = rw (← room-is, le-ltb room n fits, ← at, lt-ltb row n h)
-
-      pub test-rows : n ≤ row → accepted tt ≡ domains_test ns n
-      unfolding domains_test
-      test-rows h = rw (← room-is, le-ltb room n fits, ← at, le-ltb row n h)
 
 pub record Domains (ns : List ℕ) (n : ℕ) : Type 0 where
   pub inside : n ≤ length ns
@@ -173,33 +144,95 @@ flag_at [] i = refl
 flag_at (v ∷ vs) zero = refl
 flag_at (v ∷ vs) (suc i) = flag_at vs i
 
--- ---- what judge gives, and judged
+-- ---- what judge gives
 pub judge-as : (p : Policy) (many : List ℕ) {vs : List Verdict} {k n : ℕ} → vs ≡ seven_of (λ (d : ℕ). verdict_for p d (get_or many d 0))
     → k ≡ bits 0 (firsts 7 (map violates vs)) → ones k ≡ members (firsts 7 (map violates vs)) → n ≡ ones k
-    → EvaluatedAs (accepted (outcome_by (seven_of (λ (d : ℕ). verdict_for p d (get_or many d 0)))))
-    (record { answer = Answer.Accepted; verdicts = vs; set = k; count = n })
+    → outcome_in (record { verdicts = vs; set = k; count = n }) ≡ outcome_by (seven_of (λ (d : ℕ). verdict_for p d (get_or many d 0)))
 unfolding firsts
-judge-as p many v b o c = record { answer = refl; verdicts = v; set = b ∙ rw v; count = c ∙ o ∙ rw v }
+judge-as p many v b o c = rw (c, o, b, v)
 
-pub judged-as : (p : Policy) (ns : List ℕ) {many : List ℕ} {r : Evaluation} → many ≡ counts ns
-    → EvaluatedAs (accepted (outcome_by (seven_of (λ (d : ℕ). verdict_for p d (get_or many d 0))))) r → EvaluatedAs (accepted (outcome p ns)) r
-unfolding outcome
-judged-as p ns m e = rw m at e
+-- ---- what tally answers: row i has the number d
+pub number-at : {A : Type 0} (number : A → ℕ) (rows : List A) (i : ℕ) {x : A} {d : ℕ} → i < length rows → x ≡ get_or rows i x
+    → d ≡ number x → d ≡ get_or (map number rows) i 0
+number-at number rows i {x} h e q = q ∙ ap number e ∙ sym (get_or-map number rows i x 0 h)
 
-module _ (ns : List ℕ) (n : ℕ) (p : Policy) {a : Answer} {r : Evaluation} (tested : said_answer a ≡ domains_test ns n) where
-  pub evaluated-good : a ≡ Answer.Accepted → EvaluatedAs (accepted (outcome p (take n ns))) r → EvaluatedAs (evaluated ns n p) r
-  unfolding evaluated follow
-  evaluated-good e q = let z : domains_test ns n ≡ accepted tt = sym tested ∙ ap said_answer e in rw z q
+module _ {A : Type 0} (number : A → ℕ) (rows : List A) (i : ℕ) where
+  abbrev numbers : List ℕ
+  numbers = map number rows
 
-  pub evaluated-bad : {w : Refusal} → a ≡ Answer.Refused w → EvaluatedAs (refused_by w) r → EvaluatedAs (evaluated ns n p) r
-  unfolding evaluated follow
-  evaluated-bad {w} e q = let z : domains_test ns n ≡ refused_by w = sym tested ∙ ap said_answer e in rw z q
+  -- a turn
+  module _ {x : A} {d : ℕ} (h : i < length rows) (is : x ≡ get_or rows i x) (q : d ≡ number x) where
+    inside : i < length numbers
+    inside = rw (length-map rows number) h
 
--- ---- a refused evaluation is never compliant
-pub refused-never : {r : Evaluation} {k : ℕ} {n : Place} → EvaluatedAs (refused k n) r → compliant r ≡ false
-unfolding compliant
-refused-never {r} {k} {n} e = by r.answer e.answer
-  where
-    by : (a : Answer) → said_answer a ≡ refused k n → both (accepted_as a) (eqb r.count 0) ≡ false
-    by Answer.Accepted q = absurd (never (sym q))
-    by (Answer.Refused w) q = refl
+    here : get_or numbers i 0 ≡ d
+    here = sym (number-at number rows i h is q)
+
+    pub tally-bad : 6 < d → first_past (map number rows) ≡ i + first_past (drop i (map number rows))
+        → refused 15 (spot i) ≡ tallied (map number rows)
+    unfolding tallied
+    tally-bad e f =
+        let z : first_past numbers ≡ i = omega (arith, f, past-here numbers i inside (omega (arith, here, e))) in
+        rw (z, lt-ltb i (length numbers) inside)
+
+    pub tally-most : {many : List ℕ} → d ≤ 6 → many ≡ counts (take i (map number rows)) → get_or many d 0 ≤ i
+    tally-most e m = counts-most numbers i d (omega (arith, inside)) (omega arith) m
+
+    pub tally-more : {many : List ℕ} → d ≤ 6 → many ≡ counts (take i (map number rows))
+        → set many d (get_or many d 0 + 1) ≡ counts (take (i + 1) (map number rows))
+    tally-more e m = rw (← here) (counts-next numbers i inside (omega (arith, here, e)) m)
+
+    pub tally-on : d ≤ 6 → first_past (map number rows) ≡ i + first_past (drop i (map number rows))
+        → first_past (map number rows) ≡ i + 1 + first_past (drop (i + 1) (map number rows))
+    tally-on e f = omega (arith, f, past-on numbers i inside (omega (arith, here, e)))
+
+  pub tally-good : {many : List ℕ} → length rows ≤ i → i ≤ length rows → many ≡ counts (take i (map number rows))
+      → first_past (map number rows) ≡ i + first_past (drop i (map number rows)) → accepted many ≡ tallied (map number rows)
+  unfolding tallied
+  tally-good h k m f =
+      let l = length-map rows number in
+      let e : i ≡ length numbers = omega arith in
+      let z : first_past numbers ≡ length numbers = omega (arith, e, f, past_end numbers i (omega arith)) in
+      rw (z, le-ltb (length numbers) (length numbers) (omega arith), m, e, take-length numbers)
+
+-- ---- what evaluate_rows answers
+module _ {A : Type 0} (number : A → ℕ) (rows : List A) (n room : ℕ) (p : Policy) (is : room ≡ capacity_in 7 (length rows)) where
+  abbrev ns : List ℕ
+  ns = map number rows
+
+  long-as : length ns ≡ length rows
+  long-as = length-map rows number
+
+  room-is : room ≡ min (length ns) (limit 7)
+  unfolding capacity_of
+  room-is = rw long-as (is ∙ ap (λ (k : ℕ). min k (limit 7)) (div-one (length rows)))
+
+  pub room-short : room < n → refused 15 (spot room) ≡ evaluated (map number rows) n p
+  unfolding evaluated domains_test follow
+  room-short h = rw (← room-is, lt-ltb room n h)
+
+  module _ (fits : n ≤ room) where
+    pub room_fits : n ≤ length rows
+    room_fits = omega (arith, room-is, long-as, min-le_left (length ns) (limit 7))
+
+    by-tally : evaluated ns n p
+        ≡ follow (tallied (take n ns)) (λ many. accepted (outcome_by (seven_of (λ d. verdict_for p d (get_or many d 0)))))
+    unfolding evaluated domains_test follow tallied outcome
+    by-tally = by (ltb (first_past (take n ns)) n) refl
+      where
+        long : length (take n ns) ≡ n
+        long = length-take-le n ns (omega (arith, room_fits, long-as))
+
+        by : (t : Bool) → ltb (first_past (take n ns)) n ≡ t → evaluated ns n p
+            ≡ follow (tallied (take n ns)) (λ many. accepted (outcome_by (seven_of (λ d. verdict_for p d (get_or many d 0)))))
+        by true e = rw (← room-is, le-ltb room n fits, e, long, e)
+        by false e = rw (← room-is, le-ltb room n fits, e, long, e)
+
+    pub rows-bad : {m : ℕ} {x : Place} → tallied (map number (take n rows)) ≡ refused m x → refused m x ≡ evaluated (map number rows) n p
+    unfolding follow
+    rows-bad e = rw (by-tally, take-map number n rows, e)
+
+    pub rows-good : {many : List ℕ} {o : Outcome} → tallied (map number (take n rows)) ≡ accepted many
+        → o ≡ outcome_by (seven_of (λ (d : ℕ). verdict_for p d (get_or many d 0))) → accepted o ≡ evaluated (map number rows) n p
+    unfolding follow
+    rows-good e q = rw (by-tally, take-map number n rows, e, q)

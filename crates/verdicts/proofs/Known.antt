@@ -1,19 +1,19 @@
 -- An answer is known by what its promise says of it, so no two satisfy it. Assumes nothing.
-use mathlib.Core.Path.{◌≡◌, sym, ap₂, ◌∙◌}
-use mathlib.Core.List.{List}
-use Prim.Native.Nat.{ℕ}
-use Rattle.refusal.specs.Said.{Said}
-use Rattle.refusal.specs.declared.Answer.{Answer}
-use Rattle.refusal.proofs.Known.{answer-known}
-use Rattle.verdicts.specs.Evaluate.{Outcome, EvaluatedAs}
-use Rattle.verdicts.specs.declared.Verdict.{Verdict}
+use Rattle.std.specs.Prelude.{Result, Ok, Err}
+use mathlib.Core.Path.{◌≡◌, refl, sym, ap, ◌∙◌}
+use Rattle.refusal.specs.Said.{Said, accepted, refused}
+use Rattle.refusal.specs.declared.Refusal.{Refusal}
+use Rattle.refusal.proofs.Known.{taken_back, refusal_of, known}
+use Rattle.verdicts.specs.Evaluate.{Outcome, said_evaluation}
 use Rattle.verdicts.specs.declared.Evaluation.{Evaluation}
 
-pub evaluation-known : {d : Said Outcome} (x y : Evaluation) → EvaluatedAs d x → EvaluatedAs d y → x ≡ y
-evaluation-known x y p q =
-    let a = answer-known x.answer y.answer (p.answer ∙ sym q.answer) in
-    let v : x.verdicts ≡ y.verdicts = p.verdicts ∙ sym q.verdicts in
-    let n : x.set ≡ y.set = p.set ∙ sym q.set in
-    let m : x.count ≡ y.count = p.count ∙ sym q.count in
-    ap₂ {C = Evaluation} (λ (r : Answer) (vs : List Verdict). record { answer = r; verdicts = vs; set = x.set; count = x.count }) a v
-    ∙ ap₂ {C = Evaluation} (λ (k j : ℕ). record { answer = y.answer; verdicts = y.verdicts; set = k; count = j }) n m
+pub evaluation-known : {d : Said Outcome} (x y : Result Evaluation Refusal) → said_evaluation x ≡ d → said_evaluation y ≡ d → x ≡ y
+evaluation-known x y p q = taken_back again is x y (p ∙ sym q)
+  where
+    again : Said Outcome → Result Evaluation Refusal
+    again (accepted o) = Ok (record { verdicts = o.verdicts; set = o.set; count = o.count })
+    again (refused n p) = Err (refusal_of n p)
+
+    is : (a : Result Evaluation Refusal) → again (said_evaluation a) ≡ a
+    is (Ok e) = refl
+    is (Err w) = ap Err (known w)

@@ -2,4 +2,3 @@
 pub mod MemberLaws
 pub mod EvalLaws
 pub mod Known
-pub mod Walking

@@ -1,9 +1,9 @@
 -- docs/RULES.md, "Domains and verdicts": required domains held against a policy. Assumes nothing.
-use Rattle.std.specs.Prelude.{Bool, true, false, not, ◌≡◌, List, [], ◌∷◌, ◌++◌, map, ℕ, zero, suc, ◌+◌, ◌*◌, ◌^◌, min, eqb, ltb, length, take, get_or}
+use Rattle.std.specs.Prelude.{Bool, true, false, not, List, [], ◌∷◌, ◌++◌, map, Result, Ok, Err}
+use Rattle.std.specs.Prelude.{ℕ, zero, suc, ◌+◌, ◌*◌, ◌^◌, min, eqb, ltb, length, take, get_or}
 use Rattle.refusal.specs.Pick.{pick, both, one_if}
-use Rattle.refusal.specs.Said.{Said, accepted, refused, follow, said_answer, spot}
-use Rattle.refusal.specs.declared.Answer.{Answer}
-use Rattle.text.specs.Whole.{without_value}
+use Rattle.refusal.specs.declared.Refusal.{Refusal}
+use Rattle.refusal.specs.Said.{Said, accepted, refused, refused_by, follow, spot}
 use Rattle.table.specs.Shape.{limit}
 use Rattle.policy.specs.Eight.{slot_of}
 use Rattle.policy.specs.declared.Policy.{Policy}
@@ -78,7 +78,20 @@ domains_test ns n =
 unfoldable pub evaluated : List ℕ → ℕ → Policy → Said Outcome
 evaluated ns n p = follow (domains_test ns n) (λ ok. accepted (outcome p (take n ns)))
 
--- ---- the promise: the answer, and what stands beside it, all zero after a refusal
+-- ---- what is answered: the verdicts, or the refusal
+abbrev pub outcome_in : Evaluation → Outcome
+outcome_in e = record { verdicts = e.verdicts; set = e.set; count = e.count }
+
+abbrev pub said_evaluation : Result Evaluation Refusal → Said Outcome
+said_evaluation (Ok e) = accepted (outcome_in e)
+said_evaluation (Err why) = refused_by why
+
+-- accepted, and no domain violates
+abbrev pub compliant : Result Evaluation Refusal → Bool
+compliant (Ok e) = eqb e.count 0
+compliant (Err why) = false
+
+-- ---- for those who tell of both in one struct: all zero after a refusal
 abbrev pub no_verdict : Verdict
 no_verdict = record { required = false; allowed = false; many = 0 }
 
@@ -89,21 +102,12 @@ abbrev pub outcome_of : Said Outcome → Outcome
 outcome_of (accepted o) = o
 outcome_of (refused n p) = no_outcome
 
-pub record EvaluatedAs (d : Said Outcome) (r : Evaluation) : Type 0 where
-  pub answer : said_answer r.answer ≡ without_value d
-  pub verdicts : r.verdicts ≡ (outcome_of d).verdicts
-  pub set : r.set ≡ (outcome_of d).set
-  pub count : r.count ≡ (outcome_of d).count
+-- ---- for the code: how many of the numbers are each domain's; 15 for the first that is none's
+unfoldable pub tallied : List ℕ → Said (List ℕ)
+tallied ns =
+    pick (ltb (first_past ns) (length ns)) (refused 15 (spot (first_past ns))) (accepted (seven_of (λ d. how_many d ns)))
 
--- accepted, and no domain violates
-abbrev pub accepted_as : Answer → Bool
-accepted_as Answer.Accepted = true
-accepted_as (Answer.Refused w) = false
-
-unfoldable pub compliant : Evaluation → Bool
-compliant e = both (accepted_as e.answer) (eqb e.count 0)
-
--- ---- for the code: the first n flags; every number is a domain's
+-- the first n flags
 unfoldable pub firsts : ℕ → List Bool → List Bool
 firsts zero fs = []
 firsts (suc n) fs = firsts n fs ++ get_or fs n false ∷ []

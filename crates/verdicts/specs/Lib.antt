@@ -1,4 +1,3 @@
 -- What the promises cite.
 pub mod Evaluate
 pub mod Records
-pub mod Tally

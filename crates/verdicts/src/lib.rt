@@ -3,17 +3,16 @@
 
 pub mod records;
 
-ghost use Rattle.std.specs.Prelude.{◌≡◌, map, ℕ, ◌+◌, ◌*◌, ◌^◌, ◌<◌, ◌≤◌, length, take, get_or};
+ghost use Rattle.std.specs.Prelude.{◌≡◌, map, ℕ, ◌<◌, get_or};
 ghost use Rattle.std.specs.Int.Count.{ones};
-ghost use Rattle.refusal.specs.Said.{accepted, refused_by, said_answer};
+ghost use Rattle.refusal.specs.Said.{said_by};
 ghost use Rattle.domains.specs.Domain.{domain_number};
-ghost use Rattle.refusal.specs.Pick.{one_if};
-ghost use Rattle.verdicts.specs.Evaluate.{effective_of, verdict_for, violates, compliant, how_many, seven_of, bits, members, firsts};
-ghost use Rattle.verdicts.specs.Evaluate.{first_past, domains_test, outcome_by, outcome, evaluated, EvaluatedAs};
+ghost use Rattle.verdicts.specs.Evaluate.{effective_of, verdict_for, violates, compliant, seven_of, bits, members, firsts};
+ghost use Rattle.verdicts.specs.Evaluate.{outcome_in, outcome_by, tallied, evaluated, said_evaluation};
 
 use domains::{Domain, domain_number};
-use policy::{Policy, Stance};
-use refusal::{Answer, Refusal};
+use policy::{Policy, Slot, Stance};
+use refusal::Refusal;
 use table::shape::{MAX_REQUIREMENTS, REQUIREMENT_WIDTH};
 
 // The rule that holds for a domain: whether it is allowed, and the range of its tokens.
@@ -32,10 +31,9 @@ pub struct Verdict {
     pub many: usize,
 }
 
-// Bit d of `set`: domain d violates. `count` is how many do. All zero where the answer is a refusal.
+// Bit d of `set`: domain d violates. `count` is how many do.
 #[derive(Clone, Copy)]
 pub struct Evaluation {
-    pub answer: Answer,
     pub verdicts: [Verdict; 7],
     pub set: u32,
     pub count: usize,
@@ -45,18 +43,14 @@ pub struct Evaluation {
 pub fn effective(p: Policy, d: Domain) -> Rule
     ensures { result ≡ effective_of p (domain_number d) }
 {
-    let n = domain_number(d);
-    rule_at(p, n)
+    rule_at(p, domain_number(d))
 }
 
 fn rule_at(p: Policy, d: usize) -> Rule
     requires { d < 7 }
     ensures { result ≡ effective_of p d }
 {
-    let slot = p.rules[d];
-    let stance = slot.stance;
-    let from = slot.from;
-    let len = slot.len;
+    let Slot { stance, from, len } = p.rules[d];
     match stance {
         Stance::None => Rule {
             allow: p.permit,
@@ -79,67 +73,48 @@ fn rule_at(p: Policy, d: usize) -> Rule
 pub fn is_violation(v: Verdict) -> bool
     ensures { result ≡ violates v }
 {
-    if v.required {
-        return !v.allowed;
-    }
-    false
+    v.required && !v.allowed
 }
 
-// Never true of an evaluation that was refused, though its count is zero.
-pub fn is_compliant(e: Evaluation) -> bool
+// Never true of a refusal.
+pub fn is_compliant(e: Result<Evaluation, Refusal>) -> bool
     ensures { result ≡ compliant e }
 {
-    let answer = e.answer;
-    match answer {
-        Answer::Accepted => e.count == 0,
-        Answer::Refused(_) => false,
+    match e {
+        Ok(e) => e.count == 0,
+        Err(_) => false,
     }
 }
 
-// The first of n rows whose number is no domain's, n where there is none.
-fn first_past(domains: &[usize], n: usize) -> usize
-    requires { n ≤ length domains.now }
-    ensures { result ≡ first_past (take n domains.now) }
+// A row that asks for a domain, by its number.
+trait Asking {
+    ghost number: { Self → ℕ };
+
+    fn domain(&self) -> usize
+        ensures { result ≡ number self.now };
+}
+
+impl Asking for usize {
+    ghost number = { λ d. d };
+
+    fn domain(&self) -> usize {
+        *self
+    }
+}
+
+// How many of the rows each domain has; 15 for the first row that names none.
+fn tally<R: Asking>(rows: &[R]) -> Result<[usize; 7], Refusal>
+    ensures { said_by result ≡ tallied (map R.number rows.now) }
 {
-    let mut i = 0;
-    while i < n {
-        if 6 < domains[i] {
-            return i;
+    let mut many = [0; 7];
+    for (i, row) in rows.iter().enumerate() {
+        let d = row.domain();
+        if 6 < d {
+            return Err(Refusal::BadTable(i));
         }
-        i += 1;
+        many[d] += 1;
     }
-    i
-}
-
-// 15 for table 7: the count, then the domain numbers.
-fn test_domains(domains: &[usize], n: usize) -> Answer
-    ensures { said_answer result ≡ domains_test domains.now n }
-{
-    let room = table::capacity(domains.len(), REQUIREMENT_WIDTH, MAX_REQUIREMENTS);
-    if room < n {
-        return Answer::Refused(Refusal::BadTable(room));
-    }
-    let row = first_past(domains, n);
-    if row < n {
-        return Answer::Refused(Refusal::BadTable(row));
-    }
-    Answer::Accepted
-}
-
-// How many of the first n rows each domain has.
-fn tally(domains: &[usize], n: usize) -> [usize; 7]
-    requires { (n ≤ length domains.now) × ((i : ℕ) → i < n → get_or domains.now i 0 < 7) }
-    ensures { result ≡ seven_of (λ (d : ℕ). how_many d (take n domains.now)) }
-{
-    let mut many = [0usize; 7];
-    let mut i = 0;
-    while i < n {
-        let d = domains[i];
-        let m = many[d];
-        many[d] = m + 1;
-        i += 1;
-    }
-    many
+    Ok(many)
 }
 
 // The verdict on domain d, required so many times.
@@ -147,10 +122,9 @@ fn verdict_on(p: Policy, d: usize, many: usize) -> Verdict
     requires { d < 7 }
     ensures { result ≡ verdict_for p d many }
 {
-    let rule = rule_at(p, d);
     Verdict {
         required: 0 < many,
-        allowed: rule.allow,
+        allowed: rule_at(p, d).allow,
         many,
     }
 }
@@ -158,25 +132,16 @@ fn verdict_on(p: Policy, d: usize, many: usize) -> Verdict
 fn verdicts_of(p: Policy, many: [usize; 7]) -> [Verdict; 7]
     ensures { result ≡ seven_of (λ (d : ℕ). verdict_for p d (get_or many d 0)) }
 {
-    let a = verdict_on(p, 0, many[0]);
-    let b = verdict_on(p, 1, many[1]);
-    let c = verdict_on(p, 2, many[2]);
-    let d = verdict_on(p, 3, many[3]);
-    let e = verdict_on(p, 4, many[4]);
-    let f = verdict_on(p, 5, many[5]);
-    let g = verdict_on(p, 6, many[6]);
-    [a, b, c, d, e, f, g]
-}
-
-// d into the set, where v says so; the set has no member from d on.
-fn with_bit(set: u32, d: u32, v: bool) -> u32
-    requires { (set < 2 ^ d) × (d < 7) }
-    ensures { result ≡ set + one_if v * 2 ^ d }
-{
-    if v {
-        return set | 1 << d;
+    let none = Verdict {
+        required: false,
+        allowed: false,
+        many: 0,
+    };
+    let mut verdicts = [none; 7];
+    for d in 0..7 {
+        verdicts[d] = verdict_on(p, d, many[d]);
     }
-    set
+    verdicts
 }
 
 // The domains that violate, as a set.
@@ -184,63 +149,42 @@ fn violations(verdicts: [Verdict; 7]) -> u32
     ensures { (result ≡ bits 0 (firsts 7 (map violates verdicts))) × (ones result ≡ members (firsts 7 (map violates verdicts))) }
 {
     let mut set: u32 = 0;
-    let mut i: usize = 0;
-    let mut d: u32 = 0;
-    while i < 7 {
-        let v = verdicts[i];
-        let bad = is_violation(v);
-        set = with_bit(set, d, bad);
-        d += 1;
-        i += 1;
+    for d in 0..7 {
+        if is_violation(verdicts[d]) {
+            set |= 1 << d;
+        }
     }
     set
 }
 
 // The verdicts of a policy on domains of which each is required so many times.
 pub fn judge(p: Policy, many: [usize; 7]) -> Evaluation
-    ensures { EvaluatedAs (accepted (outcome_by (seven_of (λ (d : ℕ). verdict_for p d (get_or many d 0))))) result }
+    ensures { outcome_in result ≡ outcome_by (seven_of (λ (d : ℕ). verdict_for p d (get_or many d 0))) }
 {
     let verdicts = verdicts_of(p, many);
     let set = violations(verdicts);
     Evaluation {
-        answer: Answer::Accepted,
         verdicts,
         set,
-        count: u32::count_ones(set) as usize,
+        count: set.count_ones() as usize,
     }
 }
 
-// The outcome for n rows that are all right.
-fn judged(domains: &[usize], n: usize, p: Policy) -> Evaluation
-    requires { (n ≤ length domains.now) × ((i : ℕ) → i < n → get_or domains.now i 0 < 7) }
-    ensures { EvaluatedAs (accepted (outcome p (take n domains.now))) result }
+// The verdicts of a policy on the first n rows; 15 for the count, then for a row that names no domain.
+fn evaluate_rows<R: Asking>(rows: &[R], n: usize, p: Policy) -> Result<Evaluation, Refusal>
+    ensures { said_evaluation result ≡ evaluated (map R.number rows.now) n p }
 {
-    judge(p, tally(domains, n))
-}
-
-// A refusal, and no verdict.
-pub fn unjudged(why: Refusal) -> Evaluation
-    ensures { EvaluatedAs (refused_by why) result }
-{
-    let none = Verdict {
-        required: false,
-        allowed: false,
-        many: 0,
-    };
-    Evaluation {
-        answer: Answer::Refused(why),
-        verdicts: [none; 7],
-        set: 0,
-        count: 0,
+    let room = table::capacity(rows.len(), REQUIREMENT_WIDTH, MAX_REQUIREMENTS);
+    if room < n {
+        return Err(Refusal::BadTable(room));
     }
+    let many = tally(&rows[..n])?;
+    Ok(judge(p, many))
 }
 
 // The verdicts of a policy on n requirements, given by their domain numbers.
-pub fn evaluate_domains(domains: &[usize], n: usize, p: Policy) -> Evaluation
-    ensures { EvaluatedAs (evaluated domains.now n p) result }
+pub fn evaluate_domains(domains: &[usize], n: usize, p: Policy) -> Result<Evaluation, Refusal>
+    ensures { said_evaluation result ≡ evaluated domains.now n p }
 {
-    match test_domains(domains, n) {
-        Answer::Refused(why) => unjudged(why),
-        Answer::Accepted => judged(domains, n, p),
-    }
+    evaluate_rows(domains, n, p)
 }

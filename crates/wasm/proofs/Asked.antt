@@ -1,5 +1,5 @@
--- What an import asks for, as cells of its row: seven, whatever it is, and so a row has twelve. Assumes nothing.
-use Prim.Native.Nat.{ℕ, suc}
+-- What an import asks for, as seven cells of its row. Assumes nothing.
+use Prim.Native.Nat.{ℕ}
 use mathlib.Core.Path.{◌≡◌, refl, ap, ◌∙◌}
 use mathlib.Core.List.{List, [], ◌∷◌}
 use lib.ListN.{length, get_or}
@@ -7,18 +7,10 @@ use Rattle.table.specs.Table.{put_row}
 use Rattle.table.specs.Shape.{width}
 use Rattle.wasm.specs.declared.entry.Desc.{Desc}
 use Rattle.wasm.specs.declared.entry.Import.{Import}
-use Rattle.wasm.specs.Rows.{desc_cells, import_cells}
-
-desc-wide : (d : Desc) → length (desc_cells d) ≡ 7
-unfolding desc_cells
-desc-wide (Desc.Func index) = refl
-desc-wide (Desc.Table element l) = refl
-desc-wide (Desc.Memory l) = refl
-desc-wide (Desc.Global type mutable) = refl
+use Rattle.wasm.specs.Rows.{desc_cells, import_cells, import_wide}
 
 pub import-wide : (r : Import) → length (import_cells r) ≡ width 2
-unfolding import_cells
-import-wide r = ap (λ (n : ℕ). suc (suc (suc (suc (suc n))))) (desc-wide r.desc)
+import-wide = import_wide
 
 -- the seven cells one by one
 abbrev pub seven_from : List ℕ → List ℕ

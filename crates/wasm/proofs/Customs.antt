@@ -1,10 +1,11 @@
 -- Laws of custom sections. Assumes nothing.
 use Prim.Native.Nat.{ℕ, ◌+◌, ◌-◌}
 use mathlib.Core.Path.{◌≡◌, refl, sym, ◌∙◌, ap}
-use mathlib.Core.Bool.{true, false}
+use mathlib.Core.Bool.{Bool, true, false}
 use mathlib.Core.List.{List}
 use native.Mathlib.Nat.{add-sub_cancel_left}
 use lib.ListN.{length, take, drop}
+use Rattle.std.specs.Prelude.{Some}
 use Rattle.refusal.specs.Said.{Said, accepted, refused, refused_by, moved_on, Got, got, onward, Place}
 use Rattle.refusal.specs.declared.Part.{Part}
 use Rattle.refusal.specs.declared.Refusal.{Refusal}
@@ -21,6 +22,7 @@ use Rattle.wasm.specs.Entry.{moved}
 use Rattle.wasm.specs.Rows.{symbol_cells}
 use Rattle.wasm.specs.Custom.{Names, named_of, NamesHeld, CustomHeld, label_at, CustomSaid, custom_of, custom_at, name_word}
 use Rattle.wasm.specs.Custom.{told_by, subsection_at}
+use Rattle.wasm.proofs.Reading.{reads, taken_inside}
 
 -- the module's name leaves the functions' names as they are
 label-keeps : (s : List ℕ) (base : ℕ) (t u : Names) (d : ℕ) → label_at s base t ≡ accepted (got u d) → u.symbols ≡ t.symbols
@@ -29,14 +31,14 @@ label-keeps s base t u d e =
     let f =
     read-on (name_at s 0)
     (λ (p : Part) (k : ℕ).
-    accepted (got (record { label = record { named = true; start = base + p.from; size = p.len }; symbols = t.symbols }) k)) e in
+    accepted (got (record { label = Some (moved base p); symbols = t.symbols }) k)) e in
     is f.what f.next f.then
   where
     is : (p : Part) (k : ℕ)
-        → accepted (got (record { label = record { named = true; start = base + p.from; size = p.len }; symbols = t.symbols }) k)
+        → accepted (got (record { label = Some (moved base p); symbols = t.symbols }) k)
         ≡ accepted (got u d) → u.symbols ≡ t.symbols
     is p k q =
-        let z : record { label = record { named = true; start = base + p.from; size = p.len }; symbols = t.symbols } ≡ u = cc in
+        let z : record { label = Some (moved base p); symbols = t.symbols } ≡ u = cc in
         sym (ap (λ (x : Names). x.symbols) z)
 
 pub told-label : (s : List ℕ) (base : ℕ) (t : Names) (table : List ℕ) (n : ℕ) (a : Said (Got Named))
@@ -61,6 +63,13 @@ named_count n t e = ap (λ (x : Named). x.count) e
 -- the part that the code cut out
 pub cut : (at size : ℕ) (b : List ℕ) → take (at + size - at) (drop at b) ≡ take size (drop at b)
 cut at size b = rw add-sub_cancel_left
+
+pub cut_same : (word s : List ℕ) (p : Part) {t : Bool} → same word (take (p.from + p.len - p.from) (drop p.from s)) ≡ t
+    → same word (part_bytes s p) ≡ t
+cut_same word s p e = rw (sym (cut p.from p.len s)) e
+
+-- for the header
+pub ruleset header_reads = (reads, taken_inside, cut_same)
 
 -- a subsection whose id and size were read; q is its bytes as the code cut them out
 module _ (s : List ℕ) (base z at : ℕ) (t : Names) (id a next : ℕ) (p : Part) (one : byte_at s at ≡ accepted (got id a))

@@ -25,12 +25,22 @@ use Rattle.wasm.specs.declared.section.Section.{Section}
 use Rattle.wasm.specs.declared.section.Counts.{Counts}
 use Rattle.wasm.specs.declared.section.Contents.{Contents}
 use Rattle.wasm.specs.declared.custom.Custom.{Custom}
+use Rattle.wasm.specs.declared.custom.Named.{Named}
 use Rattle.wasm.specs.Rows.{import_cells, export_cells, symbol_cells, imports_of, exports_of}
 use Rattle.wasm.specs.Custom.{Names, named_of, custom_of, custom_at, NamesHeld, CustomHeld}
 use Rattle.wasm.specs.Module.{section_cells, Tables, with_section, counts_of, Sizes, Lent, lend, Holds, Inner, contents_of, SectionsLie}
-use Rattle.wasm.specs.Module.{Inside, InsideOf, nameless, contents_at, add_section, section_at, import_count, export_count, name_count}
+use Rattle.wasm.specs.Module.{Inside, InsideOf, nameless, contents_at, add_section, section_at}
 
 -- ---- contents
+abbrev import_count : Counts → ℕ → Counts
+import_count n k = record { sections = n.sections; imports = k; exports = n.exports; named = n.named }
+
+abbrev export_count : Counts → ℕ → Counts
+export_count n k = record { sections = n.sections; imports = n.imports; exports = k; named = n.named }
+
+abbrev name_count : Counts → Named → Counts
+name_count n u = record { sections = n.sections; imports = n.imports; exports = n.exports; named = u }
+
 module _ (id : ℕ) (s : List ℕ) (base : ℕ) (z : Sizes) (t : Tables) where
   module _ (is : id ≡ 0) (m : ℕ) (same : z.names ≡ m) (table : List ℕ) {a : Said (Got Custom)}
       (told : ReaderTells custom_of (CustomHeld table m) (custom_at s base m t.names) a) where

@@ -1,25 +1,22 @@
 -- docs/RULES.md, "The module": custom sections, and the name section (Core Specification 2.0, appendix 7.4.1): subsection 0 names the
 -- module, the last wins; 1 adds function names. Assumes nothing.
-use Rattle.std.specs.Prelude.{ℕ, ◌+◌, ◌≡◌, true, List, [], ◌∷◌, length, eqb}
+use Rattle.std.specs.Prelude.{ℕ, ◌+◌, ◌≡◌, List, [], ◌∷◌, length, eqb, Option, Some}
 use Rattle.refusal.specs.Pick.{pick}
-use Rattle.refusal.specs.Said.{Said, accepted, refused_by, relocated, Got, got, onward}
+use Rattle.refusal.specs.Said.{Said, accepted, relocated, Got, got, onward}
 use Rattle.refusal.specs.declared.Part.{Part}
 use Rattle.text.specs.Find.{same}
 use Rattle.table.specs.Table.{laid, cells}
 use Rattle.table.specs.Walking.{walk_from}
 use Rattle.leb.specs.Reads.{part_bytes, byte_at, name_at, counted_at}
 use Rattle.wasm.specs.declared.entry.Symbol.{Symbol}
-use Rattle.wasm.specs.declared.custom.Label.{Label}
 use Rattle.wasm.specs.declared.custom.Named.{Named}
-use Rattle.wasm.specs.declared.custom.NamedRead.{NamedRead}
 use Rattle.wasm.specs.declared.custom.Custom.{Custom}
-use Rattle.wasm.specs.declared.custom.CustomRead.{CustomRead}
 use Rattle.wasm.specs.Entry.{moved}
 use Rattle.wasm.specs.Rows.{symbol_cells, symbols_of}
 
 -- what name sections have told: the module's name and the functions'
 pub record Names : Type 0 where
-  pub label : Label
+  pub label : Option Part
   pub symbols : List Symbol
 
 unfoldable pub named_of : Names → Named
@@ -33,7 +30,7 @@ NamesHeld table n t = table ≡ laid n (cells symbol_cells t.symbols)
 unfoldable pub label_at : List ℕ → ℕ → Names → Said (Got Names)
 label_at s base t =
     onward (name_at s 0) (λ p e.
-    accepted (got (record { label = record { named = true; start = base + p.from; size = p.len }; symbols = t.symbols }) e))
+    accepted (got (record { label = Some (moved base p); symbols = t.symbols }) e))
 
 -- what a subsection's bytes s, from base in the file, tell; n is the cells of the table
 unfoldable pub told_by : ℕ → List ℕ → ℕ → ℕ → Names → Said (Got Names)
@@ -71,12 +68,3 @@ custom_at s base n t =
     onward (name_at s 0) (λ p at.
     onward (pick (same name_word (part_bytes s p)) (walk_from (subsection_at s base n) s at t) (accepted (got t at))) (λ u e.
     accepted (got (record { name = moved base p; inner = u }) e)))
-
--- ---- for the code
-abbrev pub said_named : NamedRead → Said (Got Named)
-said_named (NamedRead.Read v next) = accepted (got v next.at)
-said_named (NamedRead.Refused why) = refused_by why
-
-abbrev pub said_custom : CustomRead → Said (Got Custom)
-said_custom (CustomRead.Read v next) = accepted (got v next.at)
-said_custom (CustomRead.Refused why) = refused_by why

@@ -1,23 +1,16 @@
 -- docs/RULES.md, "The module": entries of sections, read at an offset of the bytes s, which start at `base` in the file. An entry and the
 -- offset after it, or a refusal, whose offset is one of s too: sections move it. The specification's own grammar of entries stands in
 -- Grammar.antt. Assumes nothing.
-use Rattle.std.specs.Prelude.{ℕ, ◌+◌, ◌%◌, true, false, List, eqb}
+use Rattle.std.specs.Prelude.{ℕ, ◌+◌, ◌%◌, List, eqb, Some, None}
 use Rattle.refusal.specs.Pick.{pick}
-use Rattle.refusal.specs.Said.{Said, accepted, refused, refused_by, Got, got, onward, kind_at}
+use Rattle.refusal.specs.Said.{Said, accepted, refused, Got, got, onward, kind_at}
 use Rattle.refusal.specs.declared.Part.{Part}
-use Rattle.refusal.specs.declared.Refusal.{Refusal}
-use Rattle.refusal.specs.declared.Refusal.TheVariants.{UnexpectedEof}
 use Rattle.leb.specs.Reads.{part, byte_at, u32_at, name_at}
 use Rattle.wasm.specs.declared.entry.Limits.{Limits}
 use Rattle.wasm.specs.declared.entry.Desc.{Desc}
 use Rattle.wasm.specs.declared.entry.Import.{Import}
 use Rattle.wasm.specs.declared.entry.Export.{Export}
 use Rattle.wasm.specs.declared.entry.Symbol.{Symbol}
-use Rattle.wasm.specs.declared.entry.LimitsRead.{LimitsRead}
-use Rattle.wasm.specs.declared.entry.DescRead.{DescRead}
-use Rattle.wasm.specs.declared.entry.ImportRead.{ImportRead}
-use Rattle.wasm.specs.declared.entry.ExportRead.{ExportRead}
-use Rattle.wasm.specs.declared.entry.SymbolRead.{SymbolRead}
 
 -- a flag byte, a u32, and a second u32 if bit 0 of the flag is set
 unfoldable pub limits_at : List ℕ → ℕ → Said (Got Limits)
@@ -25,8 +18,8 @@ limits_at s at =
     onward (byte_at s at) (λ flag a.
     onward (u32_at s a) (λ least b.
     pick (eqb (flag % 2) 1)
-    (onward (u32_at s b) (λ most d. accepted (got (record { flag = flag; least = least; bounded = true; most = most }) d)))
-    (accepted (got (record { flag = flag; least = least; bounded = false; most = 0 }) b))))
+    (onward (u32_at s b) (λ most d. accepted (got (record { flag = flag; least = least; most = Some most }) d)))
+    (accepted (got (record { flag = flag; least = least; most = None }) b))))
 
 unfoldable pub func_at : List ℕ → ℕ → Said (Got Desc)
 func_at s at = onward (u32_at s at) (λ index a. accepted (got (Desc.Func index) a))
@@ -76,32 +69,3 @@ symbol_at s base at =
     onward (u32_at s at) (λ index a.
     onward (name_at s a) (λ p b.
     accepted (got (record { index = index; name = moved base p }) b)))
-
--- ---- for the code: its answers in the rules' words
-abbrev pub said_limits : LimitsRead → Said (Got Limits)
-said_limits (LimitsRead.Read v next) = accepted (got v next.at)
-said_limits (LimitsRead.Refused why) = refused_by why
-
-abbrev pub said_desc : DescRead → Said (Got Desc)
-said_desc (DescRead.Read v next) = accepted (got v next.at)
-said_desc (DescRead.Refused why) = refused_by why
-
-abbrev pub said_import : ImportRead → Said (Got Import)
-said_import (ImportRead.Read v next) = accepted (got v next.at)
-said_import (ImportRead.Refused why) = refused_by why
-
-abbrev pub said_export : ExportRead → Said (Got Export)
-said_export (ExportRead.Read v next) = accepted (got v next.at)
-said_export (ExportRead.Refused why) = refused_by why
-
-abbrev pub said_symbol : SymbolRead → Said (Got Symbol)
-said_symbol (SymbolRead.Read v next) = accepted (got v next.at)
-said_symbol (SymbolRead.Refused why) = refused_by why
-
-abbrev pub why_limits : LimitsRead → Refusal
-why_limits (LimitsRead.Read v next) = UnexpectedEof 0
-why_limits (LimitsRead.Refused why) = why
-
-abbrev pub why_desc : DescRead → Refusal
-why_desc (DescRead.Read v next) = UnexpectedEof 0
-why_desc (DescRead.Refused why) = why

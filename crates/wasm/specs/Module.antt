@@ -1,11 +1,10 @@
 -- docs/RULES.md, "The module" (Core Specification 2.0, 5.5.2, 5.5.16): header, sections, and what the four tables hold. Assumes nothing.
-use Rattle.std.specs.Prelude.{ℕ, ◌≡◌, false, List, [], ◌∷◌, ◌++◌, length, ltb, eqb}
+use Rattle.std.specs.Prelude.{ℕ, ◌≡◌, List, [], ◌∷◌, ◌++◌, length, ltb, eqb, None, Result}
 use Rattle.refusal.specs.Pick.{pick}
 use Rattle.refusal.specs.Sizes.{file_limit}
-use Rattle.refusal.specs.Said.{Said, accepted, refused, refused_by, relocated, follow, Got, got, onward, offset, spot}
+use Rattle.refusal.specs.Said.{Said, accepted, refused, said_by, relocated, follow, Got, got, onward, offset, spot}
 use Rattle.refusal.specs.declared.Part.{Part}
 use Rattle.refusal.specs.declared.Refusal.{Refusal}
-use Rattle.refusal.specs.declared.Refusal.TheVariants.{UnexpectedEof}
 use Rattle.text.specs.Find.{same}
 use Rattle.table.specs.Table.{laid, cells}
 use Rattle.table.specs.Shape.{capacity_in}
@@ -13,15 +12,10 @@ use Rattle.table.specs.Walking.{walk_from}
 use Rattle.leb.specs.Reads.{part, part_bytes, byte_at, fixed_at, taken_at, counted_at}
 use Rattle.wasm.specs.declared.entry.Import.{Import}
 use Rattle.wasm.specs.declared.entry.Export.{Export}
-use Rattle.wasm.specs.declared.custom.Named.{Named}
 use Rattle.wasm.specs.declared.section.Section.{Section}
 use Rattle.wasm.specs.declared.section.Counts.{Counts}
-use Rattle.wasm.specs.declared.section.CountsRead.{CountsRead}
 use Rattle.wasm.specs.declared.section.Contents.{Contents}
-use Rattle.wasm.specs.declared.section.ContentsRead.{ContentsRead}
-use Rattle.wasm.specs.declared.Header.{Header}
 use Rattle.wasm.specs.declared.Module.{Module}
-use Rattle.wasm.specs.declared.ModuleRead.{ModuleRead}
 use Rattle.wasm.specs.Rows.{import_cells, export_cells, symbol_cells, imports_of, exports_of}
 use Rattle.wasm.specs.Custom.{Names, named_of, custom_at}
 
@@ -39,7 +33,7 @@ no_tables =
       sections = [];
       imports = [];
       exports = [];
-      names = record { label = record { named = false; start = 0; size = 0 }; symbols = [] };
+      names = record { label = None; symbols = [] };
     }
 
 abbrev pub with_section : Tables → Section → Tables
@@ -133,9 +127,7 @@ module_counted v n c =
     record {
       version = v;
       length = n;
-      named = c.named.label.named;
-      start = c.named.label.start;
-      size = c.named.label.size;
+      name = c.named.label;
       sections = c.sections;
       imports = c.imports;
       exports = c.exports;
@@ -146,9 +138,8 @@ module_counted v n c =
 unfoldable pub module_of : ℕ → Parsed → Module
 module_of n m = module_counted m.version n (counts_of m.tables)
 
-abbrev pub said_module : ModuleRead → Said Module
-said_module (ModuleRead.Module v) = accepted v
-said_module (ModuleRead.Refused why) = refused_by why
+abbrev pub said_module : Result Module Refusal → Said Module
+said_module = said_by
 
 -- table 1: id, where the payload starts, its size, where a custom section's name is
 unfoldable pub section_cells : Section → List ℕ
@@ -185,15 +176,6 @@ pub record ModuleIs (n : ℕ) (z : Sizes) (x : Said Parsed) (l : Lent) (a : Said
   pub tables-are : Holds l z (tables_of x)
 
 -- ---- for the code
-abbrev pub import_count : Counts → ℕ → Counts
-import_count n k = record { sections = n.sections; imports = k; exports = n.exports; named = n.named }
-
-abbrev pub export_count : Counts → ℕ → Counts
-export_count n k = record { sections = n.sections; imports = n.imports; exports = k; named = n.named }
-
-abbrev pub name_count : Counts → Named → Counts
-name_count n u = record { sections = n.sections; imports = n.imports; exports = n.exports; named = u }
-
 unfoldable pub contents_of : Inner → Contents
 contents_of u = record { name = u.name; counts = counts_of u.tables }
 
@@ -209,19 +191,3 @@ pub record Inside (i e f : List ℕ) (z : Sizes) (t : Tables) : Type 0 where
 
 unfoldable pub InsideOf : List ℕ → List ℕ → List ℕ → Sizes → Inner → Type 0
 InsideOf i e f z u = Inside i e f z u.tables
-
-abbrev pub said_header : Header → Said (Got ℕ)
-said_header (Header.Read v next) = accepted (got v next.at)
-said_header (Header.Refused why) = refused_by why
-
-abbrev pub why_header : Header → Refusal
-why_header (Header.Read v next) = UnexpectedEof 0
-why_header (Header.Refused why) = why
-
-abbrev pub said_counts : CountsRead → Said (Got Counts)
-said_counts (CountsRead.Read v next) = accepted (got v next.at)
-said_counts (CountsRead.Refused why) = refused_by why
-
-abbrev pub said_contents : ContentsRead → Said (Got Contents)
-said_contents (ContentsRead.Read v next) = accepted (got v next.at)
-said_contents (ContentsRead.Refused why) = refused_by why

@@ -3,97 +3,73 @@ ghost use Rattle.std.specs.Prelude.{◌≡◌, ◌+◌, ◌≤◌, length};
 ghost use Rattle.refusal.specs.Sizes.{file_limit};
 ghost use Rattle.table.specs.Told.{ReaderTells, mapped, Passed};
 ghost use Rattle.table.specs.Walking.{walk_from};
-ghost use Rattle.wasm.specs.Custom.{Names, named_of, said_named, said_custom, NamesHeld, CustomHeld};
+ghost use Rattle.wasm.specs.Custom.{Names, named_of, NamesHeld, CustomHeld};
 ghost use Rattle.wasm.specs.Custom.{label_at, told_by, subsection_at, custom_of, custom_at};
+ghost use Rattle.wasm.specs.Answers.{said_got};
 
-use crate::entry::shift;
-use crate::rows::{Counted, read_symbols};
-use leb::{ByteRead, Cursor, PartRead};
-use refusal::{Part, Refusal};
+use crate::entry::{Got, shift};
+use crate::rows::read_symbols;
+use leb::Cursor;
+use refusal::Part;
 
-// A module's name, as a range of the file; zeros where `named` is false.
-#[derive(Clone, Copy)]
-pub(crate) struct Label {
-    pub named: bool,
-    pub start: usize,
-    pub size: usize,
-}
-
-// What name sections have told: the module's name, and how many function names.
+// What name sections have told: the module's name, as a range of the file, and how many function names.
 #[derive(Clone, Copy)]
 pub(crate) struct Named {
-    pub label: Label,
+    pub label: Option<Part>,
     pub count: usize,
 }
 
-#[derive(Clone, Copy)]
-pub(crate) enum NamedRead {
-    Read(Named, Cursor),
-    Refused(Refusal),
-}
-
 // Subsection 0.
-fn read_label(s: &[u8], base: usize, n: Named) -> NamedRead
+#[tactic(auto, using(crate::proofs::Reading::name_inside))]
+fn read_label(s: &[u8], base: usize, n: Named) -> Got<Named>
     requires { base + length s.now ≤ file_limit }
-    ensures { (t : Names) → n ≡ named_of t → said_named result ≡ mapped named_of (label_at s.now base t) }
+    ensures { (t : Names) → n ≡ named_of t → said_got result ≡ mapped named_of (label_at s.now base t) }
 {
     let start = Cursor { at: 0 };
-    let one = start.name(s);
-    let PartRead::Read(p, c) = one else {
-        return NamedRead::Refused(one.why());
-    };
-    NamedRead::Read(
+    let (name, next) = start.name(s)?;
+    Ok((
         Named {
-            label: Label {
-                named: true,
-                start: base + p.from,
-                size: p.len,
-            },
+            label: Some(shift(base, name)),
             count: n.count,
         },
-        c,
-    )
+        next,
+    ))
 }
 
 // What a subsection tells, by its id.
-fn read_told(id: u8, s: &[u8], base: usize, n: Named, names: &mut [usize]) -> NamedRead
+fn read_told(id: u8, s: &[u8], base: usize, n: Named, names: &mut [usize]) -> Got<Named>
     requires { base + length s.now ≤ file_limit }
     ensures { (t : Names) → n ≡ named_of t → NamesHeld names.old (length names.old) t
         → ReaderTells named_of (NamesHeld names.new (length names.old))
-        (told_by id s.now base (length names.old) t) (said_named result) }
+        (told_by id s.now base (length names.old) t) (said_got result) }
 {
     let label = n.label;
     match id {
         0 => read_label(s, base, n),
-        1 => match read_symbols(s, base, names, n.count) {
-            Counted::Refused(r) => NamedRead::Refused(r),
-            Counted::Rows(k, c) => NamedRead::Read(Named { label, count: k }, c),
-        },
-        _ => NamedRead::Read(n, Cursor { at: 0 }),
+        1 => {
+            let (count, next) = read_symbols(s, base, names, n.count)?;
+            Ok((Named { label, count }, next))
+        }
+        _ => Ok((n, Cursor { at: 0 })),
     }
 }
 
 // One subsection: an id, a size, its bytes.
-fn read_subsection(s: &[u8], base: usize, c: Cursor, n: Named, names: &mut [usize]) -> NamedRead
+#[tactic(auto, using(crate::proofs::Reading::counted_inside))]
+fn read_subsection(s: &[u8], base: usize, c: Cursor, n: Named, names: &mut [usize]) -> Got<Named>
     requires { base + length s.now ≤ file_limit }
-    ensures { Passed (length s.now) c.at (said_named result) ×
+    ensures { Passed (length s.now) c.at (said_got result) ×
         ((t : Names) → n ≡ named_of t → NamesHeld names.old (length names.old) t
         → ReaderTells named_of (NamesHeld names.new (length names.old))
-        (subsection_at s.now base (length names.old) c.at t) (said_named result)) }
+        (subsection_at s.now base (length names.old) c.at t) (said_got result)) }
 {
-    let one = c.u8(s);
-    let ByteRead::Read(id, after_id) = one else {
-        return NamedRead::Refused(one.why());
-    };
-    let two = after_id.counted(s);
-    let PartRead::Read(p, next) = two else {
-        return NamedRead::Refused(two.why());
-    };
+    let (id, after_id) = c.u8(s)?;
+    let (p, next) = after_id.counted(s)?;
     let from = p.from;
     let end = from + p.len;
     match read_told(id, &s[from..end], base + from, n, names) {
-        NamedRead::Refused(r) => NamedRead::Refused(refusal::moved(from, r)),
-        NamedRead::Read(m, _) => NamedRead::Read(m, next),
+        Ok((m, _)) => Ok((m, next)),
+        Err(why) => Err(refusal::moved(from, why)),
     }
 }
 
@@ -104,26 +80,20 @@ fn read_subsections(
     first: Cursor,
     have: Named,
     names: &mut [usize],
-) -> NamedRead
+) -> Got<Named>
     requires { base + length s.now ≤ file_limit }
     ensures { (t : Names) → have ≡ named_of t → NamesHeld names.old (length names.old) t
         → ReaderTells named_of (NamesHeld names.new (length names.old))
-        (walk_from (subsection_at s.now base (length names.old)) s.now first.at t) (said_named result) }
+        (walk_from (subsection_at s.now base (length names.old)) s.now first.at t) (said_got result) }
 {
     let mut c = first;
     let mut n = have;
     while c.at < s.len() {
-        match read_subsection(s, base, c, n, names) {
-            NamedRead::Refused(r) => {
-                return NamedRead::Refused(r);
-            }
-            NamedRead::Read(m, d) => {
-                n = m;
-                c = d;
-            }
-        }
+        let (told, next) = read_subsection(s, base, c, n, names)?;
+        n = told;
+        c = next;
     }
-    NamedRead::Read(n, c)
+    Ok((n, c))
 }
 
 // A custom section's own name, and what name sections have told after it.
@@ -133,31 +103,21 @@ pub(crate) struct Custom {
     pub inner: Named,
 }
 
-#[derive(Clone, Copy)]
-pub(crate) enum CustomRead {
-    Read(Custom, Cursor),
-    Refused(Refusal),
-}
-
-pub(crate) fn read_custom(s: &[u8], base: usize, n: Named, names: &mut [usize]) -> CustomRead
+#[tactic(auto, using(crate::proofs::Reading::name_inside))]
+pub(crate) fn read_custom(s: &[u8], base: usize, n: Named, names: &mut [usize]) -> Got<Custom>
     requires { base + length s.now ≤ file_limit }
     ensures { (t : Names) → n ≡ named_of t → NamesHeld names.old (length names.old) t
         → ReaderTells custom_of (CustomHeld names.new (length names.old))
-        (custom_at s.now base (length names.old) t) (said_custom result) }
+        (custom_at s.now base (length names.old) t) (said_got result) }
 {
     let start = Cursor { at: 0 };
-    let one = start.name(s);
-    let PartRead::Read(p, c) = one else {
-        return CustomRead::Refused(one.why());
-    };
+    let (p, after_name) = start.name(s)?;
     let name = shift(base, p);
     let from = p.from;
     let end = from + p.len;
     if !text::order::equal(&s[from..end], b"name") {
-        return CustomRead::Read(Custom { name, inner: n }, c);
+        return Ok((Custom { name, inner: n }, after_name));
     }
-    match read_subsections(s, base, c, n, names) {
-        NamedRead::Refused(r) => CustomRead::Refused(r),
-        NamedRead::Read(inner, d) => CustomRead::Read(Custom { name, inner }, d),
-    }
+    let (inner, next) = read_subsections(s, base, after_name, n, names)?;
+    Ok((Custom { name, inner }, next))
 }

@@ -3,24 +3,19 @@
 ghost use Rattle.std.specs.Prelude.{◌≡◌, ◌+◌, ◌≤◌, length};
 ghost use Rattle.refusal.specs.Sizes.{file_limit};
 ghost use Rattle.wasm.specs.Entry.{limits_at, func_at, table_at, memory_at, global_at, desc_at, moved, import_at, export_at, symbol_at};
-ghost use Rattle.wasm.specs.Entry.{said_limits, said_desc, said_import, said_export, said_symbol, why_limits, why_desc};
+ghost use Rattle.wasm.specs.Answers.{said_got};
 
-use leb::{ByteRead, Cursor, PartRead, U32Read};
+use leb::Cursor;
 use refusal::{Part, Refusal};
 
-// `most` is zero where `bounded` is false.
+// What a reader answers: what it read, and the cursor after it.
+pub(crate) type Got<T> = Result<(T, Cursor), Refusal>;
+
 #[derive(Clone, Copy)]
 pub(crate) struct Limits {
     pub flag: u8,
     pub least: u32,
-    pub bounded: bool,
-    pub most: u32,
-}
-
-#[derive(Clone, Copy)]
-pub(crate) enum LimitsRead {
-    Read(Limits, Cursor),
-    Refused(Refusal),
+    pub most: Option<u32>,
 }
 
 // What an import asks for: a type index; an element type and limits; limits; a value type and mutability.
@@ -33,23 +28,11 @@ pub(crate) enum Desc {
 }
 
 #[derive(Clone, Copy)]
-pub(crate) enum DescRead {
-    Read(Desc, Cursor),
-    Refused(Refusal),
-}
-
-#[derive(Clone, Copy)]
 pub(crate) struct Import {
     pub module: Part,
     pub field: Part,
     pub kind: u8,
     pub desc: Desc,
-}
-
-#[derive(Clone, Copy)]
-pub(crate) enum ImportRead {
-    Read(Import, Cursor),
-    Refused(Refusal),
 }
 
 #[derive(Clone, Copy)]
@@ -59,12 +42,6 @@ pub(crate) struct Export {
     pub index: u32,
 }
 
-#[derive(Clone, Copy)]
-pub(crate) enum ExportRead {
-    Read(Export, Cursor),
-    Refused(Refusal),
-}
-
 // A function's name.
 #[derive(Clone, Copy)]
 pub(crate) struct Symbol {
@@ -72,129 +49,78 @@ pub(crate) struct Symbol {
     pub name: Part,
 }
 
-#[derive(Clone, Copy)]
-pub(crate) enum SymbolRead {
-    Read(Symbol, Cursor),
-    Refused(Refusal),
-}
-
-impl LimitsRead {
-    fn why(self) -> Refusal
-        ensures { result ≡ why_limits self }
-    {
-        match self {
-            LimitsRead::Read(_, _) => Refusal::UnexpectedEof(0),
-            LimitsRead::Refused(why) => why,
-        }
-    }
-}
-
-impl DescRead {
-    fn why(self) -> Refusal
-        ensures { result ≡ why_desc self }
-    {
-        match self {
-            DescRead::Read(_, _) => Refusal::UnexpectedEof(0),
-            DescRead::Refused(why) => why,
-        }
-    }
-}
-
-fn read_limits(s: &[u8], c: Cursor) -> LimitsRead
-    ensures { said_limits result ≡ limits_at s.now c.at }
+#[tactic(auto, using(crate::proofs::Flag::flag_reads), unfolding(crate::specs::Entry::limits_at))]
+fn read_limits(s: &[u8], c: Cursor) -> Got<Limits>
+    ensures { said_got result ≡ limits_at s.now c.at }
 {
-    let one = c.u8(s);
-    let ByteRead::Read(flag, after_flag) = one else {
-        return LimitsRead::Refused(one.why());
-    };
-    let two = after_flag.uleb128_u32(s);
-    let U32Read::Read(least, after_least) = two else {
-        return LimitsRead::Refused(two.why());
-    };
+    let (flag, after_flag) = c.u8(s)?;
+    let (least, after_least) = after_flag.uleb128_u32(s)?;
     if flag & 1 == 0 {
-        return LimitsRead::Read(
+        return Ok((
             Limits {
                 flag,
                 least,
-                bounded: false,
-                most: 0,
+                most: None,
             },
             after_least,
-        );
+        ));
     }
-    let three = after_least.uleb128_u32(s);
-    let U32Read::Read(most, next) = three else {
-        return LimitsRead::Refused(three.why());
-    };
-    LimitsRead::Read(
+    let (most, next) = after_least.uleb128_u32(s)?;
+    Ok((
         Limits {
             flag,
             least,
-            bounded: true,
-            most,
+            most: Some(most),
         },
         next,
-    )
+    ))
 }
 
-fn read_func(s: &[u8], c: Cursor) -> DescRead
-    ensures { said_desc result ≡ func_at s.now c.at }
+#[tactic(auto, using(crate::proofs::Reading::reads), unfolding(crate::specs::Entry::func_at))]
+fn read_func(s: &[u8], c: Cursor) -> Got<Desc>
+    ensures { said_got result ≡ func_at s.now c.at }
 {
-    let one = c.uleb128_u32(s);
-    let U32Read::Read(index, next) = one else {
-        return DescRead::Refused(one.why());
-    };
-    DescRead::Read(Desc::Func(index), next)
+    let (index, next) = c.uleb128_u32(s)?;
+    Ok((Desc::Func(index), next))
 }
 
-fn read_table(s: &[u8], c: Cursor) -> DescRead
-    ensures { said_desc result ≡ table_at s.now c.at }
+#[tactic(auto, using(crate::proofs::Reading::reads), unfolding(crate::specs::Entry::table_at))]
+fn read_table(s: &[u8], c: Cursor) -> Got<Desc>
+    ensures { said_got result ≡ table_at s.now c.at }
 {
-    let one = c.u8(s);
-    let ByteRead::Read(element, after_element) = one else {
-        return DescRead::Refused(one.why());
-    };
-    let two = read_limits(s, after_element);
-    let LimitsRead::Read(limits, next) = two else {
-        return DescRead::Refused(two.why());
-    };
-    DescRead::Read(Desc::Table(element, limits), next)
+    let (element, after_element) = c.u8(s)?;
+    let (limits, next) = read_limits(s, after_element)?;
+    Ok((Desc::Table(element, limits), next))
 }
 
-fn read_memory(s: &[u8], c: Cursor) -> DescRead
-    ensures { said_desc result ≡ memory_at s.now c.at }
+#[tactic(auto, using(crate::proofs::Reading::reads), unfolding(crate::specs::Entry::memory_at))]
+fn read_memory(s: &[u8], c: Cursor) -> Got<Desc>
+    ensures { said_got result ≡ memory_at s.now c.at }
 {
-    let one = read_limits(s, c);
-    let LimitsRead::Read(limits, next) = one else {
-        return DescRead::Refused(one.why());
-    };
-    DescRead::Read(Desc::Memory(limits), next)
+    let (limits, next) = read_limits(s, c)?;
+    Ok((Desc::Memory(limits), next))
 }
 
-fn read_global(s: &[u8], c: Cursor) -> DescRead
-    ensures { said_desc result ≡ global_at s.now c.at }
+#[tactic(auto, using(crate::proofs::Reading::reads), unfolding(crate::specs::Entry::global_at))]
+fn read_global(s: &[u8], c: Cursor) -> Got<Desc>
+    ensures { said_got result ≡ global_at s.now c.at }
 {
-    let one = c.u8(s);
-    let ByteRead::Read(value, after_value) = one else {
-        return DescRead::Refused(one.why());
-    };
-    let two = after_value.u8(s);
-    let ByteRead::Read(mutable, next) = two else {
-        return DescRead::Refused(two.why());
-    };
-    DescRead::Read(Desc::Global(value, mutable), next)
+    let (value, after_value) = c.u8(s)?;
+    let (mutable, next) = after_value.u8(s)?;
+    Ok((Desc::Global(value, mutable), next))
 }
 
 // Any other kind is refused before anything after it is read; `at` is where the kind byte lies.
-fn read_desc(s: &[u8], kind: u8, at: usize, c: Cursor) -> DescRead
-    ensures { said_desc result ≡ desc_at s.now kind at c.at }
+#[tactic(auto, using(crate::proofs::Reading::reads), unfolding(crate::specs::Entry::desc_at))]
+fn read_desc(s: &[u8], kind: u8, at: usize, c: Cursor) -> Got<Desc>
+    ensures { said_got result ≡ desc_at s.now kind at c.at }
 {
     match kind {
         0 => read_func(s, c),
         1 => read_table(s, c),
         2 => read_memory(s, c),
         3 => read_global(s, c),
-        _ => DescRead::Refused(Refusal::MalformedSection(kind as usize, at)),
+        _ => Err(Refusal::MalformedSection(kind as usize, at)),
     }
 }
 
@@ -209,27 +135,16 @@ pub(crate) fn shift(base: usize, p: Part) -> Part
     }
 }
 
-pub(crate) fn read_import(s: &[u8], base: usize, c: Cursor) -> ImportRead
+#[tactic(auto, using(crate::proofs::Reading::reads, crate::proofs::Reading::name_inside), unfolding(crate::specs::Entry::import_at))]
+pub(crate) fn read_import(s: &[u8], base: usize, c: Cursor) -> Got<Import>
     requires { base + length s.now ≤ file_limit }
-    ensures { said_import result ≡ import_at s.now base c.at }
+    ensures { said_got result ≡ import_at s.now base c.at }
 {
-    let one = c.name(s);
-    let PartRead::Read(module, after_module) = one else {
-        return ImportRead::Refused(one.why());
-    };
-    let two = after_module.name(s);
-    let PartRead::Read(field, after_field) = two else {
-        return ImportRead::Refused(two.why());
-    };
-    let three = after_field.u8(s);
-    let ByteRead::Read(kind, after_kind) = three else {
-        return ImportRead::Refused(three.why());
-    };
-    let four = read_desc(s, kind, after_field.at, after_kind);
-    let DescRead::Read(desc, next) = four else {
-        return ImportRead::Refused(four.why());
-    };
-    ImportRead::Read(
+    let (module, after_module) = c.name(s)?;
+    let (field, after_field) = after_module.name(s)?;
+    let (kind, after_kind) = after_field.u8(s)?;
+    let (desc, next) = read_desc(s, kind, after_field.at, after_kind)?;
+    Ok((
         Import {
             module: shift(base, module),
             field: shift(base, field),
@@ -237,52 +152,39 @@ pub(crate) fn read_import(s: &[u8], base: usize, c: Cursor) -> ImportRead
             desc,
         },
         next,
-    )
+    ))
 }
 
-pub(crate) fn read_export(s: &[u8], base: usize, c: Cursor) -> ExportRead
+#[tactic(auto, using(crate::proofs::Reading::reads, crate::proofs::Reading::name_inside), unfolding(crate::specs::Entry::export_at))]
+pub(crate) fn read_export(s: &[u8], base: usize, c: Cursor) -> Got<Export>
     requires { base + length s.now ≤ file_limit }
-    ensures { said_export result ≡ export_at s.now base c.at }
+    ensures { said_got result ≡ export_at s.now base c.at }
 {
-    let one = c.name(s);
-    let PartRead::Read(name, after_name) = one else {
-        return ExportRead::Refused(one.why());
-    };
-    let two = after_name.u8(s);
-    let ByteRead::Read(kind, after_kind) = two else {
-        return ExportRead::Refused(two.why());
-    };
-    let three = after_kind.uleb128_u32(s);
-    let U32Read::Read(index, next) = three else {
-        return ExportRead::Refused(three.why());
-    };
-    ExportRead::Read(
+    let (name, after_name) = c.name(s)?;
+    let (kind, after_kind) = after_name.u8(s)?;
+    let (index, next) = after_kind.uleb128_u32(s)?;
+    Ok((
         Export {
             name: shift(base, name),
             kind,
             index,
         },
         next,
-    )
+    ))
 }
 
-pub(crate) fn read_symbol(s: &[u8], base: usize, c: Cursor) -> SymbolRead
+#[tactic(auto, using(crate::proofs::Reading::reads, crate::proofs::Reading::name_inside), unfolding(crate::specs::Entry::symbol_at))]
+pub(crate) fn read_symbol(s: &[u8], base: usize, c: Cursor) -> Got<Symbol>
     requires { base + length s.now ≤ file_limit }
-    ensures { said_symbol result ≡ symbol_at s.now base c.at }
+    ensures { said_got result ≡ symbol_at s.now base c.at }
 {
-    let one = c.uleb128_u32(s);
-    let U32Read::Read(index, after_index) = one else {
-        return SymbolRead::Refused(one.why());
-    };
-    let two = after_index.name(s);
-    let PartRead::Read(name, next) = two else {
-        return SymbolRead::Refused(two.why());
-    };
-    SymbolRead::Read(
+    let (index, after_index) = c.uleb128_u32(s)?;
+    let (name, next) = after_index.name(s)?;
+    Ok((
         Symbol {
             index,
             name: shift(base, name),
         },
         next,
-    )
+    ))
 }

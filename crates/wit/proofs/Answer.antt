@@ -1,10 +1,10 @@
 -- Laws of the reader: a line, the lines, the answer. Assumes nothing.
+use Rattle.std.specs.Prelude.{Result, Ok, Err}
 use Prim.Native.Nat.{ℕ, ◌+◌, ◌≤◌}
 use mathlib.Core.Path.{◌≡◌, refl, sym, ◌∙◌, ap, subst}
 use mathlib.Core.List.{List}
 use lib.ListN.{length, drop}
-use Rattle.refusal.specs.Said.{Said, accepted, refused, refused_by, follow, Got, got, onward, said_answer, Place}
-use Rattle.refusal.specs.declared.Answer.{Answer}
+use Rattle.refusal.specs.Said.{Said, accepted, refused, refused_by, follow, Got, got, onward, said_by, Place}
 use Rattle.refusal.specs.declared.Refusal.{Refusal}
 use Rattle.text.specs.Lines.{line_len, line_step}
 use Rattle.table.specs.Told.{ReaderTells}
@@ -62,19 +62,19 @@ module _ (s : List ℕ) (z : ManifestSizes) where
   unfolding manifest_held follow
   stopped l m p e h = rw e (record { answer-is = refl; tables-are = h })
 
-  module _ {b : Answer} (tested : said_answer b ≡ whole_text s) where
-    pub manifest-bad : (l : ManifestLent) {w : Refusal} → b ≡ Answer.Refused w → ManifestHolds l z start
+  module _ {b : Result (Unit {0}) Refusal} (tested : said_by b ≡ whole_text s) where
+    pub manifest-bad : (l : ManifestLent) {w : Refusal} → b ≡ Err w → ManifestHolds l z start
         → ManifestIs z (manifest_at s z) l (refused_by w)
     unfolding manifest_at follow
     manifest-bad l {w} e h =
-        let x : whole_text s ≡ refused_by w = sym tested ∙ ap said_answer e in
+        let x : whole_text s ≡ refused_by w = sym tested ∙ ap said_by e in
         let y : manifest_at s z ≡ refused_by w = rw x in
         stopped l _ _ y h
 
-    module _ (good : b ≡ Answer.Accepted) (z1 : ManifestSizes) (same : z1 ≡ z) (l : ManifestLent) {a : Said (Got Known)}
+    module _ (good : b ≡ (Ok tt)) (z1 : ManifestSizes) (same : z1 ≡ z) (l : ManifestLent) {a : Said (Got Known)}
         (told : ReaderTells known_of (ManifestHolds l z1) (lines_at s z1) a) where
       whole : whole_text s ≡ accepted tt
-      whole = sym tested ∙ ap said_answer good
+      whole = sym tested ∙ ap said_by good
 
       here : ReaderTells known_of (ManifestHolds l z) (lines_at s z) a
       here = subst (λ (y : ManifestSizes). ReaderTells known_of (ManifestHolds l y) (lines_at s y) a) same told

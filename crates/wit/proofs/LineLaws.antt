@@ -1,32 +1,40 @@
 -- What a line says, from what the code's calls found. Assumes nothing.
-use mathlib.Core.Path.{◌≡◌, sym, ap, ◌∙◌}
-use mathlib.Core.Bool.{Bool, true, false}
+use Rattle.std.specs.Prelude.{Some, None}
+use Rattle.std.specs.Char.{is_ascii_whitespace}
+use Rattle.std.specs.List.{starts_with}
+use Rattle.std.specs.Cmp.Lexicographic.{pointwise}
+use Rattle.std.proofs.lemmas.Bool.Decides.{nat_tests}
+use mathlib.Core.Path.{◌≡◌, refl, sym, ap, ◌∙◌}
+use mathlib.Core.Bool.{Bool, true, false, ◌&&◌}
 use mathlib.Core.List.{List, [], ◌∷◌}
 use Prim.Native.Nat.{ℕ, suc, ◌+◌, ◌-◌, ◌≤◌, ◌<◌}
 use native.Mathlib.Omega.{arith}
 use lib.Dec.{eqb, ltb}
 use lib.ListN.{length, get_or, drop}
 use borrow.Author.Tests.{eq-eqb, ne_eqb, lt-ltb, le-ltb}
-use Rattle.refusal.specs.Pick.{pick}
+use Rattle.refusal.specs.Pick.{pick, both}
 use Rattle.refusal.specs.declared.Part.{Part}
 use Rattle.text.specs.Find.{seek, begins, same, index_of2}
 use Rattle.text.proofs.Laws.{left-next, left-none}
 use Rattle.text.specs.Piece.{Piece, first, beyond, trim, shorn, bytes_between, piece, TrimTo}
 use Rattle.text.proofs.PieceLaws.{piece-long, first_piece, beyond-piece, shorn-le, begins-le}
-use Rattle.wit.specs.Line.{package_w, world_w, import_w, export_w, lone, part_of, mark_at, absent, unbraced, is_space, ends, splits}
+use Rattle.wit.specs.Line.{package_w, world_w, import_w, export_w, lone, part_of, unbraced, is_space, ends, splits}
 use Rattle.wit.specs.Line.{boundary, reference_of, manifest_worded, manifest_core, manifest_spoken, manifest_directive}
-use Rattle.wit.specs.declared.line.Mark.{Mark}
 use Rattle.wit.specs.declared.line.Directive.TheVariants.{Blank, Package, World, Close, Refer, Brace, Other}
 
 -- ---- where a signature is split off
+space-is : (b : ℕ) → is_ascii_whitespace b ≡ is_space b
+unfolding is_space
+space-is b = grind (arith, nat_tests)
+
 module _ (s : List ℕ) (i : ℕ) (h : i < length s) where
   pub splits-other : (get_or s i 0 ≡ 58 → ⊥) → false ≡ splits (drop i s)
   unfolding splits
   splits-other e = rw (left-next s i h, ne_eqb _ _ e)
 
-  pub splits-next : get_or s i 0 ≡ 58 → i + 1 < length s → splits (drop i s) ≡ is_space (get_or s (i + 1) 0)
+  pub splits-next : get_or s i 0 ≡ 58 → i + 1 < length s → is_ascii_whitespace (get_or s (i + 1) 0) ≡ splits (drop i s)
   unfolding splits ends
-  splits-next e k = rw (left-next s i h, eq-eqb _ _ e, left-next s (i + 1) k)
+  splits-next e k = space-is (get_or s (i + 1) 0) ∙ sym (rw (left-next s i h, eq-eqb _ _ e, left-next s (i + 1) k))
 
   pub splits_last : get_or s i 0 ≡ 58 → length s ≤ i + 1 → true ≡ splits (drop i s)
   unfolding splits ends
@@ -48,6 +56,33 @@ boundary-le s = seek-le splits s
 pub pair-le : (a b : ℕ) (s : List ℕ) → index_of2 a b s ≤ length s
 unfolding index_of2
 pair-le a b s = seek-le (begins (a ∷ b ∷ [])) s
+
+-- ---- the library's comparisons, by the words of the specs
+both-is : (a b : Bool) → (a && b) ≡ both a b
+both-is true b = refl
+both-is false b = refl
+
+turned : (x y : ℕ) → eqb x y ≡ eqb y x
+turned x y = grind (arith, nat_tests)
+
+starts-begins : (w s : List ℕ) → starts_with eqb s w ≡ begins w s
+unfolding begins
+starts-begins [] s = refl
+starts-begins (c ∷ w) [] = refl
+starts-begins (c ∷ w) (x ∷ s) = rw (turned c x, starts-begins w s) (both-is (eqb x c) (begins w s))
+
+equal-same : (w s : List ℕ) → pointwise eqb s w ≡ same w s
+unfolding same
+equal-same [] [] = refl
+equal-same [] (x ∷ s) = refl
+equal-same (c ∷ w) [] = refl
+equal-same (c ∷ w) (x ∷ s) = rw (equal-same w s) (both-is (eqb x c) (same w s))
+
+pub starts-as : (w s : List ℕ) {r t : Bool} → r ≡ starts_with eqb s w → r ≡ t → begins w s ≡ t
+starts-as w s e q = sym (starts-begins w s) ∙ sym e ∙ q
+
+pub equal-as : (w s : List ℕ) {v : List ℕ} {r t : Bool} → v ≡ w → r ≡ pointwise eqb s v → r ≡ t → same w s ≡ t
+equal-as w s i e q = sym (equal-same w s) ∙ ap (pointwise eqb s) (sym i) ∙ sym e ∙ q
 
 module _ (s : List ℕ) (a e : ℕ) where
   -- ---- ranges
@@ -75,10 +110,10 @@ module _ (s : List ℕ) (a e : ℕ) where
 
   -- ---- a reference
   module _ (i : ℕ) (l : e ≤ length s) (q : i ≡ boundary (bytes_between s a e)) (out : Bool) where
-    pub split-far : a + i < e → (p r : Part) (m : Mark) → p ≡ part_of (trim (piece s a (a + i))) → r ≡ part_of (trim (piece s (a + i + 1) e))
-        → m ≡ mark_at r → Refer out p m ≡ reference_of out (piece s a e)
+    pub split-far : a + i < e → (p r : Part) → p ≡ part_of (trim (piece s a (a + i))) → r ≡ part_of (trim (piece s (a + i + 1) e))
+        → Refer out p (Some r) ≡ reference_of out (piece s a e)
     unfolding reference_of
-    split-far h p r m u v o =
+    split-far h p r u v =
         let n = piece-long s a e l in
         let c : ltb (boundary (bytes_between s a e)) (length (bytes_between s a e)) ≡ true =
         lt-ltb (boundary (bytes_between s a e)) (length (bytes_between s a e)) (omega arith) in
@@ -90,15 +125,15 @@ module _ (s : List ℕ) (a e : ℕ) where
         v ∙ ap (λ (m : ℕ). part_of (trim (piece s m e))) (sym z)
         ∙ ap (λ (k : Piece). part_of (trim k)) (sym (beyond-piece s a e (i + 1)))
         ∙ ap (λ (m : ℕ). part_of (trim (beyond (m + 1) (piece s a e)))) q in
-        rw (c, x, o, y)
+        rw (c, x, y)
 
-    pub split-none : e ≤ a + i → (m : Mark) → m ≡ absent → Refer out (record { from = a; len = e - a }) m ≡ reference_of out (piece s a e)
+    pub split-none : e ≤ a + i → Refer out (record { from = a; len = e - a }) None ≡ reference_of out (piece s a e)
     unfolding reference_of
-    split-none h m o =
+    split-none h =
         let n = piece-long s a e l in
         let c : ltb (boundary (bytes_between s a e)) (length (bytes_between s a e)) ≡ false =
         le-ltb (boundary (bytes_between s a e)) (length (bytes_between s a e)) (omega arith) in
-        rw (c, n, o)
+        rw (c, n)
 
   -- ---- the words
   pub word_fits : (w : List ℕ) → e ≤ length s → begins w (bytes_between s a e) ≡ true → length w ≤ e - a

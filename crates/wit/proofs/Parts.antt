@@ -1,4 +1,6 @@
 -- The parts that a line gives: each is trimmed, within its line and outside its comment. Assumes nothing.
+use Rattle.std.specs.Prelude.{Some, None}
+use Rattle.std.proofs.lemmas.Option.{same_Some, none-some}
 use mathlib.Core.Path.{◌≡◌, refl, sym, ap, ◌∙◌, subst}
 use mathlib.Core.Bool.{Bool, true, false, false≢true}
 use mathlib.Core.List.{List, [], ◌∷◌}
@@ -19,7 +21,7 @@ use Rattle.text.proofs.LineLaws.{line-bounds}
 use Rattle.text.proofs.TrimLaws.{trim-twice}
 use Rattle.text.specs.Piece.{Piece, first, beyond, trim, shorn, bytes_between, piece}
 use Rattle.text.proofs.PieceLaws.{piece-long, first_piece, beyond-piece, trim-bytes, shorn-le, begins-le}
-use Rattle.wit.specs.Line.{package_w, world_w, import_w, export_w, lone, part_of, mark_at, absent, unbraced, boundary, reference_of}
+use Rattle.wit.specs.Line.{package_w, world_w, import_w, export_w, lone, part_of, unbraced, boundary, reference_of}
 use Rattle.wit.specs.Line.{manifest_worded, manifest_core, manifest_spoken, manifest_directive}
 use Rattle.wit.specs.Manifest.{line_piece}
 use Rattle.wit.specs.Sound.{bytes_in, Clean, MarkClean}
@@ -159,11 +161,11 @@ choose : (s : List ℕ) (t : Bool) (a b : Directive) → (t ≡ true → AllClea
 choose s true a b f g = f refl
 choose s false a b f g = g
 
-pub mark_set : {s : List ℕ} {p : Part} → Clean s p → MarkClean s (mark_at p)
-mark_set c = record { present = λ e. c; missing = λ e. absurd (false≢true (sym e)) }
+pub mark_set : {s : List ℕ} {p : Part} → Clean s p → MarkClean s (Some p)
+mark_set {s} {p} c = record { present = λ q e. subst (Clean s) (same_Some p q e) c }
 
-pub mark-none : {s : List ℕ} → MarkClean s absent
-mark-none = record { present = λ e. absurd (false≢true e); missing = λ e. refl }
+pub mark-none : {s : List ℕ} → MarkClean s None
+mark-none = record { present = λ p e. absurd (none-some p e) }
 
 module _ (s : List ℕ) (p : Piece) (h : Sub s p) where
   unbraced-sub : Sub s (unbraced p)

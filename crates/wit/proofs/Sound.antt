@@ -1,8 +1,10 @@
 -- What holds of all that the reader accepts: each line keeps it. Assumes nothing.
+use Rattle.std.specs.Prelude.{Option, Some, None, is_some}
+use Rattle.std.proofs.lemmas.Option.{same_Some, none-some}
 use Prim.Native.Nat.{ℕ, zero, suc, ◌+◌, ◌≤◌, ◌<◌}
 use native.Mathlib.Omega.{arith}
-use mathlib.Core.Path.{◌≡◌, refl, sym, ap}
-use mathlib.Core.Bool.{Bool, true, false, false≢true}
+use mathlib.Core.Path.{◌≡◌, refl, ap, subst}
+use mathlib.Core.Bool.{Bool, true, false}
 use mathlib.Core.List.{List, [], ◌∷◌, ◌++◌}
 use lib.Dec.{eqb, ltb}
 use lib.ListN.{length, drop, length-append}
@@ -15,12 +17,11 @@ use Rattle.table.specs.Shape.{capacity_in}
 use Rattle.refusal.specs.Each.{Each, each_nil, each-cons}
 use Rattle.table.proofs.Giving.{Gives, Of, gives-done, gives-stop, gives-follow, gives-onward, gives-from}
 use Rattle.text.specs.Whole.{whole_text}
-use Rattle.wit.specs.Line.{absent, manifest_directive}
+use Rattle.wit.specs.Line.{manifest_directive}
 use Rattle.refusal.specs.Pick.{one_if}
-use Rattle.wit.specs.Manifest.{State, ManifestSizes, start, on_next, with_package, with_world, world_row, world_closed, row_of, referred}
+use Rattle.wit.specs.Manifest.{State, ManifestSizes, start, on_next, with_package, with_world, world_closed, row_of, referred, shut_at}
 use Rattle.wit.specs.Manifest.{close_at, open_at, refer_at, obey_at, line_piece, line_at, lines_at, manifest_at}
 use Rattle.wit.specs.Sound.{Clean, MarkClean, WorldOk, ReferenceOk, Ascends, ManifestOk, ManifestRowsSound}
-use Rattle.wit.specs.declared.line.Mark.{Mark}
 use Rattle.wit.specs.declared.line.Directive.{Directive}
 use Rattle.wit.specs.declared.line.Directive.TheVariants.{Blank, Package, World, Close, Refer, Brace, Other}
 use Rattle.wit.specs.declared.rows.Reference.{Reference}
@@ -49,9 +50,8 @@ positive (suc n) f = omega arith
 
 -- ---- what holds after some lines
 -- an open world has a name
-pub record OpenOk (s : List ℕ) (m : Mark) : Type 0 where
-  pub present : m.given ≡ true → WorldOk s (world_row m)
-  pub missing : m.given ≡ false → m ≡ absent
+pub record OpenOk (s : List ℕ) (m : Option Part) : Type 0 where
+  pub present : (p : Part) → m ≡ Some p → WorldOk s p
 
 module _ (s : List ℕ) (z : ManifestSizes) where
   pub record Kept (t : State) : Type 0 where
@@ -59,17 +59,17 @@ module _ (s : List ℕ) (z : ManifestSizes) where
     pub open-ok : OpenOk s t.world
     pub worlds-ok : Each (WorldOk s) t.worlds
     pub worlds-few : length t.worlds ≤ capacity_in 5 z.worlds
-    pub references-ok : Each (ReferenceOk s (length t.worlds + one_if t.world.given)) t.references
+    pub references-ok : Each (ReferenceOk s (length t.worlds + one_if (is_some t.world))) t.references
     pub references-few : length t.references ≤ capacity_in 6 z.references
     pub worlds-ascend : Ascends t.references
 
   -- and no world is open
   pub record Shut (t : State) : Type 0 where
     pub kept : Kept t
-    pub none : t.world ≡ absent
+    pub none : t.world ≡ None
 
-  none_open : OpenOk s absent
-  none_open = record { present = λ e. absurd (false≢true e); missing = λ e. refl }
+  none_open : OpenOk s None
+  none_open = record { present = λ p e. absurd (none-some p e) }
 
   kept-start : Kept start
   unfolding start
@@ -102,15 +102,16 @@ module _ (s : List ℕ) (z : ManifestSizes) where
       record { world-in = omega (arith, o.world-in); path-clean = o.path-clean; signature-clean = o.signature-clean }
 
   -- ---- a world closes
-  kept-closed : (t : State) → Kept t → t.world.given ≡ true → length t.worlds < capacity_in 5 z.worlds → Shut (world_closed t)
-  kept-closed t h g f =
-      let n = length-append t.worlds (world_row t.world ∷ []) in
-      let o : one_if t.world.given ≡ 1 = ap one_if g in
+  kept-closed : (name : Part) (t : State) → Kept t → t.world ≡ Some name → length t.worlds < capacity_in 5 z.worlds
+      → Shut (world_closed name t)
+  kept-closed name t h g f =
+      let n = length-append t.worlds (name ∷ []) in
+      let o : one_if (is_some t.world) ≡ 1 = ap (λ (m : Option Part). one_if (is_some m)) g in
       record {
         kept = record {
           package-clean = h.package-clean;
           open-ok = none_open;
-          worlds-ok = each_more (WorldOk s) t.worlds (world_row t.world) h.worlds-ok (h.open-ok.present g);
+          worlds-ok = each_more (WorldOk s) t.worlds name h.worlds-ok (h.open-ok.present name g);
           worlds-few = omega (arith, n);
           references-ok = each-as (ok-more _ _ (omega (arith, n, o))) t.references h.references-ok;
           references-few = h.references-few;
@@ -121,29 +122,26 @@ module _ (s : List ℕ) (z : ManifestSizes) where
 
   close-keeps : (next : ℕ) (t : State) → Kept t → Gives (Of Shut) (close_at z next t)
   unfolding close_at Of
-  close-keeps next t h = by t.world.given refl where
-    put : (b : Bool) → ltb (length t.worlds) (capacity_in 5 z.worlds) ≡ b → t.world.given ≡ true
-        → Gives (Of Shut) (pick b (accepted (got (world_closed t) next)) (refused 13 (spot 5)))
-    put true e g = gives-done (Of Shut) (got (world_closed t) next) (kept-closed t h g (ltb-true _ _ e))
-    put false e g = gives-stop (Of Shut) 13 (spot 5)
+  close-keeps next t h = by t.world refl where
+    put : (name : Part) (b : Bool) → ltb (length t.worlds) (capacity_in 5 z.worlds) ≡ b → t.world ≡ Some name
+        → Gives (Of Shut) (pick b (accepted (got (world_closed name t) next)) (refused 13 (spot 5)))
+    put name true e g = gives-done (Of Shut) (got (world_closed name t) next) (kept-closed name t h g (ltb-true _ _ e))
+    put name false e g = gives-stop (Of Shut) 13 (spot 5)
 
-    by : (b : Bool) → t.world.given ≡ b
-        → Gives (Of Shut) (pick b
-        (pick (ltb (length t.worlds) (capacity_in 5 z.worlds)) (accepted (got (world_closed t) next)) (refused 13 (spot 5)))
-        (accepted (got t next)))
-    by true g = put (ltb (length t.worlds) (capacity_in 5 z.worlds)) refl g
-    by false g = gives-done (Of Shut) (got t next) (record { kept = h; none = h.open-ok.missing g })
+    by : (m : Option Part) → t.world ≡ m → Gives (Of Shut) (shut_at z next t m)
+    by (Some name) g = put name (ltb (length t.worlds) (capacity_in 5 z.worlds)) refl g
+    by None g = gives-done (Of Shut) (got t next) (record { kept = h; none = g })
 
   -- ---- a world opens
   kept-opened : (name : Part) (u : State) → Shut u → Clean s name → 0 < name.len → Kept (with_world name u)
   kept-opened name u h c n =
       record {
         package-clean = h.kept.package-clean;
-        open-ok = record { present = λ e. record { name-clean = c; named = n }; missing = λ e. absurd (false≢true (sym e)) };
+        open-ok = record { present = λ p e. subst (WorldOk s) (same_Some name p e) (record { name-clean = c; named = n }) };
         worlds-ok = h.kept.worlds-ok;
         worlds-few = h.kept.worlds-few;
         references-ok =
-            each-as (ok-more _ _ (omega (arith, ap (λ (m : Mark). one_if m.given) h.none))) u.references h.kept.references-ok;
+            each-as (ok-more _ _ (omega (arith, ap (λ (m : Option Part). one_if (is_some m)) h.none))) u.references h.kept.references-ok;
         references-few = h.kept.references-few;
         worlds-ascend = h.kept.worlds-ascend;
       }
@@ -163,19 +161,19 @@ module _ (s : List ℕ) (z : ManifestSizes) where
             gives-done (Of Kept) (got (with_world name u) at) (kept-opened name u o c (positive name.len (eqb-false name.len 0 e)))
 
   -- ---- a reference
-  kept-referred : (t : State) (export : Bool) (path : Part) (signature : Mark) → Kept t → t.world.given ≡ true → Clean s path
+  kept-referred : (t : State) (export : Bool) (path : Part) (signature : Option Part) → Kept t → is_some t.world ≡ true → Clean s path
       → MarkClean s signature → length t.references < capacity_in 6 z.references
       → Kept (referred t (row_of t export path signature))
   kept-referred t export path signature h g c m f =
       let r = row_of t export path signature in
-      let o : one_if t.world.given ≡ 1 = ap one_if g in
+      let o : one_if (is_some t.world) ≡ 1 = ap one_if g in
       record {
         package-clean = h.package-clean;
         open-ok = h.open-ok;
         worlds-ok = h.worlds-ok;
         worlds-few = h.worlds-few;
         references-ok =
-            each_more (ReferenceOk s (length t.worlds + one_if t.world.given)) t.references r h.references-ok
+            each_more (ReferenceOk s (length t.worlds + one_if (is_some t.world))) t.references r h.references-ok
             (record { world-in = omega (arith, o); path-clean = c; signature-clean = m });
         references-few = omega (arith, length-append t.references (r ∷ []));
         worlds-ascend =
@@ -197,7 +195,7 @@ module _ (s : List ℕ) (z : ManifestSizes) where
   unfolding obey_at Of refer_at
   obey-keeps Blank next t c h = gives-done (Of Kept) (got t next) h
   obey-keeps (Package p) next t c h =
-      inside-keeps t.world.given _ _ (λ g. gives-stop (Of Kept) 9 (spot t.line))
+      inside-keeps (is_some t.world) _ _ (λ g. gives-stop (Of Kept) 9 (spot t.line))
       (λ g. gives-done (Of Kept) (got (with_package p t) next) (record {
         package-clean = mark_set c;
         open-ok = h.open-ok;
@@ -209,16 +207,16 @@ module _ (s : List ℕ) (z : ManifestSizes) where
       }))
   obey-keeps (World p) next t c h = open-keeps p next t h c
   obey-keeps Close next t c h =
-      inside-keeps t.world.given _ _ (λ g. shut-kept _ (close-keeps next t h)) (λ g. gives-stop (Of Kept) 11 (spot t.line))
+      inside-keeps (is_some t.world) _ _ (λ g. shut-kept _ (close-keeps next t h)) (λ g. gives-stop (Of Kept) 11 (spot t.line))
   obey-keeps (Refer export path signature) next t c h =
-      inside-keeps t.world.given _ _
+      inside-keeps (is_some t.world) _ _
       (λ g. inside-keeps (ltb (length t.references) (capacity_in 6 z.references)) _ _
       (λ f. gives-done (Of Kept) (got (referred t (row_of t export path signature)) next)
       (kept-referred t export path signature h g c.0 c.1 (ltb-true _ _ f)))
       (λ f. gives-stop (Of Kept) 13 (spot 6)))
       (λ g. gives-stop (Of Kept) 12 (spot t.line))
   obey-keeps Brace next t c h =
-      inside-keeps t.world.given _ _ (λ g. gives-done (Of Kept) (got t next) h) (λ g. gives-stop (Of Kept) 6 (spot t.line))
+      inside-keeps (is_some t.world) _ _ (λ g. gives-done (Of Kept) (got t next) h) (λ g. gives-stop (Of Kept) 6 (spot t.line))
   obey-keeps Other next t c h = gives-stop (Of Kept) 6 (spot t.line)
 
   line-keeps : (at : ℕ) (t : State) → Kept t → Gives (Of Kept) (line_at s z at t)
@@ -234,7 +232,7 @@ module _ (s : List ℕ) (z : ManifestSizes) where
 
   in-the-end : (t : State) → Shut t → ManifestOk s z t
   in-the-end t h =
-      let o : one_if t.world.given ≡ 0 = ap (λ (m : Mark). one_if m.given) h.none in
+      let o : one_if (is_some t.world) ≡ 0 = ap (λ (m : Option Part). one_if (is_some m)) h.none in
       record {
         package-clean = h.kept.package-clean;
         worlds-ok = h.kept.worlds-ok;

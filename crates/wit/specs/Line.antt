@@ -1,10 +1,10 @@
 -- docs/RULES.md, "Texts", the manifest: what a line says. Assumes nothing.
-use Rattle.std.specs.Prelude.{Bool, true, false, List, [], ◌∷◌, ℕ, ◌+◌, eqb, ltb, length}
+use Rattle.std.specs.Prelude.{Bool, true, false, List, [], ◌∷◌, ℕ, ◌+◌, eqb, ltb, length, Option, Some, None}
+use Rattle.std.specs.Option.{unwrap_or}
 use Rattle.refusal.specs.Pick.{pick, both}
 use Rattle.refusal.specs.declared.Part.{Part}
 use Rattle.text.specs.Find.{seek, begins, same, index_of2}
 use Rattle.text.specs.Piece.{Piece, first, beyond, trim, shorn}
-use Rattle.wit.specs.declared.line.Mark.{Mark}
 use Rattle.wit.specs.declared.line.Directive.{Directive}
 use Rattle.wit.specs.declared.line.Directive.TheVariants.{Blank, Package, World, Close, Refer, Brace, Other}
 
@@ -28,11 +28,12 @@ lone b = b ∷ []
 abbrev pub part_of : Piece → Part
 part_of p = record { from = p.at; len = length p.bytes }
 
-abbrev pub mark_at : Part → Mark
-mark_at p = record { given = true; from = p.from; len = p.len }
+-- a range that may be absent, as cells have it: zeros where it is
+abbrev pub no_range : Part
+no_range = record { from = 0; len = 0 }
 
-abbrev pub absent : Mark
-absent = record { given = false; from = 0; len = 0 }
+abbrev pub range_in : Option Part → Part
+range_in m = unwrap_or m no_range
 
 -- ---- names and references lose trailing `{`, then blanks
 unfoldable pub unbraced : Piece → Piece
@@ -60,8 +61,8 @@ boundary s = seek splits s
 unfoldable pub reference_of : Bool → Piece → Directive
 reference_of export r =
     pick (ltb (boundary r.bytes) (length r.bytes))
-    (Refer export (part_of (trim (first (boundary r.bytes) r))) (mark_at (part_of (trim (beyond (boundary r.bytes + 1) r)))))
-    (Refer export (part_of r) absent)
+    (Refer export (part_of (trim (first (boundary r.bytes) r))) (Some (part_of (trim (beyond (boundary r.bytes + 1) r)))))
+    (Refer export (part_of r) None)
 
 -- the first test that holds decides
 unfoldable pub manifest_worded : Piece → Directive

@@ -1,8 +1,10 @@
 -- docs/RULES.md, "Texts", the manifest: lines to directives to worlds, and what tables 5 and 6 hold. Assumes nothing.
 use Rattle.std.specs.Prelude.{ℕ, ◌+◌, ◌≡◌, Bool, List, [], ◌∷◌, ◌++◌, length, drop, ltb, eqb}
+use Rattle.std.specs.Prelude.{Option, Some, None, is_some, Result, Ok, Err}
 use Rattle.refusal.specs.Pick.{pick, one_if}
-use Rattle.refusal.specs.Said.{Said, accepted, refused, refused_by, follow, Got, got, onward, spot}
+use Rattle.refusal.specs.Said.{Said, accepted, refused, refused_by, said_by, follow, Got, got, onward, spot}
 use Rattle.refusal.specs.declared.Part.{Part}
+use Rattle.refusal.specs.declared.Refusal.{Refusal}
 use Rattle.text.specs.Lines.{line_len, line_step}
 use Rattle.table.specs.Table.{laid, cells}
 use Rattle.table.specs.Shape.{capacity_in}
@@ -10,53 +12,47 @@ use Rattle.table.specs.Told.{ReaderTells}
 use Rattle.table.specs.Walking.{walk_from}
 use Rattle.text.specs.Whole.{whole_text}
 use Rattle.text.specs.Piece.{Piece, piece}
-use Rattle.wit.specs.Line.{absent, mark_at, manifest_directive}
-use Rattle.wit.specs.declared.line.Mark.{Mark}
+use Rattle.wit.specs.Line.{range_in, manifest_directive}
 use Rattle.wit.specs.declared.line.Directive.{Directive}
 use Rattle.wit.specs.declared.line.Directive.TheVariants.{Blank, Package, World, Close, Refer, Brace, Other}
 use Rattle.wit.specs.declared.rows.Reference.{Reference}
 use Rattle.wit.specs.declared.rows.Known.{Known}
-use Rattle.wit.specs.declared.rows.KnownRead.{KnownRead}
 use Rattle.wit.specs.declared.Manifest.{Manifest}
-use Rattle.wit.specs.declared.ManifestRead.{ManifestRead}
 
 -- ---- what is read
 -- the number of the last line, the package, the open world's name, the worlds that are closed, the references of all
 pub record State : Type 0 where
   pub line : ℕ
-  pub pack : Mark
-  pub world : Mark
+  pub pack : Option Part
+  pub world : Option Part
   pub worlds : List Part
   pub references : List Reference
 
 unfoldable pub start : State
-start = record { line = 0; pack = absent; world = absent; worlds = []; references = [] }
+start = record { line = 0; pack = None; world = None; worlds = []; references = [] }
 
 abbrev pub on_next : State → State
 on_next t = record { line = t.line + 1; pack = t.pack; world = t.world; worlds = t.worlds; references = t.references }
 
 abbrev pub with_package : Part → State → State
-with_package p t = record { line = t.line; pack = mark_at p; world = t.world; worlds = t.worlds; references = t.references }
+with_package p t = record { line = t.line; pack = Some p; world = t.world; worlds = t.worlds; references = t.references }
 
 abbrev pub with_world : Part → State → State
-with_world p t = record { line = t.line; pack = t.pack; world = mark_at p; worlds = t.worlds; references = t.references }
+with_world p t = record { line = t.line; pack = t.pack; world = Some p; worlds = t.worlds; references = t.references }
 
 -- the open world is the next row
-abbrev pub world_row : Mark → Part
-world_row m = record { from = m.from; len = m.len }
-
-abbrev pub world_closed : State → State
-world_closed t =
+abbrev pub world_closed : Part → State → State
+world_closed name t =
     record {
       line = t.line;
       pack = t.pack;
-      world = absent;
-      worlds = t.worlds ++ (world_row t.world ∷ []);
+      world = None;
+      worlds = t.worlds ++ (name ∷ []);
       references = t.references;
     }
 
 -- a reference of the open world, whose row is the next
-abbrev pub row_of : State → Bool → Part → Mark → Reference
+abbrev pub row_of : State → Bool → Part → Option Part → Reference
 row_of t export path signature = record { world = length t.worlds; export = export; path = path; signature = signature }
 
 abbrev pub referred : State → Reference → State
@@ -76,11 +72,13 @@ pub record ManifestSizes : Type 0 where
 
 -- ---- reading: each step says where the next line begins
 -- an open world takes its row: 13 where table 5 is full
+abbrev pub shut_at : ManifestSizes → ℕ → State → Option Part → Said (Got State)
+shut_at z next t None = accepted (got t next)
+shut_at z next t (Some name) =
+    pick (ltb (length t.worlds) (capacity_in 5 z.worlds)) (accepted (got (world_closed name t) next)) (refused 13 (spot 5))
+
 unfoldable pub close_at : ManifestSizes → ℕ → State → Said (Got State)
-close_at z next t =
-    pick t.world.given
-    (pick (ltb (length t.worlds) (capacity_in 5 z.worlds)) (accepted (got (world_closed t) next)) (refused 13 (spot 5)))
-    (accepted (got t next))
+close_at z next t = shut_at z next t t.world
 
 -- the world before it closes first; then a name that is empty is 10
 unfoldable pub open_at : ManifestSizes → Part → ℕ → State → Said (Got State)
@@ -89,14 +87,14 @@ open_at z name next t =
     pick (eqb name.len 0) (refused 10 (spot u.line)) (accepted (got (with_world name u) at)))
 
 -- 13 where table 6 is full
-unfoldable pub refer_at : ManifestSizes → Bool → Part → Mark → ℕ → State → Said (Got State)
+unfoldable pub refer_at : ManifestSizes → Bool → Part → Option Part → ℕ → State → Said (Got State)
 refer_at z export path signature next t =
     pick (ltb (length t.references) (capacity_in 6 z.references))
     (accepted (got (referred t (row_of t export path signature)) next)) (refused 13 (spot 6))
 
 -- one thing in a world, another outside
 abbrev pub in_world : State → Said (Got State) → Said (Got State) → Said (Got State)
-in_world t a b = pick t.world.given a b
+in_world t a b = pick (is_some t.world) a b
 
 unfoldable pub obey_at : ManifestSizes → Directive → ℕ → State → Said (Got State)
 obey_at z Blank next t = accepted (got t next)
@@ -136,9 +134,7 @@ known_of t =
 abbrev pub manifest_known : Known → Manifest
 manifest_known k =
     record {
-      packaged = k.pack.given;
-      start = k.pack.from;
-      size = k.pack.len;
+      «package» = k.pack;
       worlds = k.worlds;
       references = k.references;
     }
@@ -147,9 +143,8 @@ manifest_known k =
 unfoldable pub manifest_of : State → Manifest
 manifest_of t = manifest_known (known_of t)
 
-abbrev pub said_manifest : ManifestRead → Said Manifest
-said_manifest (ManifestRead.Manifest v) = accepted v
-said_manifest (ManifestRead.Refused why) = refused_by why
+abbrev pub said_manifest : Result Manifest Refusal → Said Manifest
+said_manifest r = said_by r
 
 -- table 5: where the name is
 unfoldable pub world_cells : Part → List ℕ
@@ -162,9 +157,9 @@ reference_cells r =
     ∷ one_if r.export
     ∷ r.path.from
     ∷ r.path.len
-    ∷ one_if r.signature.given
-    ∷ r.signature.from
-    ∷ r.signature.len
+    ∷ one_if (is_some r.signature)
+    ∷ (range_in r.signature).from
+    ∷ (range_in r.signature).len
     ∷ []
 
 -- the two tables as they are lent
@@ -201,14 +196,14 @@ abbrev pub next_line : Known → Known
 next_line k = record { line = k.line + 1; pack = k.pack; world = k.world; worlds = k.worlds; references = k.references }
 
 abbrev pub packaged : Part → Known → Known
-packaged p k = record { line = k.line; pack = mark_at p; world = k.world; worlds = k.worlds; references = k.references }
+packaged p k = record { line = k.line; pack = Some p; world = k.world; worlds = k.worlds; references = k.references }
 
 abbrev pub opened : Part → Known → Known
-opened p k = record { line = k.line; pack = k.pack; world = mark_at p; worlds = k.worlds; references = k.references }
+opened p k = record { line = k.line; pack = k.pack; world = Some p; worlds = k.worlds; references = k.references }
 
-abbrev pub said_known : KnownRead → Said (Got Known)
-said_known (KnownRead.Read v next) = accepted (got v next)
-said_known (KnownRead.Refused why) = refused_by why
+abbrev pub said_known : Result (Known × ℕ) Refusal → Said (Got Known)
+said_known (Ok (v, next)) = accepted (got v next)
+said_known (Err why) = refused_by why
 
 -- where the answer is an acceptance, it is of line n
 unfoldable pub Numbered : ℕ → Said (Got Known) → Type 0

@@ -1,15 +1,13 @@
 -- docs/PROMISES.md, "wit, references": what holds of all that the reader accepts, whatever the text; and of the room that it is lent.
 -- Assumes nothing.
-use Rattle.std.specs.Prelude.{ℕ, ◌+◌, ◌≤◌, ◌<◌, ◌≡◌, true, false, List, [], ◌∷◌, length, take, drop}
+use Rattle.std.specs.Prelude.{ℕ, ◌+◌, ◌≤◌, ◌<◌, ◌≡◌, List, [], ◌∷◌, length, take, drop, Option, Some}
 use Rattle.refusal.specs.Said.{accepted}
 use Rattle.refusal.specs.declared.Part.{Part}
 use Rattle.text.specs.Find.{index_of, index_of2}
 use Rattle.text.specs.Trim.{trim_of}
 use Rattle.table.specs.Shape.{capacity_in}
 use Rattle.refusal.specs.Each.{Each}
-use Rattle.wit.specs.Line.{absent}
-use Rattle.wit.specs.Manifest.{State, ManifestSizes, world_row, manifest_at}
-use Rattle.wit.specs.declared.line.Mark.{Mark}
+use Rattle.wit.specs.Manifest.{State, ManifestSizes, manifest_at}
 use Rattle.wit.specs.declared.rows.Reference.{Reference}
 
 -- ---- the parts of a text
@@ -23,10 +21,9 @@ pub record Clean (s : List ℕ) (p : Part) : Type 0 where
   pub no_line : index_of 10 (bytes_in s p) ≡ length (bytes_in s p)
   pub no-comment : index_of2 47 47 (bytes_in s p) ≡ length (bytes_in s p)
 
--- what is marked as present is such a range; what is absent is zero
-pub record MarkClean (s : List ℕ) (m : Mark) : Type 0 where
-  pub present : m.given ≡ true → Clean s (world_row m)
-  pub missing : m.given ≡ false → m ≡ absent
+-- what is there is such a range
+pub record MarkClean (s : List ℕ) (m : Option Part) : Type 0 where
+  pub present : (p : Part) → m ≡ Some p → Clean s p
 
 -- a world has a name
 pub record WorldOk (s : List ℕ) (p : Part) : Type 0 where

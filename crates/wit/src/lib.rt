@@ -11,22 +11,14 @@ ghost use Rattle.wit.specs.Manifest.{manifest_known, said_manifest};
 ghost use Rattle.wit.specs.Manifest.{ManifestIs, said_known, Steps, Numbered};
 
 use crate::rows::{Known, KnownRead, close_world, first_known, obey};
-use refusal::{Answer, Refusal};
+use refusal::{Part, Refusal};
 
-// A manifest that was read: the package as a range of the text, and how many rows tables 5 and 6 have.
+// A manifest that was read: the package as a range of the text, where it has one, and how many rows tables 5 and 6 have.
 #[derive(Clone, Copy)]
 pub struct Manifest {
-    pub packaged: bool,
-    pub start: usize,
-    pub size: usize,
+    pub package: Option<Part>,
     pub worlds: usize,
     pub references: usize,
-}
-
-#[derive(Clone, Copy)]
-pub enum ManifestRead {
-    Manifest(Manifest),
-    Refused(Refusal),
 }
 
 fn clear_both(worlds: &mut [usize], references: &mut [usize])
@@ -69,15 +61,9 @@ fn read_lines(s: &[u8], worlds: &mut [usize], references: &mut [usize]) -> Known
     let mut at = 0;
     let mut k = first_known();
     while at < s.len() {
-        match read_line(s, at, k, worlds, references) {
-            KnownRead::Refused(r) => {
-                return KnownRead::Refused(r);
-            }
-            KnownRead::Read(n, next) => {
-                k = n;
-                at = next;
-            }
-        }
+        let (n, next) = read_line(s, at, k, worlds, references)?;
+        k = n;
+        at = next;
     }
     close_world(k, at, worlds)
 }
@@ -85,31 +71,30 @@ fn read_lines(s: &[u8], worlds: &mut [usize], references: &mut [usize]) -> Known
 fn manifest_of(k: Known) -> Manifest
     ensures { result ≡ manifest_known k }
 {
-    let pack = k.pack;
     Manifest {
-        packaged: pack.given,
-        start: pack.from,
-        size: pack.len,
+        package: k.pack,
         worlds: k.worlds,
         references: k.references,
     }
 }
 
 // Any text, any tables: the answer, and every cell of both tables.
-pub fn read_manifest(s: &[u8], worlds: &mut [usize], references: &mut [usize]) -> ManifestRead
+pub fn read_manifest(
+    s: &[u8],
+    worlds: &mut [usize],
+    references: &mut [usize],
+) -> Result<Manifest, Refusal>
     ensures { ManifestIs (manifest_sizes worlds.old references.old)
         (manifest_at s.now (manifest_sizes worlds.old references.old))
         (lend_manifest worlds.new references.new) (said_manifest result) }
 {
     clear_both(worlds, references);
-    match text::pieces::test_text(s) {
-        Answer::Refused(why) => ManifestRead::Refused(why),
-        Answer::Accepted => match read_lines(s, worlds, references) {
-            KnownRead::Read(k, _) => ManifestRead::Manifest(manifest_of(k)),
-            KnownRead::Refused(why) => {
-                clear_both(worlds, references);
-                ManifestRead::Refused(why)
-            }
-        },
+    text::pieces::test_text(s)?;
+    match read_lines(s, worlds, references) {
+        Ok((k, _)) => Ok(manifest_of(k)),
+        Err(why) => {
+            clear_both(worlds, references);
+            Err(why)
+        }
     }
 }

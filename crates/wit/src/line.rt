@@ -1,69 +1,23 @@
 // A line of a manifest: what it says, by ranges of the text.
 ghost use Rattle.std.specs.Prelude.{◌≡◌, ◌≤◌, ◌<◌, length, drop};
 ghost use Rattle.text.specs.Piece.{piece, trim};
-ghost use Rattle.wit.specs.Line.{is_space, splits, boundary, unbraced, part_of, mark_at, absent, reference_of, manifest_worded};
+ghost use Rattle.wit.specs.Line.{splits, boundary, unbraced, part_of, reference_of, manifest_worded};
 ghost use Rattle.wit.specs.Line.{manifest_directive};
 
 use refusal::Part;
 use text::pieces::trimmed_at;
 
-// A range of the text; zeros where `given` is false.
-#[derive(Clone, Copy)]
-pub(crate) struct Mark {
-    pub given: bool,
-    pub from: usize,
-    pub len: usize,
-}
-
-// Nothing; a package; a world and its name; the end of a world; a reference, whether it is an export, its path and its signature;
-// a lone `{`; anything else.
+// Nothing; a package; a world and its name; the end of a world; a reference, whether it is an export, its path and the signature that it
+// may have; a lone `{`; anything else.
 #[derive(Clone, Copy)]
 pub(crate) enum Directive {
     Blank,
     Package(Part),
     World(Part),
     Close,
-    Refer(bool, Part, Mark),
+    Refer(bool, Part, Option<Part>),
     Brace,
     Other,
-}
-
-pub(crate) fn mark_of(p: Part) -> Mark
-    ensures { result ≡ mark_at p }
-{
-    Mark {
-        given: true,
-        from: p.from,
-        len: p.len,
-    }
-}
-
-pub(crate) fn no_mark() -> Mark
-    ensures { result ≡ absent }
-{
-    Mark {
-        given: false,
-        from: 0,
-        len: 0,
-    }
-}
-
-fn is_space(b: u8) -> bool
-    ensures { result ≡ is_space b }
-{
-    if b == 0x09 {
-        return true;
-    }
-    if b == 0x0a {
-        return true;
-    }
-    if b == 0x0c {
-        return true;
-    }
-    if b == 0x0d {
-        return true;
-    }
-    b == 0x20
 }
 
 // At i stands a `:` with a space after it, or at the end.
@@ -76,7 +30,7 @@ fn splits_at(s: &[u8], i: usize) -> bool
     }
     let j = i + 1;
     if j < s.len() {
-        return is_space(s[j]);
+        return s[j].is_ascii_whitespace();
     }
     true
 }
@@ -85,14 +39,12 @@ fn splits_at(s: &[u8], i: usize) -> bool
 fn boundary_of(s: &[u8]) -> usize
     ensures { result ≡ boundary s.now }
 {
-    let mut i = 0;
-    while i < s.len() {
+    for i in 0..s.len() {
         if splits_at(s, i) {
             return i;
         }
-        i += 1;
     }
-    i
+    s.len()
 }
 
 // The part from a to e, trimmed, as a range.
@@ -129,13 +81,13 @@ fn reference_at(s: &[u8], a: usize, e: usize, export: bool) -> Directive
     if i < c {
         let path = part_at(s, b, i);
         let signature = part_at(s, i + 1, c);
-        return Directive::Refer(export, path, mark_of(signature));
+        return Directive::Refer(export, path, Some(signature));
     }
     let path = Part {
         from: b,
         len: c - b,
     };
-    Directive::Refer(export, path, no_mark())
+    Directive::Refer(export, path, None)
 }
 
 // A line that is not empty, trimmed.
@@ -143,23 +95,24 @@ fn worded_at(s: &[u8], a: usize, e: usize) -> Directive
     requires { (a ≤ e) × (e ≤ length s.now) }
     ensures { result ≡ manifest_worded (piece s.now a e) }
 {
-    if text::order::starts(&s[a..e], b"package ") {
+    let line = &s[a..e];
+    if line.starts_with(b"package ") {
         return Directive::Package(part_at(s, a + 8, e));
     }
-    if text::order::starts(&s[a..e], b"world ") {
+    if line.starts_with(b"world ") {
         let past = unbraced_at(s, a + 6, e);
         return Directive::World(part_at(s, a + 6, past));
     }
-    if text::order::equal(&s[a..e], b"}") {
+    if line == b"}".as_slice() {
         return Directive::Close;
     }
-    if text::order::starts(&s[a..e], b"import ") {
+    if line.starts_with(b"import ") {
         return reference_at(s, a + 7, e, false);
     }
-    if text::order::starts(&s[a..e], b"export ") {
+    if line.starts_with(b"export ") {
         return reference_at(s, a + 7, e, true);
     }
-    if text::order::equal(&s[a..e], b"{") {
+    if line == b"{".as_slice() {
         return Directive::Brace;
     }
     Directive::Other

@@ -2,49 +2,42 @@
 ghost use Rattle.std.specs.Prelude.{◌≡◌, List, ℕ, ◌+◌, ◌<◌, length};
 ghost use Rattle.table.specs.Table.{put_row};
 ghost use Rattle.table.specs.Told.{Ends};
-ghost use Rattle.refusal.specs.Pick.{one_if};
 ghost use Rattle.wit.specs.Manifest.{manifest_sizes, sized, lend_manifest, start, known_of, next_line, said_known, Steps, Numbered};
-ghost use Rattle.wit.specs.Manifest.{world_cells, world_row, reference_cells, close_at, open_at, refer_at, obey_at, packaged, opened};
+ghost use Rattle.wit.specs.Manifest.{world_cells, reference_cells, close_at, open_at, refer_at, obey_at, packaged, opened};
 
-use crate::line::{Directive, Mark, mark_of, no_mark};
+use crate::line::Directive;
 use refusal::{Part, Refusal};
 use table::shape::{MAX_REFERENCES, MAX_WORLDS, REFERENCE_WIDTH, WORLD_WIDTH};
 
-// A row of table 6: the world by its row of table 5, whether it is an export, its path and its signature.
+// A row of table 6: the world by its row of table 5, whether it is an export, its path and the signature that it may have.
 #[derive(Clone, Copy)]
 pub(crate) struct Reference {
     pub world: usize,
     pub export: bool,
     pub path: Part,
-    pub signature: Mark,
+    pub signature: Option<Part>,
 }
 
 // What is known after some lines: the number of the last, the package, the open world's name, how many rows tables 5 and 6 have.
 #[derive(Clone, Copy)]
 pub(crate) struct Known {
     pub line: usize,
-    pub pack: Mark,
-    pub world: Mark,
+    pub pack: Option<Part>,
+    pub world: Option<Part>,
     pub worlds: usize,
     pub references: usize,
 }
 
 // With the place where the next line begins.
-#[derive(Clone, Copy)]
-pub(crate) enum KnownRead {
-    Read(Known, usize),
-    Refused(Refusal),
-}
+pub(crate) type KnownRead = Result<(Known, usize), Refusal>;
 
 pub(crate) fn first_known() -> Known
     ensures { result ≡ known_of start }
 {
-    let pack = no_mark();
-    let world = no_mark();
     Known {
         line: 0,
-        pack,
-        world,
+        pack: None,
+        world: None,
         worlds: 0,
         references: 0,
     }
@@ -55,45 +48,32 @@ impl Known {
         requires { self.line < 18446744073709551615 }
         ensures { result ≡ next_line self }
     {
-        let pack = self.pack;
-        let world = self.world;
         Known {
             line: self.line + 1,
-            pack,
-            world,
-            worlds: self.worlds,
-            references: self.references,
+            ..self
         }
     }
 }
 
-fn put_world(table: &mut [usize], count: usize, name: Mark)
-    ensures { table.new ≡ put_row table.old count (world_cells (world_row name)) }
+fn put_world(table: &mut [usize], count: usize, name: Part)
+    ensures { table.new ≡ put_row table.old count (world_cells name) }
 {
-    let cells = [name.from, name.len];
-    table::put_row(table, count, &cells);
+    table::put_row(table, count, &[name.from, name.len]);
 }
 
-// 1 for a mark that is set.
-fn one_of(b: bool) -> usize
-    ensures { result ≡ one_if b }
-{
-    if b { 1 } else { 0 }
-}
-
+// Zeros for a signature that is absent.
 fn put_reference(table: &mut [usize], count: usize, row: Reference)
     ensures { table.new ≡ put_row table.old count (reference_cells row) }
 {
-    let export = one_of(row.export);
-    let given = one_of(row.signature.given);
+    let signature = row.signature.unwrap_or(Part { from: 0, len: 0 });
     let cells = [
         row.world,
-        export,
+        usize::from(row.export),
         row.path.from,
         row.path.len,
-        given,
-        row.signature.from,
-        row.signature.len,
+        usize::from(row.signature.is_some()),
+        signature.from,
+        signature.len,
     ];
     table::put_row(table, count, &cells);
 }
@@ -104,27 +84,21 @@ pub(crate) fn close_world(k: Known, next: usize, worlds: &mut [usize]) -> KnownR
         × ((l : List ℕ) (n : ℕ) → Steps (sized (length worlds.old) n) (lend_manifest worlds.old l)
         (lend_manifest worlds.new l) k (close_at (sized (length worlds.old) n) next) (said_known result)) }
 {
-    if !k.world.given {
-        return KnownRead::Read(k, next);
-    }
+    let Some(name) = k.world else {
+        return Ok((k, next));
+    };
     let room = table::capacity(worlds.len(), WORLD_WIDTH, MAX_WORLDS);
     let n = k.worlds;
     if n >= room {
-        return KnownRead::Refused(Refusal::Full(5));
+        return Err(Refusal::Full(5));
     }
-    put_world(worlds, n, k.world);
-    let pack = k.pack;
-    let world = no_mark();
-    KnownRead::Read(
-        Known {
-            line: k.line,
-            pack,
-            world,
-            worlds: n + 1,
-            references: k.references,
-        },
-        next,
-    )
+    put_world(worlds, n, name);
+    let closed = Known {
+        world: None,
+        worlds: n + 1,
+        ..k
+    };
+    Ok((closed, next))
 }
 
 // A reference's row points to the world that is open, which takes its own row later.
@@ -132,7 +106,7 @@ fn add_reference(
     k: Known,
     export: bool,
     path: Part,
-    signature: Mark,
+    signature: Option<Part>,
     next: usize,
     references: &mut [usize],
 ) -> KnownRead
@@ -144,57 +118,34 @@ fn add_reference(
     let room = table::capacity(references.len(), REFERENCE_WIDTH, MAX_REFERENCES);
     let n = k.references;
     if n >= room {
-        return KnownRead::Refused(Refusal::Full(6));
+        return Err(Refusal::Full(6));
     }
-    put_reference(
-        references,
-        n,
-        Reference {
-            world: k.worlds,
-            export,
-            path,
-            signature,
-        },
-    );
-    let pack = k.pack;
-    let world = k.world;
-    KnownRead::Read(
-        Known {
-            line: k.line,
-            pack,
-            world,
-            worlds: k.worlds,
-            references: n + 1,
-        },
-        next,
-    )
+    let row = Reference {
+        world: k.worlds,
+        export,
+        path,
+        signature,
+    };
+    put_reference(references, n, row);
+    let referred = Known {
+        references: n + 1,
+        ..k
+    };
+    Ok((referred, next))
 }
 
 fn with_package(k: Known, p: Part) -> Known
     ensures { result ≡ packaged p k }
 {
-    let pack = mark_of(p);
-    let world = k.world;
-    Known {
-        line: k.line,
-        pack,
-        world,
-        worlds: k.worlds,
-        references: k.references,
-    }
+    Known { pack: Some(p), ..k }
 }
 
 fn with_world(k: Known, p: Part) -> Known
     ensures { result ≡ opened p k }
 {
-    let world = mark_of(p);
-    let pack = k.pack;
     Known {
-        line: k.line,
-        pack,
-        world,
-        worlds: k.worlds,
-        references: k.references,
+        world: Some(p),
+        ..k
     }
 }
 
@@ -204,14 +155,11 @@ fn open_world(k: Known, name: Part, next: usize, worlds: &mut [usize]) -> KnownR
         × ((l : List ℕ) (n : ℕ) → Steps (sized (length worlds.old) n) (lend_manifest worlds.old l)
         (lend_manifest worlds.new l) k (open_at (sized (length worlds.old) n) name next) (said_known result)) }
 {
-    let one = close_world(k, next, worlds);
-    let KnownRead::Read(n, at) = one else {
-        return one;
-    };
+    let (n, at) = close_world(k, next, worlds)?;
     if name.len == 0 {
-        return KnownRead::Refused(Refusal::NoName(n.line));
+        return Err(Refusal::NoName(n.line));
     }
-    KnownRead::Read(with_world(n, name), at)
+    Ok((with_world(n, name), at))
 }
 
 // What a line does, in a world and outside.
@@ -227,35 +175,35 @@ pub(crate) fn obey(
         (lend_manifest worlds.old references.old) (lend_manifest worlds.new references.new)
         k (obey_at (manifest_sizes worlds.old references.old) d next) (said_known result) }
 {
-    let inside = k.world.given;
+    let inside = k.world.is_some();
     let line = k.line;
     match d {
-        Directive::Blank => KnownRead::Read(k, next),
+        Directive::Blank => Ok((k, next)),
         Directive::Package(p) => {
             if inside {
-                return KnownRead::Refused(Refusal::PackageInWorld(line));
+                return Err(Refusal::PackageInWorld(line));
             }
-            KnownRead::Read(with_package(k, p), next)
+            Ok((with_package(k, p), next))
         }
         Directive::World(p) => open_world(k, p, next, worlds),
         Directive::Close => {
             if inside {
                 return close_world(k, next, worlds);
             }
-            KnownRead::Refused(Refusal::Unmatched(line))
+            Err(Refusal::Unmatched(line))
         }
         Directive::Refer(export, path, signature) => {
             if inside {
                 return add_reference(k, export, path, signature, next, references);
             }
-            KnownRead::Refused(Refusal::Outside(line))
+            Err(Refusal::Outside(line))
         }
         Directive::Brace => {
             if inside {
-                return KnownRead::Read(k, next);
+                return Ok((k, next));
             }
-            KnownRead::Refused(Refusal::Directive(line))
+            Err(Refusal::Directive(line))
         }
-        Directive::Other => KnownRead::Refused(Refusal::Directive(line)),
+        Directive::Other => Err(Refusal::Directive(line)),
     }
 }

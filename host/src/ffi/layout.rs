@@ -27,10 +27,10 @@ pub mod stack {
     pub const TOKENS: usize = 4096;
     pub const REWRITE: usize = 4096;
     pub const CHECK: usize = 253952;
-    pub const STRICT: usize = 319488;
-    pub const MODULE: usize = 245760;
+    pub const STRICT: usize = 311296;
+    pub const MODULE: usize = 241664;
     pub const MANIFEST: usize = 77824;
-    pub const COMPARE: usize = 516096;
+    pub const COMPARE: usize = 561152;
 }
 
 as_in_c! {

@@ -1,12 +1,11 @@
--- `checking::check_file` meets its contract. Assumes nothing.
-use Rattle.checking.proofs.Checking.{settled-refused, settled-accepted}
+-- `check_file` meets its contract. Assumes nothing.
+use Rattle.std.proofs.Common.{sym}
+use Rattle.checking.proofs.Checking.{settled, settled-refused}
+use Rattle.refusal.proofs.Following.{never}
 use Rattle.checking.proofs.check_file.Goals as goal
 
-pub returns-then-number-eq13 : goal.returns-then-number-eq13
-returns-then-number-eq13 c = c.check_all.ensures
-
-pub returns-else-number-eq13 : goal.returns-else-number-eq13
-returns-else-number-eq13 c = settled-refused _ _ c.check_few-first.ensures c.in-Refused.is c.number.ensures c.if-number-eq13.false
+pub returns-in-Ok : goal.returns-in-Ok
+returns-in-Ok c = settled _ _ c.in-Ok.ensures (λ p z. never (sym z))
 
 pub returns-in_default : goal.returns-in_default
-returns-in_default c = settled-accepted _ _ c.check_few-first.ensures c.in_default.is
+returns-in_default c = settled-refused _ _ c.in-Err.why c.in-Err.ensures c.in_default.not-Full

@@ -1,16 +1,15 @@
--- `checking::check_module` meets its contract. Assumes nothing.
-use mathlib.Core.Path.{sym, ◌∙◌, ap}
-use Rattle.refusal.specs.Said.{said_answer}
-use Rattle.checking.proofs.Checking.{so, too_long, text-bad, text-good}
+-- `check_module` meets its contract. Assumes nothing.
+use Rattle.std.proofs.Common.{rules, ◌≡◌, Err}
+use Rattle.checking.proofs.Checking.{too_long, text-bad, text-good}
 use Rattle.checking.proofs.check_module.Goals as goal
 
 pub returns-then-file-gt-MAX_FILE : goal.returns-then-file-gt-MAX_FILE
-returns-then-file-gt-MAX_FILE c = so (too_long _ _ c.if-file-gt-MAX_FILE.true) c.unjudged.ensures
+returns-then-file-gt-MAX_FILE c = too_long _ _ c.if-file-gt-MAX_FILE.true
 
-pub returns-in-Refused : goal.returns-in-Refused
-returns-in-Refused c = so (text-bad _ _ c.if-file-gt-MAX_FILE.false c.test_text.ensures c.in-Refused.is) c.unjudged-in-Refused.ensures
+pub returns-in_err-test_text : goal.returns-in_err-test_text
+returns-in_err-test_text c =
+    let e : c.from_residual.result ≡ Err c.in_err-test_text.field-0.0 = search rules in
+    rw e (text-bad _ _ c.if-file-gt-MAX_FILE.false c.in_err-test_text.ensures)
 
-pub returns-in-Accepted : goal.returns-in-Accepted
-returns-in-Accepted c =
-    so (text-good _ _ c.if-file-gt-MAX_FILE.false (sym c.test_text.ensures ∙ ap said_answer c.in-Accepted.is))
-    c.check_file.ensures
+pub returns : goal.returns
+returns c = text-good _ _ c.if-file-gt-MAX_FILE.false c.in_ok-test_text.ensures c.check_file.ensures

@@ -1,22 +1,24 @@
--- `checking::check_with` meets its contract. Assumes nothing.
-use native.Mathlib.Omega.{arith}
-use mathlib.Core.Path.{sym}
+-- `check_with` meets its contract. Assumes nothing.
+use Rattle.std.proofs.Common.{rules, ◌≡◌, Err, sym, arith}
 use lib.Seq.{length-take-le}
 use Rattle.conform.proofs.Found.{module-found, imports-in}
-use Rattle.checking.proofs.Checking.{so, read-stops, read_goes}
+use Rattle.checking.proofs.Checking.{read-stops, read_goes}
 use Rattle.checking.proofs.check_with.Goals as goal
 
+pub returns-in_err-m : goal.returns-in_err-m
+returns-in_err-m c =
+    let e : c.from_residual.result ≡ Err c.in_err-m.field-0.0 = search rules in
+    rw e (read-stops _ _ _ c.read_module.ensures c.in_err-m.was)
+
 pub overflow_mul-end : goal.overflow_mul-end
-overflow_mul-end c = omega (arith, imports-in (module-found _ _ c.read_module.ensures c.in-Module.is))
+overflow_mul-end c = omega (arith, imports-in (module-found _ _ c.read_module.ensures c.in_ok-m.was))
 
 pub slice_bounds-hold_to-end : goal.slice_bounds-hold_to-end
-slice_bounds-hold_to-end c = omega (arith, imports-in (module-found _ _ c.read_module.ensures c.in-Module.is))
+slice_bounds-hold_to-end c = omega (arith, imports-in (module-found _ _ c.read_module.ensures c.in_ok-m.was))
 
-pub slice_bounds-hold_to-end-in-Module : goal.slice_bounds-hold_to-end-in-Module
-slice_bounds-hold_to-end-in-Module c = sym (length-take-le _ _ (omega (arith, imports-in (module-found _ _ c.read_module.ensures c.in-Module.is))))
+pub slice_bounds-hold_to-end-2 : goal.slice_bounds-hold_to-end-2
+slice_bounds-hold_to-end-2 c =
+    sym (length-take-le _ _ (omega (arith, imports-in (module-found _ _ c.read_module.ensures c.in_ok-m.was))))
 
-pub returns-in-Refused : goal.returns-in-Refused
-returns-in-Refused c = so (read-stops _ _ _ c.read_module.ensures c.in-Refused.is) c.unjudged.ensures
-
-pub returns-in-Module : goal.returns-in-Module
-returns-in-Module c = so (read_goes _ _ _ c.read_module.ensures c.in-Module.is) c.hold_to.ensures
+pub returns : goal.returns
+returns c = read_goes _ _ _ c.read_module.ensures c.in_ok-m.was c.hold_to.ensures

@@ -1,14 +1,13 @@
--- `checking::hold_to` meets its contract. Assumes nothing.
-use mathlib.Core.Path.{refl}
-use Rattle.refusal.proofs.Following.{follow-stops, follow-goes}
+-- `hold_to` meets its contract. Assumes nothing.
+use Rattle.std.proofs.Common.{rules}
+use Rattle.refusal.specs.Said.{follow}
 use Rattle.checking.specs.Checking.{held_to}
-use Rattle.checking.proofs.Checking.{so, policy-refused, policy-accepted}
 use Rattle.checking.proofs.hold_to.Goals as goal
 
-pub returns-in-Refused : goal.returns-in-Refused
-unfolding held_to
-returns-in-Refused c = so (follow-stops _ (policy-refused c.read_policy-read.ensures c.in-Refused.is)) c.unjudged.ensures
+pub returns-in_err-p : goal.returns-in_err-p
+unfolding held_to follow
+returns-in_err-p c = search rules
 
-pub returns-in-Accepted : goal.returns-in-Accepted
-unfolding held_to
-returns-in-Accepted c = so (follow-goes _ (policy-accepted c.read_policy-read.ensures c.in-Accepted.is) refl) c.weigh.ensures
+pub returns : goal.returns
+unfolding held_to follow
+returns c = search rules

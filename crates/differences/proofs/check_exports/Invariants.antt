@@ -1,4 +1,3 @@
-use Prim.Native.Nat.{◌-◌}
 use lib.ListN.{length}
 use Rattle.table.specs.Shape.{capacity_in}
 use Rattle.table.proofs.Testing.{Walked}
@@ -7,6 +6,3 @@ use Rattle.differences.proofs.check_exports.Given as goal
 
 abbrev pub invariant-loop-i : goal.invariant-loop-i
 invariant-loop-i l = Walked (capacity_in 3 (length l.exports)) l.n (export_fits l.length l.exports) l.i
-
-abbrev pub decreases-loop-i : goal.decreases-loop-i
-decreases-loop-i l = l.n - l.i

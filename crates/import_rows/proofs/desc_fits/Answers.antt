@@ -14,7 +14,8 @@ loop-column-init c = (
 )
 
 pub returns-then-not-number_fits : goal.returns-then-not-number_fits
-returns-then-not-number_fits c = number-out c.loop-column.invariant.2 c.loop-column-test.true c.number_fits.ensures c.if-not-number_fits.true
+returns-then-not-number_fits c =
+    number-out c.loop-column.invariant.2 c.loop-column-test.true c.number_fits.ensures c.if-not-number_fits.true
 
 pub loop-column-preserved : goal.loop-column-preserved
 loop-column-preserved c = (

@@ -1,16 +1,17 @@
 -- `keyed::has_room` meets its contract. Assumes nothing.
 use native.Mathlib.Omega.{arith}
-use Rattle.keyed.proofs.Sameness.{no-ranks, no-marks, room-numbers}
+use Rattle.std.proofs.lemmas.Grind.{common_steps}
+use Rattle.keyed.specs.Keying.{holds_all}
+use Rattle.keyed.proofs.Sameness.{no-ranks}
 use Rattle.keyed.proofs.has_room.Goals as goal
 
-pub returns-then-ranks-nb : goal.returns-then-ranks-nb
-returns-then-ranks-nb c = no-ranks _ _ _ _ _ (omega arith)
+pub returns-then-n-lost : goal.returns-then-n-lost
+unfolding holds_all
+returns-then-n-lost c = grind (arith, common_steps)
 
-pub returns-then-ranks-nb-2 : goal.returns-then-ranks-nb-2
-returns-then-ranks-nb-2 c = no-ranks _ _ _ _ _ (omega arith)
+pub returns-else-n-lost : goal.returns-else-n-lost
+unfolding holds_all
+returns-else-n-lost c = grind (arith, common_steps)
 
-pub returns-then-lost-n : goal.returns-then-lost-n
-returns-then-lost-n c = no-marks _ _ _ _ _ (omega arith) (omega arith)
-
-pub returns : goal.returns
-returns c = room-numbers _ _ _ _ _ (omega arith) (omega arith)
+pub returns-in-None : goal.returns-in-None
+returns-in-None c = no-ranks _ _ _ _ _ (omega (arith, c.in-None.ensures))

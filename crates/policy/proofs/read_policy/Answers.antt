@@ -1,9 +1,13 @@
 -- `read_policy` meets its contract. Assumes nothing.
-use Rattle.policy.proofs.LoopLaws.{read-good, read-bad}
+use Rattle.std.proofs.Common.{rules}
+use Rattle.refusal.specs.Said.{follow}
+use Rattle.policy.specs.Reader.{read_with, read_policy}
 use Rattle.policy.proofs.read_policy.Goals as goal
 
-pub returns-in-Accepted : goal.returns-in-Accepted
-returns-in-Accepted c = read-good c.args.s.now c.test_text.ensures c.in-Accepted.is c.read_lines.ensures
+pub returns-in_err-test_text : goal.returns-in_err-test_text
+unfolding read_policy read_with follow
+returns-in_err-test_text c = search rules
 
-pub returns-in-Refused : goal.returns-in-Refused
-returns-in-Refused c = read-bad c.args.s.now c.test_text.ensures c.in-Refused.is c.turned_down.ensures
+pub returns : goal.returns
+unfolding read_policy read_with follow
+returns c = search rules

@@ -1,5 +1,5 @@
 -- `put_rule` meets its contract. Assumes nothing.
-use native.Mathlib.Omega.{arith}
+use Rattle.std.proofs.Common.{arith}
 use Rattle.output.proofs.ByteLaws.{wrote_none}
 use Rattle.policy_text.proofs.WriteLaws.{rule-none, text-allow, text-deny}
 use Rattle.policy_text.proofs.put_rule.Goals as goal

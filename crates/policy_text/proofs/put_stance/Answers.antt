@@ -7,6 +7,6 @@ pub returns-then-allow : goal.returns-then-allow
 unfolding stance_word
 returns-then-allow c = rw c.if-allow.true (wrote-put _ _ _ _ c.put.ensures)
 
-pub returns : goal.returns
+pub returns-else-allow : goal.returns-else-allow
 unfolding stance_word
-returns c = rw c.if-allow.false (wrote-put _ _ _ _ c.put-2.ensures)
+returns-else-allow c = rw c.if-allow.false (wrote-put _ _ _ _ c.put-else-allow.ensures)

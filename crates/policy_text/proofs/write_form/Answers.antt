@@ -12,4 +12,4 @@ returns-then-out-needed c =
 pub returns : goal.returns
 returns c =
     form-done _ _ 0 c.put_form-needed.ensures (form-few c.args.s.now c.requires.2 c.args.p)
-    (omega (arith, c.put_form-needed.ensures.long)) c.put_form-n.ensures
+    (omega (arith, c.put_form-needed.ensures.long)) c.put_form.ensures

@@ -1,22 +1,8 @@
--- `reasons::check_need_diffs` meets its contract: a walk over rows. Assumes nothing.
-use Rattle.table.proofs.Testing.{walk-over, walk-starts, walk-stops, walk-goes, walk_ends}
+-- `reasons::check_need_diffs` meets its contract. Assumes nothing.
+use Rattle.std.proofs.Common.{rules}
 use Rattle.reasons.specs.Reasons.{need_diff_fits, need_diffs_tested}
 use Rattle.reasons.proofs.check_need_diffs.Goals as goal
 
-pub returns-then-room-n : goal.returns-then-room-n
-unfolding need_diffs_tested
-returns-then-room-n c = walk-over _ _ (need_diff_fits _ _ _) c.capacity-room.ensures c.if-room-n.true
-
-pub loop-i-init : goal.loop-i-init
-loop-i-init c = walk-starts c.capacity-room.ensures c.if-room-n.false
-
-pub returns-then-not-need_diff_fits : goal.returns-then-not-need_diff_fits
-unfolding need_diffs_tested
-returns-then-not-need_diff_fits c = walk-stops c.loop-i.invariant c.loop-i-test.true c.need_diff_fits.ensures c.if-not-need_diff_fits.true
-
-pub loop-i-preserved : goal.loop-i-preserved
-loop-i-preserved c = walk-goes c.loop-i.invariant c.loop-i-test.true c.need_diff_fits.ensures c.if-not-need_diff_fits.false
-
 pub returns : goal.returns
 unfolding need_diffs_tested
-returns c = walk_ends c.loop-i.invariant c.loop-i-test.false
+returns c = rw (← c.capacity-room.ensures) (c.check_rows.ensures (need_diff_fits _ _ _) (λ i r h p. search rules))

@@ -1,13 +1,18 @@
 -- `put_against` meets its contract. Assumes nothing.
+use mathlib.Core.Path.{◌∙◌}
 use Rattle.output.proofs.ByteLaws.{wrote_then}
-use Rattle.reviewed.proofs.Reading.{candidate-stops, candidate-goes}
+use Rattle.reviewed.proofs.Reading.{compliant-is, verdicts-are, candidate-stops, candidate-goes}
 use Rattle.reviewed.proofs.Telling.{wrote-same}
 use Rattle.reviewed.proofs.put_against.Goals as goal
 
-pub returns-in-Refused : goal.returns-in-Refused
-returns-in-Refused c = wrote-same (candidate-stops _ c.read_build.ensures c.in-Refused.is _ _) c.put_none.ensures
+pub returns-in-Err : goal.returns-in-Err
+returns-in-Err c = wrote-same (candidate-stops _ c.read_build.ensures c.in-Err.is _ _) c.put_none.ensures
 
-pub returns-in-Module : goal.returns-in-Module
-returns-in-Module c =
-    wrote-same (candidate-goes _ c.read_build.ensures c.in-Module.is _ _ c.check_module-e.ensures)
-    (wrote_then c.put_check-a.ensures (rw c.is_compliant.ensures at c.put_compared.ensures))
+pub returns-in-Ok : goal.returns-in-Ok
+returns-in-Ok c =
+    let checked = c.check_module-checked in
+    wrote-same
+    (candidate-goes _ c.read_build.ensures c.in-Ok.is _ _
+    (c.is_compliant-fine.ensures ∙ compliant-is checked.result checked.ensures)
+    (c.verdicts_of-verdicts.ensures ∙ verdicts-are checked.result checked.ensures))
+    (wrote_then c.put_check-a.ensures c.put_compared.ensures)

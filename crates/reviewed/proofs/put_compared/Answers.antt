@@ -5,11 +5,11 @@ use Rattle.reviewed.proofs.Reading.{compared-stops, compared-goes}
 use Rattle.reviewed.proofs.Telling.{wrote-same}
 use Rattle.reviewed.proofs.put_compared.Goals as goal
 
-pub returns-in-Refused : goal.returns-in-Refused
-returns-in-Refused c = wrote-same (compared-stops _ _ _ _ refl refl c.compare_modules.ensures c.in-Refused.is) c.put_none.ensures
+pub returns-in-Err : goal.returns-in-Err
+returns-in-Err c = wrote-same (compared-stops _ _ _ _ refl refl c.compare_modules.ensures c.in-Err.is) c.put_none.ensures
 
-pub returns-in-Lists : goal.returns-in-Lists
-returns-in-Lists c =
-    wrote-same (compared-goes _ _ _ _ refl refl c.compare_modules.ensures c.in-Lists.is)
+pub returns-in-Ok : goal.returns-in-Ok
+returns-in-Ok c =
+    wrote-same (compared-goes _ _ _ _ refl refl c.compare_modules.ensures c.in-Ok.is)
     (wrote_then c.put_stand-a.ensures
     (wrote_then c.put_gone-b.ensures (wrote_then c.put_new-c.ensures c.put_verdict.ensures)))

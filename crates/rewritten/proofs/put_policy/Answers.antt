@@ -1,9 +1,14 @@
 -- `put_policy` meets its contract. Assumes nothing.
-use Rattle.rewritten.proofs.Telling.{line-told, bytes-told}
+use Rattle.std.proofs.Common.{rules, ◌≡◌, Err}
+use mathlib.Core.Path.{sym, ap, ◌∙◌}
+use Rattle.refusal.specs.Said.{said_by}
+use Rattle.rewritten.proofs.Telling.{tells-stop, tells-go}
 use Rattle.rewritten.proofs.put_policy.Goals as goal
 
-pub returns-in-Refused : goal.returns-in-Refused
-returns-in-Refused c = line-told c.write_policy.ensures c.in-Refused.is c.put_refusal.ensures
+pub returns-in_err-p : goal.returns-in_err-p
+returns-in_err-p c =
+    let e : c.from_residual.result ≡ Err c.in_err-p.field-0.0 = search rules in
+    rw e (tells-stop _ (sym c.read_policy.ensures ∙ ap said_by c.in_err-p.was))
 
-pub returns-in-Bytes : goal.returns-in-Bytes
-returns-in-Bytes c = bytes-told c.write_policy.ensures c.in-Bytes.is
+pub returns : goal.returns
+returns c = tells-go _ (sym c.read_policy.ensures ∙ ap said_by c.in_ok-p.was) c.write_policy.ensures

@@ -2,11 +2,8 @@
 use Rattle.strict.proofs.Room.{settled-refused, settled-accepted}
 use Rattle.strict.proofs.test_strict.Goals as goal
 
-pub returns-then-number-eq13 : goal.returns-then-number-eq13
-returns-then-number-eq13 c = c.test_all.ensures
-
-pub returns-else-number-eq13 : goal.returns-else-number-eq13
-returns-else-number-eq13 c = settled-refused _ c.test_few-first.ensures c.in-Refused.is c.number.ensures c.if-number-eq13.false
-
 pub returns-in_default : goal.returns-in_default
-returns-in_default c = settled-accepted _ c.test_few-first.ensures c.in_default.is
+returns-in_default c = settled-refused _ _ c.in_default.ensures c.in_default.in_default-own.refused-1.1
+
+pub returns-in_default-2 : goal.returns-in_default-2
+returns-in_default-2 c = settled-accepted _ _ c.test_in.ensures c.in_default.in-Ok-own.keys2

@@ -1,34 +1,32 @@
 -- `table::cell` meets its contract. Assumes nothing.
 use mathlib.Core.Path.{sym}
-use Prim.Native.Nat.{◌*◌, ◌≤◌}
 use native.Mathlib.Omega.{arith}
-use lib.ListN.{length}
-use Rattle.table.proofs.Cells.{row-past, row-starts, cell-there, cell-beside, cell-past}
+use Rattle.table.proofs.Cells.{cell-beside, cell-past, cell-got, cell-none}
 use Rattle.table.proofs.cell.Goals as goal
 
 pub returns-then-width-column : goal.returns-then-width-column
-returns-then-width-column c = sym (cell-beside _ _ _ _ c.if-width-column.true)
+returns-then-width-column c = let a = c.args in sym (cell-beside a.table.now a.width a.row a.column c.if-width-column.true)
 
-pub returns-then-table-width : goal.returns-then-table-width
-returns-then-table-width c =
+pub returns-in_default : goal.returns-in_default
+returns-in_default c =
     let a = c.args in
-    let past = row-past (length a.table.now) a.width a.row (omega arith) c.if-table-width.true in
-    sym (cell-past _ _ _ _ (omega arith))
+    let k = c.in_default.ensures in
+    sym (cell-past a.table.now a.width a.row a.column (omega (arith, k)))
 
-pub overflow_mul-at : goal.overflow_mul-at
-overflow_mul-at c =
-    let starts : let a = c.args in a.row * a.width ≤ length a.table.now = row-starts _ _ _ c.if-table-width.false in
-    omega (arith, starts)
+pub returns-in_default-get : goal.returns-in_default-get
+returns-in_default-get c =
+    let a = c.args in
+    let k = c.in-Some.ensures in
+    let m = c.in_default-get.ensures.lookup.0 in
+    sym (cell-past a.table.now a.width a.row a.column (omega (arith, k, m)))
 
-pub overflow_sub-table : goal.overflow_sub-table
-overflow_sub-table c =
-    let starts : let a = c.args in a.row * a.width ≤ length a.table.now = row-starts _ _ _ c.if-table-width.false in
-    starts
+pub returns-in-Some-get-2 : goal.returns-in-Some-get-2
+returns-in-Some-get-2 c =
+    let a = c.args in
+    cell-got a.table.now a.width a.row a.column c.if-width-column.false c.in-Some.ensures.1 c.in-Some-get.ensures.lookup.0.2
+    (c.in-Some-get-2.ensures.lookup.3.1 0)
 
-pub returns-then-column-table : goal.returns-then-column-table
-returns-then-column-table c = sym (cell-there _ _ _ _ c.if-width-column.false)
-
-pub returns : goal.returns
-returns c =
-    let starts : let a = c.args in a.row * a.width ≤ length a.table.now = row-starts _ _ _ c.if-table-width.false in
-    let s = starts in sym (cell-past _ _ _ _ (omega arith))
+pub returns-in-None : goal.returns-in-None
+returns-in-None c =
+    let a = c.args in
+    cell-none a.table.now a.width a.row a.column c.in-Some.ensures.1 c.in-Some-get.ensures.lookup.0.2 c.in-None.ensures.lookup.3

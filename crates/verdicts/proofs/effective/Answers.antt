@@ -5,7 +5,7 @@ use Rattle.domains.proofs.DomainLaws.{number_small}
 use Rattle.verdicts.proofs.effective.Goals as goal
 
 pub rule_at-requires : goal.rule_at-requires
-rule_at-requires c = rw c.domain_number-n.ensures (number_small c.args.d)
+rule_at-requires c = rw c.domain_number.ensures (number_small c.args.d)
 
 pub returns : goal.returns
-returns c = c.rule_at.ensures ∙ ap (effective_of c.args.p) c.domain_number-n.ensures
+returns c = c.rule_at.ensures ∙ ap (effective_of c.args.p) c.domain_number.ensures

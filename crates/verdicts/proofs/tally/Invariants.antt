@@ -1,11 +1,9 @@
-use mathlib.Core.Path.{◌≡◌}
-use Prim.Native.Nat.{◌-◌, ◌≤◌}
-use lib.ListN.{take}
+use Rattle.std.proofs.Common.{◌≡◌, ◌+◌, map, take, drop}
+use Rattle.verdicts.specs.Evaluate.{first_past}
 use Rattle.verdicts.proofs.EvalLaws.{counts}
 use Rattle.verdicts.proofs.tally.Given as goal
 
 abbrev pub invariant-loop-i : goal.invariant-loop-i
-invariant-loop-i l = (l.i ≤ l.n) × (l.many ≡ counts (take l.i l.domains))
-
-abbrev pub decreases-loop-i : goal.decreases-loop-i
-decreases-loop-i l = l.n - l.i
+invariant-loop-i g l =
+    let ns = map g.R.Asking.number l.rows in
+    (l.many ≡ counts (take l.i ns)) × (first_past ns ≡ l.i + first_past (drop l.i ns))

@@ -2,4 +2,4 @@
 use Rattle.verdicts.proofs.verdict_on.Goals as goal
 
 pub returns : goal.returns
-returns c = rw c.rule_at-rule.ensures
+returns c = rw c.rule_at.ensures

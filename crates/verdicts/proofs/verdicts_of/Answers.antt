@@ -1,14 +1,11 @@
 -- `verdicts_of` meets its contract. Assumes nothing.
+use Rattle.std.proofs.Common.{get_or, arith}
+use Rattle.std.proofs.lemmas.List.FromFn.{fill_by_all}
+use Rattle.verdicts.specs.Evaluate.{verdict_for, no_verdict}
 use Rattle.verdicts.proofs.verdicts_of.Goals as goal
 
 pub returns : goal.returns
 returns c =
-    rw (
-      c.verdict_on-a.ensures,
-      c.verdict_on-b.ensures,
-      c.verdict_on-c.ensures,
-      c.verdict_on-d.ensures,
-      c.verdict_on-e.ensures,
-      c.verdict_on-f.ensures,
-      c.verdict_on-g.ensures,
-    )
+    let a = c.args in
+    fill_by_all (λ d. verdict_for a.p d (get_or a.many d 0)) c.loop-d.verdicts 7 no_verdict c.loop-d.invariant.0
+    (λ k h. c.loop-d.invariant.1 k (omega arith))

@@ -1,50 +1,23 @@
 -- `violations` meets its contract. Assumes nothing.
-use mathlib.Core.Path.{◌≡◌, refl, ap, ◌∙◌}
-use mathlib.Core.List.{map}
-use Prim.Native.Nat.{◌+◌, ◌*◌, ◌^◌}
-use native.Mathlib.Omega.{arith}
-use Rattle.refusal.specs.Pick.{one_if}
+use Rattle.std.proofs.Common.{map, true, false, ◌-◌, arith, ◌∙◌, sym}
 use Rattle.verdicts.specs.Evaluate.{violates}
-use Rattle.verdicts.proofs.MemberLaws.{set-none, set_next}
+use Rattle.verdicts.proofs.MemberLaws.{set-none, set_next, with-bit}
 use Rattle.verdicts.proofs.EvalLaws.{flag_at}
+use Rattle.verdicts.proofs.violations.Goals.{then-is_violation, else-is_violation}
 use Rattle.verdicts.proofs.violations.Goals as goal
 
-pub loop-i-init : goal.loop-i-init
-loop-i-init c = (omega arith, refl, set-none (map violates c.args.verdicts))
+pub loop-d-init : goal.loop-d-init
+loop-d-init c = set-none (map violates c.args.verdicts)
 
-pub offset_bounds-verdicts-i : goal.offset_bounds-verdicts-i
-offset_bounds-verdicts-i c = omega arith
-
-pub bounds-verdicts-i : goal.bounds-verdicts-i
-bounds-verdicts-i c = omega arith
-
-pub with_bit-set-requires : goal.with_bit-set-requires
-with_bit-set-requires c = (rw c.loop-i.invariant.1 c.loop-i.invariant.2.low, omega arith)
-
-pub overflow_add-d : goal.overflow_add-d
-overflow_add-d c = omega arith
-
-pub overflow_add-i : goal.overflow_add-i
-overflow_add-i c = omega arith
-
-pub loop-i-smaller : goal.loop-i-smaller
-loop-i-smaller c = omega arith
-
-pub loop-i-preserved : goal.loop-i-preserved
-loop-i-preserved c =
+pub loop-d-preserved : goal.loop-d-preserved
+loop-d-preserved c =
     let vs = c.args.verdicts in
-    let i = c.loop-i.i in
-    let b = c.is_violation-bad.result in
-    let q : c.with_bit-set.result ≡ c.loop-i.set + one_if b * 2 ^ i =
-    c.with_bit-set.ensures ∙ ap (λ n. c.loop-i.set + one_if b * 2 ^ n) c.loop-i.invariant.1 in (
-      omega arith,
-      omega arith,
-      set_next (map violates vs) i c.loop-i.set c.with_bit-set.result b
-          (c.is_violation-bad.ensures ∙ flag_at vs i) c.loop-i.invariant.2 q,
-    )
-
-pub returns : goal.returns
-returns c =
-    let z : c.loop-i.i ≡ 7 = omega arith in
-    let w = rw z at c.loop-i.invariant.2 in
-    (w.is, w.many)
+    let d = c.loop-d.d in
+    let flag = c.is_violation.ensures ∙ flag_at vs d in
+    elim c.if-is_violation.branch [
+      | then-is_violation w ↦ set_next (map violates vs) d c.loop-d.set c.if-is_violation.set true
+          (sym w.if-is_violation.true ∙ flag) c.loop-d.invariant
+          (w.set-is ∙ with-bit 32 (32 - d) c.loop-d.set d (omega arith) (omega arith) c.loop-d.invariant.low)
+      | else-is_violation w ↦ set_next (map violates vs) d c.loop-d.set c.if-is_violation.set false
+          (sym w.if-is_violation.false ∙ flag) c.loop-d.invariant (omega (arith, w.set-is))
+    ]

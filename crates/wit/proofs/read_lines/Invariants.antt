@@ -7,7 +7,8 @@ use Rattle.wit.specs.Manifest.{lend_manifest, manifest_sizes, ManifestHolds, sta
 use Rattle.wit.proofs.read_lines.Given as goal
 
 abbrev pub invariant-loop-at : goal.invariant-loop-at
-invariant-loop-at l = Going known_of (ManifestHolds (lend_manifest l.worlds l.references) (manifest_sizes l.initial.worlds l.initial.references)) l.k
+invariant-loop-at l =
+    Going known_of (ManifestHolds (lend_manifest l.worlds l.references) (manifest_sizes l.initial.worlds l.initial.references)) l.k
     (line_at l.s (manifest_sizes l.initial.worlds l.initial.references)) l.s
     (walk_from (line_at l.s (manifest_sizes l.initial.worlds l.initial.references)) l.s 0 start) l.at
     × (manifest_sizes l.worlds l.references ≡ manifest_sizes l.initial.worlds l.initial.references) × (l.k.line ≤ l.at)

@@ -8,23 +8,17 @@ use Rattle.refusal.proofs.Ranges.{said_in, said-out}
 use Rattle.differences.specs.Part.{there}
 use Rattle.differences.proofs.Places.{past-count, past_room, outside, part_bytes, part-block, part-offset}
 use Rattle.differences.proofs.Places.{gone-bytes, gone-block, gone-offset}
+use Rattle.differences.proofs.parts.part_of.Goals.{then-n-row-via-then-n-row, then-n-row-via-else-n-row+then-capacity-row}
 use Rattle.differences.proofs.parts.part_of.Goals as goal
 
 pub returns-then-n-row : goal.returns-then-n-row
 returns-then-n-row c =
-    let absent : Type 0 = let a = c.args in there a.file.now a.width a.most a.rows.now a.n a.row ≡ false in
     let a = c.args in
-    let e : absent = past-count _ _ _ _ _ _ c.if-n-row.true in (
-      gone-bytes _ _ _ _ _ _ e,
-      gone-block _ _ _ _ _ _ e _ _,
-      omega (arith, gone-offset _ _ _ _ _ _ e a.file.ref_ptr.1 a.baseline.ref_ptr.1),
-    )
-
-pub returns-then-capacity-row : goal.returns-then-capacity-row
-returns-then-capacity-row c =
-    let absent : Type 0 = let a = c.args in there a.file.now a.width a.most a.rows.now a.n a.row ≡ false in
-    let a = c.args in
-    let e : absent = past_room _ _ _ _ _ _ c.if-n-row.false c.capacity.ensures c.if-capacity-row.true in (
+    let e : there a.file.now a.width a.most a.rows.now a.n a.row ≡ false =
+    elim c.then-n-row.branch [
+      | then-n-row-via-then-n-row w ↦ past-count _ _ _ _ _ _ w.if-n-row.true
+      | then-n-row-via-else-n-row+then-capacity-row w ↦ past_room _ _ _ _ _ _ w.if-n-row.false w.capacity.ensures w.if-capacity-row.true
+    ] in (
       gone-bytes _ _ _ _ _ _ e,
       gone-block _ _ _ _ _ _ e _ _,
       omega (arith, gone-offset _ _ _ _ _ _ e a.file.ref_ptr.1 a.baseline.ref_ptr.1),
@@ -32,9 +26,8 @@ returns-then-capacity-row c =
 
 pub returns-then-not-fits : goal.returns-then-not-fits
 returns-then-not-fits c =
-    let absent : Type 0 = let a = c.args in there a.file.now a.width a.most a.rows.now a.n a.row ≡ false in
     let a = c.args in
-    let e : absent =
+    let e : there a.file.now a.width a.most a.rows.now a.n a.row ≡ false =
     outside _ _ _ _ _ _ c.if-n-row.false c.capacity.ensures c.if-capacity-row.false c.cell-from.ensures c.cell-len.ensures
     (said-out _ _ _ c.fits.ensures c.if-not-fits.true) in (
       gone-bytes _ _ _ _ _ _ e,

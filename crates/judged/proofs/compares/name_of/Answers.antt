@@ -7,6 +7,6 @@ pub returns-then-k-name : goal.returns-then-k-name
 unfolding name_told
 returns-then-k-name c = simp (lt-ltb _ _ c.if-k-name.true)
 
-pub returns : goal.returns
+pub returns-else-k-name : goal.returns-else-k-name
 unfolding name_told
-returns c = simp (le-ltb _ _ c.if-k-name.false)
+returns-else-k-name c = simp (le-ltb _ _ c.if-k-name.false)

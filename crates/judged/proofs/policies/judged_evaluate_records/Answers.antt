@@ -1,7 +1,7 @@
 -- `judged_evaluate_records` meets its contract. Assumes nothing.
-use Rattle.std.proofs.Common.{◌∙◌}
-use Rattle.judged.proofs.Telling.{evaluation-told}
+use mathlib.Core.Path.{◌∙◌, ap}
+use Rattle.told.specs.Check.{evaluation_told}
 use Rattle.judged.proofs.policies.judged_evaluate_records.Goals as goal
 
 pub returns : goal.returns
-returns c = c.evaluation_of.ensures ∙ evaluation-told _ _ _ _ _ c.policy_of-p.ensures c.evaluate.ensures
+returns c = c.evaluation_of.ensures ∙ ap evaluation_told (rw c.policy_of-p.ensures at c.evaluate.ensures)

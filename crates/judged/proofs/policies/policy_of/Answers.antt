@@ -6,15 +6,15 @@ pub returns : goal.returns
 unfolding policy_in
 returns c =
     rw (
-      c.at-named.ensures,
-      c.at-start.ensures,
-      c.at-size.ensures,
-      c.at-permit.ensures,
-      c.slot_at-a.ensures,
-      c.slot_at-b.ensures,
-      c.slot_at-c.ensures,
-      c.slot_at-d.ensures,
-      c.slot_at-e.ensures,
-      c.slot_at-f.ensures,
-      c.slot_at-g.ensures,
+      c.at.ensures,
+      c.at-2.ensures,
+      c.at-3.ensures,
+      c.at-4.ensures,
+      c.slot_at.ensures,
+      c.slot_at-2.ensures,
+      c.slot_at-3.ensures,
+      c.slot_at-4.ensures,
+      c.slot_at-5.ensures,
+      c.slot_at-6.ensures,
+      c.slot_at-7.ensures,
     )

@@ -7,12 +7,12 @@ use Rattle.policy_text.proofs.Asking.{no-domain, a-domain}
 use Rattle.judged.specs.Compares.{word_told}
 use Rattle.judged.proofs.words.judged_domain.Goals as goal
 
-pub returns-in_default : goal.returns-in_default
-returns-in_default c = no-domain _ _ _ (sym (ap found c.in_default.is) ∙ c.domain_of-found.ensures)
+pub returns-in-None : goal.returns-in-None
+returns-in-None c = no-domain _ _ _ (sym (ap found c.in-None.is) ∙ c.domain_of.ensures)
 
-pub returns : goal.returns
-returns c =
-    let d = sym (ap found c.in-Domain.is) ∙ c.domain_of-found.ensures in
+pub returns-in-Some : goal.returns-in-Some
+returns-in-Some c =
+    let d = sym (ap found c.in-Some.is) ∙ c.domain_of.ensures in
     let g = c.args in
     c.word_of.ensures ∙ ap (λ w. word_told w g.k) c.domain_slug.ensures
     ∙ a-domain _ _ (λ (n : ℕ). word_told (slug_of (slug n)) g.k) d

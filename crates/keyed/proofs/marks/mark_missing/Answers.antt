@@ -1,56 +1,41 @@
--- `keyed::marks::mark_missing` meets its contract: the rows below i are there, and what is left of the search answers for all of it.
--- Assumes nothing.
-use mathlib.Core.Path.{◌≡◌, refl, sym, ◌∙◌, ap}
-use Prim.Native.Nat.{ℕ}
+-- `keyed::marks::mark_missing` meets its contract: the rows below i are there. Assumes nothing.
+use mathlib.Core.Path.{◌≡◌, refl, ◌∙◌, ap}
 use native.Mathlib.Omega.{arith}
 use borrow.Author.Rules.{rules}
-use lib.ListN.{length}
-use Rattle.table.specs.Table.{laid, cells, rows_of}
 use Rattle.keyed.specs.Keying.{single, lonely}
 use Rattle.keyed.proofs.Filling.{no_rows, one-row}
-use Rattle.keyed.proofs.Searching.{some-hit, some-miss, some_end, others-end, sought-is, found-one, passed-one}
-use Rattle.keyed.proofs.Searching.{lonely-met, lonely-kept}
-use Rattle.keyed.proofs.marks.mark_missing.Goals.{else-search-test, then-search-test+then-ranks-j}
+use Rattle.keyed.proofs.Searching.{others-order, others-end, found-other, lonely-met, lonely-kept}
+use Rattle.keyed.proofs.marks.mark_missing.Goals.{then-found, else-found}
 use Rattle.keyed.proofs.marks.mark_missing.Goals as goal
 
-pub rows-init : goal.rows-init
-rows-init c = (omega arith, refl, no_rows single _ _ c.requires.0)
+pub loop-i-init : goal.loop-i-init
+loop-i-init c = (omega arith, refl, no_rows single _ _ c.requires.0)
 
-pub search-init : goal.search-init
-search-init c = (
-  refl,
-  refl,
-  others-end _ _ _ c.others-span.ensures c.requires.1,
-  sought-is _ _ _ _ c.others-span.ensures,
-)
+pub offset_bounds-ranks-others : goal.offset_bounds-ranks-others
+offset_bounds-ranks-others c =
+    omega (arith, others-order _ _ _ c.others.ensures c.requires.1, others-end _ _ _ c.others.ensures c.requires.1, c.requires.2)
 
-pub search-preserved : goal.search-preserved
-search-preserved c =
-    let i = c.search.invariant in (
-      i.0,
-      i.1,
-      i.2,
-      sym (some-miss _ _ _ c.search-test.true (passed-one _ _ _ _ i.1 _ c.if-ranks-j.false)) ∙ i.3,
-    )
+pub slice_bounds-contains-count : goal.slice_bounds-contains-count
+slice_bounds-contains-count c = others-order _ _ _ c.others.ensures c.requires.1
 
-pub rows-preserved : goal.rows-preserved
-rows-preserved c =
-    let a = c.args in
-    let i = c.search.invariant in
-    let met : c.search-test.kept ≡ lonely a.ranks.now a.nb a.n c.rows.i =
-    elim c.search-test.branch [
-      | else-search-test w ↦ w.kept-is ∙ i.0 ∙ i.1 ∙ lonely-kept _ _ _ _ (sym i.3 ∙ some_end _ _ _ w.search-test.false)
-      | then-search-test+then-ranks-j w ↦
-          w.kept-is ∙ lonely-met _ _ _ _ (sym i.3 ∙ some-hit _ _ _ w.search-test.true (found-one _ _ _ _ i.1 _ w.if-ranks-j.true))
+pub slice_bounds-contains-start : goal.slice_bounds-contains-start
+slice_bounds-contains-start c =
+    omega (arith, others-order _ _ _ c.others.ensures c.requires.1, others-end _ _ _ c.others.ensures c.requires.1, c.requires.2)
+
+pub slice_bounds-contains-end : goal.slice_bounds-contains-end
+slice_bounds-contains-end c =
+    omega (arith, others-order _ _ _ c.others.ensures c.requires.1, others-end _ _ _ c.others.ensures c.requires.1, c.requires.2)
+
+pub loop-i-preserved : goal.loop-i-preserved
+loop-i-preserved c =
+    let other = found-other _ _ _ _ c.others.ensures c.requires.1 c.requires.2 c.contains-found.ensures.value in
+    let kept : c.if-found.put_row ≡ lonely c.args.ranks.now c.args.nb c.args.n c.loop-i.i =
+    elim c.if-found.branch [
+      | then-found w ↦ w.put_row-is ∙ lonely-met _ _ _ _ (other ∙ w.if-found.true)
+      | else-found w ↦ w.put_row-is ∙ lonely-kept _ _ _ _ (other ∙ w.if-found.false)
     ] in (
       omega arith,
       search rules,
-      one-row single _ _ 1 (λ x. refl) _ _ c.rows-test.true (omega (arith, c.requires.3)) c.rows.invariant.2
-          (ap single met) c.put_row.ensures,
+      one-row single _ _ 1 (λ x. refl) _ _ c.loop-i-test.true (omega (arith, c.requires.3)) c.loop-i.invariant.2 (ap single kept)
+          c.put_row.ensures,
     )
-
-pub returns : goal.returns
-returns c =
-    let a = c.args in
-    let e : c.rows.i ≡ a.n = omega arith in
-    c.rows.invariant.2 ∙ ap (λ (m : ℕ). laid (length a.lost.now) (cells single (rows_of (lonely a.ranks.now a.nb a.n) m))) e

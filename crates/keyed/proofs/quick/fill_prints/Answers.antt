@@ -18,7 +18,7 @@ loop-i-preserved c = (
   omega arith,
   search rules,
   one-row single _ _ 1 (λ x. refl) _ _ c.loop-i-test.true (omega (arith, c.requires.1)) c.loop-i.invariant.2
-      (ap single c.print_at-print.ensures) c.put_row.ensures,
+      (ap single c.print_at.ensures) c.put_row.ensures,
 )
 
 pub returns : goal.returns

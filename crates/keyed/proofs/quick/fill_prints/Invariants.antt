@@ -1,5 +1,5 @@
 use mathlib.Core.Path.{◌≡◌}
-use Prim.Native.Nat.{◌-◌, ◌≤◌}
+use Prim.Native.Nat.{◌≤◌}
 use lib.ListN.{length}
 use Rattle.table.specs.Table.{laid, cells, rows_of}
 use Rattle.keyed.specs.Keying.{single}
@@ -7,7 +7,5 @@ use Rattle.keyed.specs.Quick.{print_at}
 use Rattle.keyed.proofs.quick.fill_prints.Given as goal
 
 abbrev pub invariant-loop-i : goal.invariant-loop-i
-invariant-loop-i l = (l.i ≤ l.n) × (length l.prints ≡ length l.initial.prints) × (l.prints ≡ laid (length l.initial.prints) (cells single (rows_of (print_at l.first l.second l.keys) l.i)))
-
-abbrev pub decreases-loop-i : goal.decreases-loop-i
-decreases-loop-i l = l.n - l.i
+invariant-loop-i l = (l.i ≤ l.n) × (length l.prints ≡ length l.initial.prints)
+    × (l.prints ≡ laid (length l.initial.prints) (cells single (rows_of (print_at l.first l.second l.keys) l.i)))

@@ -1,5 +1,5 @@
 use mathlib.Core.Path.{◌≡◌}
-use Prim.Native.Nat.{◌-◌, ◌≤◌}
+use Prim.Native.Nat.{◌≤◌}
 use lib.ListN.{length}
 use Rattle.table.specs.Table.{laid, cells, rows_of}
 use Rattle.keyed.specs.Keying.{single}
@@ -9,6 +9,3 @@ use Rattle.keyed.proofs.quick.mark_found.Given as goal
 abbrev pub invariant-loop-i : goal.invariant-loop-i
 invariant-loop-i l = (l.i ≤ l.n) × (length l.found ≡ length l.initial.found)
     × (l.found ≡ laid (length l.initial.found) (cells single (rows_of (found_mark l.first l.second l.keys l.nb l.n) l.i)))
-
-abbrev pub decreases-loop-i : goal.decreases-loop-i
-decreases-loop-i l = l.n - l.i

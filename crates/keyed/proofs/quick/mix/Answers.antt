@@ -4,14 +4,10 @@ use native.Mathlib.Omega.{arith}
 use Rattle.keyed.proofs.Printing.{mix_next, mix-end}
 use Rattle.keyed.proofs.quick.mix.Goals as goal
 
-pub loop-i-preserved : goal.loop-i-preserved
-loop-i-preserved c = (
-  omega arith,
-  omega arith,
-  sym (mix_next _ _ c.loop-i.i c.loop-i-test.true) ∙ c.loop-i.invariant.2,
-)
+pub loop-byte-preserved : goal.loop-byte-preserved
+loop-byte-preserved c = (omega arith, sym (mix_next _ _ c.loop-byte.byte-index c.loop-byte-test.true) ∙ c.loop-byte.invariant.1)
 
 pub returns : goal.returns
 returns c =
-    let l = c.loop-i in
-    (sym (mix-end _ _ l.i c.loop-i-test.false) ∙ l.invariant.2, l.invariant.1)
+    let l = c.loop-byte in
+    (sym (mix-end _ _ l.byte-index c.loop-byte-test.false) ∙ l.invariant.1, l.invariant.0)

@@ -2,7 +2,7 @@
 use mathlib.Core.Path.{refl, sym, ◌∙◌}
 use native.Mathlib.Omega.{arith}
 use Rattle.keyed.proofs.Searching.{some-hit, some-miss, some_end}
-use Rattle.keyed.proofs.Seeking.{unlike-pass, seeks-met, seeks-none, seeks-dear}
+use Rattle.keyed.proofs.Seeking.{unlike-pass}
 use Rattle.keyed.proofs.quick.seek.Goals as goal
 
 pub next_like-j-requires : goal.next_like-j-requires
@@ -16,10 +16,7 @@ search-init c =
     (refl, sym (unlike-pass _ _ _ _ _ _ _ _ _ c.requires.i_lt_n.0 e.0 e.1 c.requires.i_lt_n.2 c.requires.printed refl e.2))
 
 pub returns-then-meets : goal.returns-then-meets
-returns-then-meets c = seeks-met (sym c.search.invariant.1 ∙ some-hit _ _ _ c.search-test.true (sym c.meets.ensures ∙ c.if-meets.true))
-
-pub returns-then-left-cost : goal.returns-then-left-cost
-returns-then-left-cost c = seeks-dear
+returns-then-meets c = sym (sym c.search.invariant.1 ∙ some-hit _ _ _ c.search-test.true (sym c.meets.ensures ∙ c.if-meets.true))
 
 pub next_like-j-requires-in-search : goal.next_like-j-requires-in-search
 next_like-j-requires-in-search c =
@@ -36,4 +33,4 @@ search-preserved c =
     )
 
 pub returns : goal.returns
-returns c = seeks-none (sym c.search.invariant.1 ∙ some_end _ _ _ c.search-test.false)
+returns c = sym (sym c.search.invariant.1 ∙ some_end _ _ _ c.search-test.false)

@@ -19,7 +19,12 @@ mark_found-requires c =
     let d = c.clear-2.ensures in
     let p = c.requires in
     record {
-      found_value = (cleared _ d, p.0, omega (arith, cleared-length e, p.1, c.fill_prints.auto.prints), omega (arith, cleared-length d, p.2));
+      found_value = (
+        cleared _ d,
+        p.0,
+        omega (arith, cleared-length e, p.1, c.fill_prints.auto.prints),
+        omega (arith, cleared-length d, p.2),
+      );
       printed = all-printed _ _ _ _ _ c.fill_prints.ensures;
     }
 

@@ -1,16 +1,15 @@
 -- `keyed::quick::unmark` meets its contract: the rows below i have lost their marks. Assumes nothing.
+use mathlib.Core.Path.{◌∙◌}
 use native.Mathlib.Omega.{arith}
-use Rattle.keyed.proofs.Unmarking.{none_yet, one_kept, one-taken, all-taken}
+use Rattle.keyed.proofs.Unmarking.{one_kept, one-taken}
+use Rattle.keyed.proofs.quick.unmark.Goals.{then-cell-eq1, else-cell-eq1}
 use Rattle.keyed.proofs.quick.unmark.Goals as goal
 
-pub rows-init : goal.rows-init
-rows-init c = (omega arith, none_yet _ _)
-
-pub rows-preserved-then-cell-ne1 : goal.rows-preserved-then-cell-ne1
-rows-preserved-then-cell-ne1 c = (omega arith, one_kept _ _ _ c.rows.invariant.1 c.cell.ensures c.if-cell-ne1.true)
-
-pub rows-preserved : goal.rows-preserved
-rows-preserved c = (omega arith, one-taken _ _ _ c.rows.invariant.1 c.cell.ensures c.if-cell-ne1.false c.unmark_row.ensures)
-
-pub returns : goal.returns
-returns c = all-taken _ _ _ _ c.rows.invariant.0 c.rows-test.false c.rows.invariant.1
+pub loop-i-preserved : goal.loop-i-preserved
+loop-i-preserved c = (
+  omega arith,
+  elim c.if-cell-eq1.branch [
+    | then-cell-eq1 w ↦ one-taken _ _ _ c.loop-i.invariant.1 c.cell.ensures w.if-cell-eq1.true (w.keys-is ∙ w.unmark_row.ensures)
+    | else-cell-eq1 w ↦ rw w.keys-is (one_kept _ _ _ c.loop-i.invariant.1 c.cell.ensures w.if-cell-eq1.false)
+  ],
+)

@@ -1,21 +1,22 @@
 -- `keyed::ranks::list_by_rank` meets its contract. Assumes nothing.
-use mathlib.Core.Path.{◌≡◌, sym, ◌∙◌}
-use Prim.Native.Nat.{◌+◌, ◌<◌}
+use mathlib.Core.Path.{sym, ◌∙◌}
+use Prim.Native.Nat.{◌<◌}
 use native.Mathlib.Omega.{arith}
 use lib.ListN.{length}
-use Rattle.keyed.specs.Keying.{holds_all}
 use Rattle.keyed.proofs.Listing.{room_as, room-ranks, room-lost, room-list, lists-whole, lists-none, cleared-length, cleared}
 use Rattle.keyed.proofs.ranks.list_by_rank.Goals as goal
 
 pub returns-then-not-has_room : goal.returns-then-not-has_room
 returns-then-not-has_room c =
-    let room : let a = c.args in c.has_room.result ≡ holds_all (a.nb + a.nc) (length a.ranks.now) (length a.lost.now) (length a.numbers.now) = room_as _ c.has_room.ensures (cleared-length c.clear.ensures) (cleared-length c.clear-2.ensures) (cleared-length c.clear-3.ensures) in
+    let room =
+    room_as _ c.has_room.ensures (cleared-length c.clear.ensures) (cleared-length c.clear-2.ensures) (cleared-length c.clear-3.ensures) in
     lists-none (sym (room) ∙ c.if-not-has_room.true) c.clear-3.ensures
 
 pub overflow_add-nb : goal.overflow_add-nb
 overflow_add-nb c =
     let short : length c.args.ranks.now < 18446744073709551616 = omega arith in
-    let room : let a = c.args in c.has_room.result ≡ holds_all (a.nb + a.nc) (length a.ranks.now) (length a.lost.now) (length a.numbers.now) = room_as _ c.has_room.ensures (cleared-length c.clear.ensures) (cleared-length c.clear-2.ensures) (cleared-length c.clear-3.ensures) in
+    let room =
+    room_as _ c.has_room.ensures (cleared-length c.clear.ensures) (cleared-length c.clear-2.ensures) (cleared-length c.clear-3.ensures) in
     omega (arith, short, room-ranks _ _ _ _ (room) c.if-not-has_room.false)
 
 pub sort_missing-requires : goal.sort_missing-requires
@@ -30,5 +31,6 @@ sort_missing-requires c =
 
 pub returns : goal.returns
 returns c =
-    let room : let a = c.args in c.has_room.result ≡ holds_all (a.nb + a.nc) (length a.ranks.now) (length a.lost.now) (length a.numbers.now) = room_as _ c.has_room.ensures (cleared-length c.clear.ensures) (cleared-length c.clear-2.ensures) (cleared-length c.clear-3.ensures) in
+    let room =
+    room_as _ c.has_room.ensures (cleared-length c.clear.ensures) (cleared-length c.clear-2.ensures) (cleared-length c.clear-3.ensures) in
     lists-whole (sym (room) ∙ c.if-not-has_room.false) (cleared-length c.clear-3.ensures) c.sort_missing.ensures

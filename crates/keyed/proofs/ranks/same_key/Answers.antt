@@ -1,16 +1,25 @@
 -- `keyed::ranks::same_key` meets its contract. Assumes nothing.
-use Rattle.keyed.proofs.Sameness.{before-differ, after-differ, names-decide}
+use mathlib.Core.Path.{sym, ◌∙◌}
+use borrow.Author.Tests.{eqb-true, eqb-false}
+use Rattle.keyed.proofs.Sameness.{before-differ, after-differ, names-decide, equal-is}
+use Rattle.keyed.proofs.ranks.same_key.Goals.{then-cell, else-cell}
 use Rattle.keyed.proofs.ranks.same_key.Goals as goal
-
-pub returns-then-cell : goal.returns-then-cell
-returns-then-cell c = before-differ _ _ _ _ _ c.cell.ensures c.cell-2.ensures c.if-cell.true
 
 pub returns-then-cell-2 : goal.returns-then-cell-2
 returns-then-cell-2 c =
-    after-differ _ _ _ _ _ c.cell.ensures c.cell-2.ensures c.if-cell.false c.cell-3.ensures c.cell-4.ensures
-    c.if-cell-2.true
+    elim c.if-cell.branch [
+      | then-cell w ↦
+          names-decide _ _ _ _ _ c.cell.ensures c.cell-2.ensures w.if-cell.true w.cell-then-cell.ensures w.cell-then-cell-2.ensures
+          (eqb-true _ _ (sym w.value-is ∙ c.if-cell-2.true)) c.name_at.ensures c.name_at-then-cell-2.ensures (c.eq.ensures ∙ equal-is _ _)
+      | else-cell w ↦ absurd (w.if-cell.false (eqb-true _ _ (sym w.value-is ∙ c.if-cell-2.true)))
+    ]
 
-pub returns : goal.returns
-returns c =
-    names-decide _ _ _ _ _ c.cell.ensures c.cell-2.ensures c.if-cell.false c.cell-3.ensures c.cell-4.ensures
-    c.if-cell-2.false c.name_at.ensures c.name_at-2.ensures c.equal.ensures
+pub returns-else-cell-2 : goal.returns-else-cell-2
+returns-else-cell-2 c =
+    c.if-cell-2.false
+    ∙ elim c.if-cell.branch [
+      | then-cell w ↦
+          after-differ _ _ _ _ _ c.cell.ensures c.cell-2.ensures w.if-cell.true w.cell-then-cell.ensures w.cell-then-cell-2.ensures
+          (eqb-false _ _ (sym w.value-is ∙ c.if-cell-2.false))
+      | else-cell w ↦ before-differ _ _ _ _ _ c.cell.ensures c.cell-2.ensures w.if-cell.false
+    ]

@@ -1,27 +1,20 @@
-use mathlib.Core.Path.{sym, ◌∙◌, ap}
-use Rattle.refusal.proofs.Following.{hands, stops, goes}
-use Rattle.leb.specs.Answers.{said_part, said_u32, why_part, why_u32}
+use Rattle.std.proofs.Common.{rules, ◌≡◌, Err, sym}
+use Rattle.leb.specs.Answers.{said_read}
 use Rattle.leb.specs.Reads.{counted_at}
-use Rattle.leb.proofs.Answering.{gives, refuses, hear}
+use Rattle.leb.proofs.Answering.{hands_on, goes_on, gives, refuses, hear}
 use Rattle.leb.proofs.Cursor.counted.Goals as goal
 
-pub returns-in_default : goal.returns-in_default
+pub returns-in_err-len : goal.returns-in_err-len
 unfolding counted_at
-returns-in_default c =
-    let e = c.in_default.is in
-    refuses _ (stops _ (hear said_u32 _ _ c.uleb128_u32-number.ensures e) (c.why.ensures ∙ ap why_u32 e))
+returns-in_err-len c =
+    let e : c.from_residual.result ≡ Err c.in_err-len.field-0.0 = search rules in
+    rw e (hands_on _ _ _ _ c.in_err-len.ensures)
 
-pub returns-in_default-part : goal.returns-in_default-part
+pub returns-in-Ok : goal.returns-in-Ok
 unfolding counted_at
-returns-in_default-part c =
-    let e = c.in_default-part.is in
-    refuses _
-    (goes _ (hear said_u32 _ _ c.uleb128_u32-number.ensures c.in-Read.is)
-    (hands (hear said_part _ _ c.take-part.ensures e) (c.why-in_default-part.ensures ∙ ap why_part e)))
+returns-in-Ok c = goes_on _ _ _ c.in_ok-len.ensures (gives _ (sym (hear said_read _ _ c.take.ensures c.in-Ok.is)))
 
-pub returns : goal.returns
+pub returns-in-Err : goal.returns-in-Err
 unfolding counted_at
-returns c =
-    gives _
-    (goes _ (hear said_u32 _ _ c.uleb128_u32-number.ensures c.in-Read.is)
-    (sym (hear said_part _ _ c.take-part.ensures c.in-Read-part.is)))
+returns-in-Err c =
+    goes_on _ _ _ c.in_ok-len.ensures (refuses c.unread.ensures (sym (hear said_read _ _ c.take.ensures c.in-Err.is)))

@@ -1,16 +1,15 @@
-use mathlib.Core.Path.{refl, ◌∙◌, ap}
-use Rattle.refusal.proofs.Following.{stops, goes}
-use Rattle.leb.specs.Answers.{said_part, why_part}
+use Rattle.std.proofs.Common.{rules, ◌≡◌, Err, refl}
+use Rattle.leb.specs.Answers.{answer_from}
 use Rattle.leb.specs.Reads.{skip_at}
-use Rattle.leb.proofs.Answering.{gives, refuses, hear}
+use Rattle.leb.proofs.Answering.{hands_on, goes_on}
 use Rattle.leb.proofs.Cursor.skip.Goals as goal
 
-pub returns-in_default : goal.returns-in_default
+pub returns-in_err-next : goal.returns-in_err-next
 unfolding skip_at
-returns-in_default c =
-    let e = c.in_default.is in
-    refuses _ (stops _ (hear said_part _ _ c.take-part.ensures e) (c.why.ensures ∙ ap why_part e))
+returns-in_err-next c =
+    let e : c.from_residual.result ≡ Err c.in_err-next.field-0.0 = search rules in
+    rw e (hands_on _ _ _ _ c.in_err-next.ensures)
 
 pub returns : goal.returns
-unfolding skip_at
-returns c = gives _ (goes _ (hear said_part _ _ c.take-part.ensures c.in-Read.is) refl)
+unfolding skip_at answer_from
+returns c = goes_on _ _ _ c.in_ok-next.ensures refl

@@ -10,7 +10,7 @@ use mir.Val.{of_z, to_z}
 use Rattle.std.proofs.lemmas.Int.{of_z-to_z}
 use lib.ListN.{get_or}
 use Rattle.bits.proofs.Masks.{low-lt}
-use Rattle.leb.proofs.Answering.{gives, refuses}
+use Rattle.leb.proofs.Answering.{gives, refuses, unended}
 use Rattle.leb.proofs.Signed.{SReading, begins, at-end, too_long, more, last-minus, last-plus, last-tenth}
 use Rattle.leb.proofs.Cursor.sleb128.Goals as goal
 use Rattle.leb.proofs.Cursor.sleb128.Goals.{else-shift-lt64-via-then-shift-lt64+else-b-ne0, else-shift-lt64-via-else-shift-lt64}
@@ -28,22 +28,23 @@ pub loop-shift-init : goal.loop-shift-init
 loop-shift-init c = begins c.args.s.now c.args.self.at
 
 pub returns-then-s-i : goal.returns-then-s-i
-returns-then-s-i c = refuses _ (at-end _ _ _ _ _ (of_bits c.loop-shift.acc-bits (omega arith) c.loop-shift.invariant) c.if-s-i.true)
+returns-then-s-i c =
+    refuses c.unread.ensures (at-end _ _ _ _ _ (of_bits c.loop-shift.signed-bits (omega arith) c.loop-shift.invariant) c.if-s-i.true)
 
-pub overflow_cast-acc : goal.overflow_cast-acc
-overflow_cast-acc c = omega (arith, low-lt (get_or c.args.s.now c.loop-shift.i 0))
+pub overflow_cast-signed : goal.overflow_cast-signed
+overflow_cast-signed c = omega (arith, low-lt (get_or c.args.s.now c.loop-shift.i 0))
 
 pub returns-then-b-ne0 : goal.returns-then-b-ne0
 returns-then-b-ne0 c =
     let byte : get_or c.args.s.now c.loop-shift.i 0 < 256 = omega (arith, c.type_inv.s c.loop-shift.i) in
     gives _
-    (last-minus _ _ _ _ _ (of_bits c.loop-shift.acc-bits (omega arith) c.loop-shift.invariant) c.loop-shift-test.true c.if-s-i.false (byte)
+    (last-minus _ _ _ _ _ (of_bits c.loop-shift.signed-bits (omega arith) c.loop-shift.invariant) c.loop-shift-test.true c.if-s-i.false (byte)
     c.if-b-eq0.true c.if-shift-lt64.true c.if-b-ne0.true)
 
 pub returns-else-shift-lt64 : goal.returns-else-shift-lt64
 returns-else-shift-lt64 c =
     let byte : get_or c.args.s.now c.loop-shift.i 0 < 256 = omega (arith, c.type_inv.s c.loop-shift.i) in
-    let inv = of_bits c.loop-shift.acc-bits (omega arith) c.loop-shift.invariant in
+    let inv = of_bits c.loop-shift.signed-bits (omega arith) c.loop-shift.invariant in
     let t = c.loop-shift-test.true in
     let l = c.if-s-i.false in
     let z = c.if-b-eq0.true in
@@ -59,12 +60,12 @@ loop-shift-smaller c = omega arith
 pub loop-shift-preserved : goal.loop-shift-preserved
 loop-shift-preserved c =
     let byte : get_or c.args.s.now c.loop-shift.i 0 < 256 = omega (arith, c.type_inv.s c.loop-shift.i) in
-    to_bits _ (or_lt 64 c.loop-shift.acc-bits _ (omega arith) (mod-lt _ (omega arith)))
-    (more _ _ _ _ _ (of_bits c.loop-shift.acc-bits (omega arith) c.loop-shift.invariant) c.loop-shift-test.true c.if-s-i.false byte
+    to_bits _ (or_lt 64 c.loop-shift.signed-bits _ (omega arith) (mod-lt _ (omega arith)))
+    (more _ _ _ _ _ (of_bits c.loop-shift.signed-bits (omega arith) c.loop-shift.invariant) c.loop-shift-test.true c.if-s-i.false byte
     c.if-b-eq0.false)
 
-pub returns-then-i-s : goal.returns-then-i-s
-returns-then-i-s c = refuses _ (too_long _ _ _ _ _ (of_bits c.loop-shift.acc-bits (omega arith) c.loop-shift.invariant) c.loop-shift-test.false c.if-i-s.true)
-
-pub returns-else-i-s : goal.returns-else-i-s
-returns-else-i-s c = refuses _ (at-end _ _ _ _ _ (of_bits c.loop-shift.acc-bits (omega arith) c.loop-shift.invariant) c.if-i-s.false)
+pub returns : goal.returns
+returns c =
+    let inv = of_bits c.loop-shift.signed-bits (omega arith) c.loop-shift.invariant in
+    let t = c.loop-shift-test.false in
+    unended _ _ _ c.unended.ensures (too_long _ _ _ _ _ inv t) (at-end _ _ _ _ _ inv)

@@ -7,7 +7,7 @@ pub returns-then-remaining-lt4 : goal.returns-then-remaining-lt4
 returns-then-remaining-lt4 c =
     let a = c.args in
     let r = c.remaining.ensures in
-    refuses _ (short a.s.now a.self.at (omega (arith, r)))
+    refuses c.unread.ensures (short a.s.now a.self.at (omega (arith, r)))
 
 pub returns : goal.returns
 returns c =

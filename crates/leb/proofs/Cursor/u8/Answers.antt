@@ -9,4 +9,4 @@ returns-then-at-s c = simp (lt-ltb _ _ c.if-at-s.true)
 
 pub returns-else-at-s : goal.returns-else-at-s
 unfolding answer_from byte_at
-returns-else-at-s c = simp (le-ltb _ _ c.if-at-s.false)
+returns-else-at-s c = simp (le-ltb _ _ c.if-at-s.false, c.unread.ensures)

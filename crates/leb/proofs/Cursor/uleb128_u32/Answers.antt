@@ -1,25 +1,20 @@
-use mathlib.Core.Path.{◌∙◌, ap}
 use borrow.Author.Tests.{le-leb, lt-leb}
-use Rattle.refusal.proofs.Following.{stops, goes}
-use Rattle.leb.specs.Answers.{said_u64, why_u64}
+use Rattle.std.proofs.Common.{rules, ◌≡◌, Err}
+use Rattle.leb.specs.Answers.{answer_from}
 use Rattle.leb.specs.Reads.{u32_at, narrowed}
-use Rattle.leb.proofs.Answering.{gives, refuses, hear}
+use Rattle.leb.proofs.Answering.{hands_on, goes_on}
 use Rattle.leb.proofs.Cursor.uleb128_u32.Goals as goal
 
-pub returns-in_default : goal.returns-in_default
+pub returns-in_err-v : goal.returns-in_err-v
 unfolding u32_at
-returns-in_default c =
-    let e = c.in_default.is in
-    refuses _ (stops narrowed (hear said_u64 _ _ c.uleb128-number.ensures e) (c.why.ensures ∙ ap why_u64 e))
+returns-in_err-v c =
+    let e : c.from_residual.result ≡ Err c.in_err-v.field-0.0 = search rules in
+    rw e (hands_on _ _ _ _ c.in_err-v.ensures)
 
 pub returns-then-v-le4294967295 : goal.returns-then-v-le4294967295
-unfolding u32_at narrowed
-returns-then-v-le4294967295 c =
-    gives _
-    (goes narrowed (hear said_u64 _ _ c.uleb128-number.ensures c.in-Read.is) (simp (le-leb _ _ c.if-v-le4294967295.true)))
+unfolding u32_at narrowed answer_from
+returns-then-v-le4294967295 c = goes_on _ _ _ c.in_ok-v.ensures (simp (le-leb _ _ c.if-v-le4294967295.true))
 
 pub returns-else-v-le4294967295 : goal.returns-else-v-le4294967295
-unfolding u32_at narrowed
-returns-else-v-le4294967295 c =
-    refuses _
-    (goes narrowed (hear said_u64 _ _ c.uleb128-number.ensures c.in-Read.is) (simp (lt-leb _ _ c.if-v-le4294967295.false)))
+unfolding u32_at narrowed answer_from
+returns-else-v-le4294967295 c = goes_on _ _ _ c.in_ok-v.ensures (simp (lt-leb _ _ c.if-v-le4294967295.false, c.unread.ensures))

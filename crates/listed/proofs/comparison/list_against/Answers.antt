@@ -5,10 +5,10 @@ use Rattle.conform.proofs.Found.{module-refused, module-found}
 use Rattle.listed.proofs.OfComparison.{candidate-stops, candidate-read}
 use Rattle.listed.proofs.comparison.list_against.Goals as goal
 
-pub returns-in-Refused : goal.returns-in-Refused
-returns-in-Refused c =
-    delivers-none comparison_bytes comparison_told (candidate-stops _ _ (module-refused _ _ c.read_rows.ensures.2 c.in-Refused.is))
+pub returns-in-Err : goal.returns-in-Err
+returns-in-Err c =
+    delivers-none comparison_bytes comparison_told (candidate-stops _ _ (module-refused _ _ c.read_rows.ensures.2 c.in-Err.is))
     c.no_comparison.ensures
 
-pub returns-in-Module : goal.returns-in-Module
-returns-in-Module c = candidate-read _ (module-found _ _ c.read_rows.ensures.2 c.in-Module.is) c.list_differences.ensures
+pub returns-in-Ok : goal.returns-in-Ok
+returns-in-Ok c = candidate-read _ (module-found _ _ c.read_rows.ensures.2 c.in-Ok.is) c.list_differences.ensures

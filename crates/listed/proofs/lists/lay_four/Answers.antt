@@ -12,4 +12,4 @@ pub returns : goal.returns
 returns c =
     let g = c.args in
     four g.out.now g.a.now g.b.now g.c.now g.d.now c.if-out-needed.false
-    c.put_cells-first.ensures c.put_cells-second.ensures c.put_cells-third.ensures c.put_cells-bytes.ensures
+    c.put_cells-first.ensures c.put_cells-second.ensures c.put_cells-third.ensures c.put_cells.ensures

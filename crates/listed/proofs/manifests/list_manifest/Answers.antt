@@ -6,10 +6,10 @@ use Rattle.listed.proofs.OfManifest.{manifest-refused, manifest-found, manifest-
 use Rattle.listed.proofs.manifests.list_manifest.Goals as goal
 
 pub list_paths-requires : goal.list_paths-requires
-list_paths-requires c = manifest-counted (manifest-found _ c.read_manifest.ensures c.in-Manifest.is) (omega arith) (omega arith)
+list_paths-requires c = manifest-counted (manifest-found _ c.read_manifest.ensures c.in-Ok.is) (omega arith) (omega arith)
 
-pub returns-in-Refused : goal.returns-in-Refused
-returns-in-Refused c = delivers-none manifest_bytes manifest_told (manifest-refused _ c.read_manifest.ensures c.in-Refused.is) c.no_manifest.ensures
+pub returns-in-Err : goal.returns-in-Err
+returns-in-Err c = delivers-none manifest_bytes manifest_told (manifest-refused _ c.read_manifest.ensures c.in-Err.is) c.no_manifest.ensures
 
-pub returns-in-Manifest : goal.returns-in-Manifest
-returns-in-Manifest c = manifest-delivered (manifest-found _ c.read_manifest.ensures c.in-Manifest.is) c.list_paths.ensures
+pub returns-in-Ok : goal.returns-in-Ok
+returns-in-Ok c = manifest-delivered (manifest-found _ c.read_manifest.ensures c.in-Ok.is) c.list_paths.ensures

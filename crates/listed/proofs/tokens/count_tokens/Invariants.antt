@@ -4,8 +4,10 @@ use lib.ListN.{length}
 use Rattle.policy_text.specs.Token.{tokens_in}
 use Rattle.listed.proofs.tokens.count_tokens.Given as goal
 
-abbrev pub invariant-loop-next : goal.invariant-loop-next
-invariant-loop-next l = (l.n + l.from ≤ l.i) × (l.n ≤ l.end) × (l.n + length (tokens_in l.s l.i l.end) ≡ length (tokens_in l.s l.from l.end))
+abbrev pub invariant-loop-token : goal.invariant-loop-token
+invariant-loop-token l =
+    (l.n + l.from ≤ l.i) × (l.n ≤ l.end)
+    × (l.n + length (tokens_in l.s l.i l.end) ≡ length (tokens_in l.s l.from l.end))
 
-abbrev pub decreases-loop-next : goal.decreases-loop-next
-decreases-loop-next l = l.end - l.i
+abbrev pub decreases-loop-token : goal.decreases-loop-token
+decreases-loop-token l = l.end - l.i

@@ -8,16 +8,16 @@ use Rattle.listed.proofs.Laying.{delivers-none}
 use Rattle.listed.proofs.Listing.{put_last, tokens-laid, tokens-delivered, tokens-as, text-refused, text-none, text-rule}
 use Rattle.listed.proofs.tokens.list_tokens.Goals as goal
 
-pub returns-in_default : goal.returns-in_default
-returns-in_default c =
-    let none = sym (ap found c.in_default.is) ∙ c.domain_of.ensures in
-    tokens-delivered [] (text-none _ _ _ c.read_policy-read.ensures c.in-Accepted.is none)
+pub returns-in-None : goal.returns-in-None
+returns-in-None c =
+    let none = sym (ap found c.in-None.is) ∙ c.domain_of.ensures in
+    tokens-delivered [] (text-none _ _ _ c.read_policy.ensures c.in-Ok.is none)
     (tokens-laid [] _ refl refl (omega arith) (sym (put_last _ _)))
 
-pub returns-in-Refused : goal.returns-in-Refused
-returns-in-Refused c = delivers-none tokens_bytes tokens_told (text-refused _ _ _ c.read_policy-read.ensures c.in-Refused.is) c.no_tokens.ensures
+pub returns-in-Err : goal.returns-in-Err
+returns-in-Err c = delivers-none tokens_bytes tokens_told (text-refused _ _ _ c.read_policy.ensures c.in-Err.is) c.no_tokens.ensures
 
-pub returns-in-Domain : goal.returns-in-Domain
-returns-in-Domain c =
-    let one = sym (ap found c.in-Domain.is) ∙ c.domain_of.ensures in
-    tokens-as (text-rule _ _ _ c.read_policy-read.ensures c.in-Accepted.is one) c.list_rule.ensures
+pub returns-in-Some : goal.returns-in-Some
+returns-in-Some c =
+    let one = sym (ap found c.in-Some.is) ∙ c.domain_of.ensures in
+    tokens-as (text-rule _ _ _ c.read_policy.ensures c.in-Ok.is one) c.list_rule.ensures

@@ -1,20 +1,18 @@
 -- `test_policy` meets its contract. Assumes nothing.
-use Rattle.policy.proofs.EightLaws.{test-text, test-range, test_good}
+use Rattle.std.proofs.Common.{rules, sym, ◌∙◌}
+use Rattle.refusal.specs.Said.{follow}
+use Rattle.policy.specs.Eight.{policy_test}
+use Rattle.policy.proofs.EightLaws.{said-row, said-none}
 use Rattle.policy.proofs.ranges.test_policy.Goals as goal
 
-pub returns-then-row-lt8 : goal.returns-then-row-lt8
-returns-then-row-lt8 c =
-    let a = c.args in
-    test-range a.s.now a.p c.test_text.ensures c.in-Accepted.is c.first_bad-row.result
-    c.first_bad-row.ensures c.if-row-lt8.true
+pub returns-in_err-test_text : goal.returns-in_err-test_text
+unfolding policy_test follow
+returns-in_err-test_text c = search rules
 
-pub returns-in-Refused : goal.returns-in-Refused
-returns-in-Refused c =
-    let a = c.args in
-    test-text a.s.now a.p c.test_text.ensures c.in-Refused.is
+pub returns-in-Some : goal.returns-in-Some
+unfolding policy_test follow
+returns-in-Some c = rw (← c.in_ok-test_text.ensures) (sym (said-row _ _ (sym c.first_bad.ensures ∙ c.in-Some.is)))
 
-pub returns-else-row-lt8 : goal.returns-else-row-lt8
-returns-else-row-lt8 c =
-    let a = c.args in
-    test_good a.s.now a.p c.test_text.ensures c.in-Accepted.is c.first_bad-row.result
-    c.first_bad-row.ensures c.if-row-lt8.false
+pub returns-in-None : goal.returns-in-None
+unfolding policy_test follow
+returns-in-None c = rw (← c.in_ok-test_text.ensures) (sym (said-none _ _ (sym c.first_bad.ensures ∙ c.in-None.is)))

@@ -14,16 +14,15 @@ use Rattle.policy.proofs.reader.worded_at.Goals as goal
 abbrev Begins : List ℕ → List ℕ → ℕ → ℕ → Bool → Type 0
 Begins w s a e t = begins w (bytes_between s a e) ≡ t
 
-pub called_at-requires : goal.called_at-requires
-called_at-requires c =
+pub name_at-requires : goal.name_at-requires
+name_at-requires c =
     let a = c.args in
     omega (arith, word_fits a.s.now a.a a.e policy_w (omega arith) (sym c.starts.ensures ∙ c.if-starts.true))
 
 pub returns-then-starts : goal.returns-then-starts
 returns-then-starts c =
     let a = c.args in
-    c.called_at.ensures
-    ∙ sym (worded-name a.s.now a.a a.e (sym c.starts.ensures ∙ c.if-starts.true))
+    rw c.name_at.ensures (sym (worded-name a.s.now a.a a.e a.line (sym c.starts.ensures ∙ c.if-starts.true)))
 
 pub preset_at-requires : goal.preset_at-requires
 preset_at-requires c =
@@ -35,7 +34,7 @@ returns-then-starts-2 c =
     let missed1 : Begins policy_w c.args.s.now c.args.a c.args.e false = sym c.starts.ensures ∙ c.if-starts.false in
     let a = c.args in
     c.preset_at.ensures
-    ∙ sym (worded-default a.s.now a.a a.e (missed1) (sym c.starts-2.ensures ∙ c.if-starts-2.true))
+    ∙ sym (worded-default a.s.now a.a a.e a.line missed1 (sym c.starts-2.ensures ∙ c.if-starts-2.true))
 
 pub ruled_at-requires : goal.ruled_at-requires
 ruled_at-requires c =
@@ -48,7 +47,7 @@ returns-then-starts-3 c =
     let missed2 : Begins default_w c.args.s.now c.args.a c.args.e false = sym c.starts-2.ensures ∙ c.if-starts-2.false in
     let a = c.args in
     c.ruled_at.ensures
-    ∙ sym (worded-allow a.s.now a.a a.e (missed1) (missed2) (sym c.starts-3.ensures ∙ c.if-starts-3.true))
+    ∙ sym (worded-allow a.s.now a.a a.e a.line missed1 missed2 (sym c.starts-3.ensures ∙ c.if-starts-3.true))
 
 pub ruled_at-requires-then-starts-4 : goal.ruled_at-requires-then-starts-4
 ruled_at-requires-then-starts-4 c =
@@ -62,7 +61,7 @@ returns-then-starts-4 c =
     let missed3 : Begins allow_w c.args.s.now c.args.a c.args.e false = sym c.starts-3.ensures ∙ c.if-starts-3.false in
     let a = c.args in
     c.ruled_at-then-starts-4.ensures
-    ∙ sym (worded-deny a.s.now a.a a.e (missed1) (missed2) (missed3) (sym c.starts-4.ensures ∙ c.if-starts-4.true))
+    ∙ sym (worded-deny a.s.now a.a a.e a.line missed1 missed2 missed3 (sym c.starts-4.ensures ∙ c.if-starts-4.true))
 
 pub returns : goal.returns
 returns c =
@@ -71,4 +70,4 @@ returns c =
     let missed3 : Begins allow_w c.args.s.now c.args.a c.args.e false = sym c.starts-3.ensures ∙ c.if-starts-3.false in
     let missed4 : Begins deny_w c.args.s.now c.args.a c.args.e false = sym c.starts-4.ensures ∙ c.if-starts-4.false in
     let a = c.args in
-    sym (worded-wrong a.s.now a.a a.e (missed1) (missed2) (missed3) (missed4))
+    sym (worded-wrong a.s.now a.a a.e a.line missed1 missed2 missed3 missed4)

@@ -1,7 +1,6 @@
 -- `token_at` meets its contract. Assumes nothing.
-use mathlib.Core.Path.{refl, sym, ap, ◌∙◌}
+use mathlib.Core.Path.{refl, sym, ◌∙◌}
 use native.Mathlib.Omega.{arith}
-use Rattle.refusal.specs.Said.{accepted}
 use Rattle.policy_text.proofs.TokenLaws.{comma-near, token-near, token-next, token-found, token-none}
 use Rattle.policy_text.proofs.token.token_at.Goals as goal
 
@@ -37,8 +36,8 @@ slice_bounds-trim-end c =
     let a = c.args in
     omega (arith, comma-near a.s.now c.loop-i.i a.end (omega arith) (omega arith) c.find.result c.find.ensures)
 
-pub overflow_add-at : goal.overflow_add-at
-overflow_add-at c =
+pub overflow_add-part : goal.overflow_add-part
+overflow_add-part c =
     let a = c.args in
     let s = a.s.now in
     let i = c.loop-i.i in
@@ -49,17 +48,16 @@ overflow_add-at c =
       comma-near s i a.end (omega arith) (omega arith) k c.find.ensures,
     )
 
-pub returns-then-len-ne0 : goal.returns-then-len-ne0
-returns-then-len-ne0 c =
+pub returns-then-t-ne0 : goal.returns-then-t-ne0
+returns-then-t-ne0 c =
     let a = c.args in
     let s = a.s.now in
     let i = c.loop-i.i in
     let k = c.find.result in
-    ap accepted
-    (sym
+    sym
     (c.loop-i.invariant
     ∙ token-found s i a.end (omega arith) (omega arith) k c.find.ensures c.trim-t.result c.trim-t.ensures
-    c.if-len-ne0.true c.past-next.ensures))
+    c.if-t-ne0.true c.min-next.ensures)
 
 pub overflow_add-i : goal.overflow_add-i
 overflow_add-i c =
@@ -84,9 +82,9 @@ loop-i-preserved c =
     let i = c.loop-i.i in
     let k = c.find.result in
     c.loop-i.invariant ∙ token-next s i a.end (omega arith) (omega arith) k c.find.ensures c.trim-t.result c.trim-t.ensures
-    c.if-len-ne0.false
+    c.if-t-ne0.false
 
 pub returns : goal.returns
 returns c =
     let a = c.args in
-    ap accepted (sym (c.loop-i.invariant ∙ token-none a.s.now c.loop-i.i a.end (omega arith)))
+    sym (c.loop-i.invariant ∙ token-none a.s.now c.loop-i.i a.end (omega arith))

@@ -11,14 +11,11 @@ use Rattle.requirements.proofs.manifest.list_domains.Goals as goal
 
 pub loop-i-init : goal.loop-i-init
 unfolding rows_of
-loop-i-init c = (omega arith, column-none _ (c.clear.ensures ∙ ap (λ (n : ℕ). laid n []) (sym c.clear.auto.table)))
+loop-i-init c = column-none _ (c.clear.ensures ∙ ap (λ (n : ℕ). laid n []) (sym c.clear.auto.table))
 
 pub loop-i-preserved : goal.loop-i-preserved
 loop-i-preserved c =
-    let v = c.domain_at.ensures ∙ ap (reference_domain _ _) c.cell.ensures in (
-      omega (arith, c.loop-i-test.true),
-      column-turn _ _ c.loop-i.i c.loop-i.invariant.1 v c.put_row.ensures,
-    )
+    column-turn _ _ c.loop-i.i c.loop-i.invariant (c.domain_at-domain.ensures ∙ ap (reference_domain _ _) c.cell.ensures) c.put_row.ensures
 
 pub returns : goal.returns
-returns c = column-end _ _ c.clear.auto.table c.loop-i.invariant.0 c.loop-i-test.false c.loop-i.invariant.1
+returns c = column-end _ _ c.clear.auto.table (omega arith) c.loop-i-test.false c.loop-i.invariant

@@ -1,6 +1,5 @@
 -- `requirements::list_functions` meets its contract. Assumes nothing.
 use Prim.Native.Nat.{ℕ}
-use native.Mathlib.Omega.{arith}
 use mathlib.Core.Path.{sym, ◌∙◌, ap}
 use mathlib.Core.List.{[]}
 use Rattle.table.specs.Table.{laid}
@@ -10,21 +9,19 @@ use Rattle.requirements.proofs.module.list_functions.Goals.{then-cell-eq0, else-
 use Rattle.requirements.proofs.module.list_functions.Goals as goal
 
 pub loop-i-init : goal.loop-i-init
-loop-i-init c = (
-  omega arith,
-  fill-begin _ _ _ _ _ (c.clear.ensures ∙ ap (λ (k : ℕ). laid k []) (sym c.clear.auto.table))
-      (c.clear-2.ensures ∙ ap (λ (k : ℕ). laid k []) (sym c.clear-2.auto.table)),
-)
+loop-i-init c =
+    fill-begin _ _ _ _ _ (c.clear.ensures ∙ ap (λ (k : ℕ). laid k []) (sym c.clear.auto.table))
+    (c.clear-2.ensures ∙ ap (λ (k : ℕ). laid k []) (sym c.clear-2.auto.table))
 
 pub loop-i-preserved : goal.loop-i-preserved
 loop-i-preserved c =
-    let l = c.loop-i in (
-      omega arith,
-      elim c.if-cell-eq0.branch [
-        | then-cell-eq0 w ↦ fill-hit l.invariant.1 c.loop-i-test.true (kind-hit _ _ c.cell.ensures w.if-cell-eq0.true) (cc) (cc) w.found-is
-        | else-cell-eq0 w ↦ fill-miss l.invariant.1 c.loop-i-test.true (kind-miss _ _ c.cell.ensures w.if-cell-eq0.false) w.domains-is w.rows-is w.found-is
-      ],
-    )
+    let l = c.loop-i in
+    let t = c.loop-i-test.true in
+    elim c.if-cell-eq0.branch [
+      | then-cell-eq0 w ↦ fill-hit l.invariant t (kind-hit _ _ c.cell.ensures w.if-cell-eq0.true) (cc) (cc) w.found-is
+      | else-cell-eq0 w ↦
+          fill-miss l.invariant t (kind-miss _ _ c.cell.ensures w.if-cell-eq0.false) w.domains-is w.rows-is w.found-is
+    ]
 
 pub returns : goal.returns
-returns c = fill_end c.loop-i.invariant.1 c.loop-i-test.false c.clear.auto.table c.clear-2.auto.table
+returns c = fill_end c.loop-i.invariant c.loop-i-test.false c.clear.auto.table c.clear-2.auto.table

@@ -1,4 +1,3 @@
-use Prim.Native.Nat.{◌-◌, ◌≤◌}
 use lib.ListN.{length}
 use Rattle.import_rows.specs.Queries.{kind_is}
 use Rattle.requirements.specs.Requirements.{row_domain}
@@ -6,7 +5,6 @@ use Rattle.requirements.proofs.Filling.{Filling}
 use Rattle.requirements.proofs.module.list_functions.Given as goal
 
 abbrev pub invariant-loop-i : goal.invariant-loop-i
-invariant-loop-i l = (l.i ≤ l.n) × Filling (row_domain l.file l.imports) (kind_is l.imports 0) l.n (length l.initial.domains) (length l.initial.rows) l.domains l.rows l.found l.i
-
-abbrev pub decreases-loop-i : goal.decreases-loop-i
-decreases-loop-i l = l.n - l.i
+invariant-loop-i l =
+    Filling (row_domain l.file l.imports) (kind_is l.imports 0) l.n (length l.initial.domains) (length l.initial.rows) l.domains l.rows
+    l.found l.i

@@ -1,11 +1,7 @@
-use Prim.Native.Nat.{◌-◌, ◌≤◌}
 use Rattle.output.specs.Bytes.{Wrote}
 use Rattle.reasons.specs.Reasons.{reason_lines}
 use Rattle.reviewed.specs.Texts.{nth, violated_text}
 use Rattle.reviewed.proofs.lines.put_all_violated.Given as goal
 
 abbrev pub invariant-loop-d : goal.invariant-loop-d
-invariant-loop-d l = (l.d ≤ 7) × Wrote l.initial.out l.at l.go (reason_lines (λ k. violated_text k (nth l.verdicts k)) l.d) l.m l.out
-
-abbrev pub decreases-loop-d : goal.decreases-loop-d
-decreases-loop-d l = 7 - l.d
+invariant-loop-d l = Wrote l.initial.out l.at l.go (reason_lines (λ k. violated_text k (nth l.v-items k)) l.d) l.m l.out

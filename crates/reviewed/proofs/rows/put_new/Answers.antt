@@ -4,19 +4,13 @@ use Rattle.reasons.proofs.Lines.{lines-first, lines_next, lines-all}
 use Rattle.reviewed.proofs.rows.put_new.Goals as goal
 
 pub loop-i-init : goal.loop-i-init
-loop-i-init c = (omega arith, lines-first _ _ _ _ (omega arith))
-
-pub overflow_add-i : goal.overflow_add-i
-overflow_add-i c = omega arith
-
-pub loop-i-smaller : goal.loop-i-smaller
-loop-i-smaller c = omega arith
+loop-i-init c = lines-first _ _ _ _ (omega arith)
 
 pub loop-i-preserved : goal.loop-i-preserved
-loop-i-preserved c = (omega arith, lines_next _ _ c.loop-i.invariant.1 c.put_added_row-m.ensures)
+loop-i-preserved c = lines_next _ _ c.loop-i.invariant c.put_added_row-m.ensures
 
 pub shape_of-out : goal.shape_of-out
-shape_of-out c = c.loop-i.invariant.1.long
+shape_of-out c = c.loop-i.invariant.long
 
 pub returns : goal.returns
-returns c = lines-all _ c.loop-i.invariant.1 (omega arith)
+returns c = lines-all _ c.loop-i.invariant (omega arith)

@@ -1,11 +1,7 @@
-use Prim.Native.Nat.{◌-◌, ◌≤◌}
 use Rattle.output.specs.Bytes.{Wrote}
 use Rattle.reasons.specs.Reasons.{reason_lines}
 use Rattle.reviewed.specs.Review.{violation_row}
 use Rattle.reviewed.proofs.rows.put_violations.Given as goal
 
 abbrev pub invariant-loop-i : goal.invariant-loop-i
-invariant-loop-i l = (l.i ≤ l.n) × Wrote l.initial.out l.at l.go (reason_lines (violation_row l.file l.imports l.verdicts) l.i) l.m l.out
-
-abbrev pub decreases-loop-i : goal.decreases-loop-i
-decreases-loop-i l = l.n - l.i
+invariant-loop-i l = Wrote l.initial.out l.at l.go (reason_lines (violation_row l.file l.imports l.verdicts) l.i) l.m l.out

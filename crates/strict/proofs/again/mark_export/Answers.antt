@@ -1,27 +1,17 @@
 -- `strict::again::mark_export` meets its contract. Assumes nothing.
-use mathlib.Core.Path.{sym, ◌∙◌, ap}
-use Rattle.leb.proofs.Answering.{hear}
-use Rattle.leb.specs.Answers.{said_byte, why_byte}
-use Rattle.refusal.proofs.Following.{stops, goes}
-use Rattle.strict.specs.Again.{said_marked, why_marked, export_marks}
+use Rattle.strict.proofs.Marking.{comes, falls, found}
+use Rattle.strict.specs.Again.{export_marks}
 use Rattle.strict.proofs.again.mark_export.Goals as goal
 
-pub returns-in_default : goal.returns-in_default
+pub returns-in_err-k : goal.returns-in_err-k
 unfolding export_marks
-returns-in_default c =
-    let e = c.in_default.is in
-    stops _ (sym c.mark_part-one.ensures ∙ ap said_marked e) (c.why.ensures ∙ ap why_marked e)
+returns-in_err-k c = falls _ _ _ c.in_err-k.ensures c.from_residual.ensures.1
 
-pub returns-in_default-two : goal.returns-in_default-two
+pub returns-in_err-after_kind : goal.returns-in_err-after_kind
 unfolding export_marks
-returns-in_default-two c =
-    let e = c.in_default-two.is in
-    goes _ (sym c.mark_part-one.ensures ∙ ap said_marked c.in-Read.is)
-    (stops _ (hear said_byte _ _ c.u8-two.ensures e) (c.why-in_default-two.ensures ∙ ap why_byte e))
+returns-in_err-after_kind c =
+    comes _ c.in_ok-k.ensures (falls _ _ _ (found _ c.in_err-after_kind.ensures) c.from_residual-in_err-after_kind.ensures.1)
 
 pub returns : goal.returns
 unfolding export_marks
-returns c =
-    goes _ (sym c.mark_part-one.ensures ∙ ap said_marked c.in-Read.is)
-    (goes _ (hear said_byte _ _ c.u8-two.ensures c.in-Read-two.is)
-    c.mark_number.ensures)
+returns c = comes _ c.in_ok-k.ensures (comes _ (found _ c.in_ok-after_kind.ensures) c.mark_number.ensures)

@@ -1,27 +1,20 @@
 -- `strict::again::mark_global` meets its contract. Assumes nothing.
-use mathlib.Core.Path.{◌∙◌, ap}
-use Rattle.leb.proofs.Answering.{hear}
-use Rattle.leb.specs.Answers.{said_byte, why_byte}
-use Rattle.refusal.proofs.Following.{stops, goes}
+use Rattle.strict.proofs.Marking.{comes, falls, found}
 use Rattle.strict.specs.Again.{global_marks}
 use Rattle.strict.proofs.again.mark_global.Goals as goal
 
-pub returns-in_default : goal.returns-in_default
+pub returns-in_err-after_value : goal.returns-in_err-after_value
 unfolding global_marks
-returns-in_default c =
-    let e = c.in_default.is in
-    stops _ (hear said_byte _ _ c.u8-one.ensures e) (c.why.ensures ∙ ap why_byte e)
+returns-in_err-after_value c = falls _ _ _ (found _ c.in_err-after_value.ensures) c.from_residual.ensures.1
 
-pub returns-in_default-two : goal.returns-in_default-two
+pub returns-in_err-mutable : goal.returns-in_err-mutable
 unfolding global_marks
-returns-in_default-two c =
-    let e = c.in_default-two.is in
-    goes _ (hear said_byte _ _ c.u8-one.ensures c.in-Read.is)
-    (stops _ (hear said_byte _ _ c.u8-two.ensures e) (c.why-in_default-two.ensures ∙ ap why_byte e))
+returns-in_err-mutable c =
+    comes _ (found _ c.in_ok-after_value.ensures)
+    (falls _ _ _ (found _ c.in_err-mutable.ensures) c.from_residual-in_err-mutable.ensures.1)
 
 pub returns : goal.returns
 unfolding global_marks
 returns c =
-    goes _ (hear said_byte _ _ c.u8-one.ensures c.in-Read.is)
-    (goes _ (hear said_byte _ _ c.u8-two.ensures c.in-Read-two.is)
-    (simp c.with_flag.ensures))
+    comes _ (found _ c.in_ok-after_value.ensures)
+    (comes _ (found _ c.in_ok-mutable.ensures) (simp c.with_flag.ensures))

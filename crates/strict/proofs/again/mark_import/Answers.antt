@@ -1,36 +1,24 @@
 -- `strict::again::mark_import` meets its contract. Assumes nothing.
-use mathlib.Core.Path.{sym, ◌∙◌, ap}
-use Rattle.leb.proofs.Answering.{hear}
-use Rattle.leb.specs.Answers.{said_byte, why_byte}
-use Rattle.refusal.proofs.Following.{stops, goes}
-use Rattle.strict.specs.Again.{said_marked, why_marked, import_marks}
+use Rattle.strict.proofs.Marking.{comes, falls, found}
+use Rattle.strict.specs.Again.{import_marks}
 use Rattle.strict.proofs.again.mark_import.Goals as goal
 
-pub returns-in_default : goal.returns-in_default
+pub returns-in_err-k : goal.returns-in_err-k
 unfolding import_marks
-returns-in_default c =
-    let e = c.in_default.is in
-    stops _ (sym c.mark_part-one.ensures ∙ ap said_marked e) (c.why.ensures ∙ ap why_marked e)
+returns-in_err-k c = falls _ _ _ c.in_err-k.ensures c.from_residual.ensures.1
 
-pub returns-in_default-two : goal.returns-in_default-two
+pub returns-in_err-l : goal.returns-in_err-l
 unfolding import_marks
-returns-in_default-two c =
-    let e = c.in_default-two.is in
-    goes _ (sym c.mark_part-one.ensures ∙ ap said_marked c.in-Read.is)
-    (stops _ (sym c.mark_part-two.ensures ∙ ap said_marked e) (c.why-in_default-two.ensures ∙ ap why_marked e))
+returns-in_err-l c = comes _ c.in_ok-k.ensures (falls _ _ _ c.in_err-l.ensures c.from_residual-in_err-l.ensures.1)
 
-pub returns-in_default-three : goal.returns-in_default-three
+pub returns-in_err-kind : goal.returns-in_err-kind
 unfolding import_marks
-returns-in_default-three c =
-    let e = c.in_default-three.is in
-    goes _ (sym c.mark_part-one.ensures ∙ ap said_marked c.in-Read.is)
-    (goes _ (sym c.mark_part-two.ensures ∙ ap said_marked c.in-Read-two.is)
-    (stops _ (hear said_byte _ _ c.u8-three.ensures e) (c.why-in_default-three.ensures ∙ ap why_byte e)))
+returns-in_err-kind c =
+    comes _ c.in_ok-k.ensures
+    (comes _ c.in_ok-l.ensures (falls _ _ _ (found _ c.in_err-kind.ensures) c.from_residual-in_err-kind.ensures.1))
 
 pub returns : goal.returns
 unfolding import_marks
 returns c =
-    goes _ (sym c.mark_part-one.ensures ∙ ap said_marked c.in-Read.is)
-    (goes _ (sym c.mark_part-two.ensures ∙ ap said_marked c.in-Read-two.is)
-    (goes _ (hear said_byte _ _ c.u8-three.ensures c.in-Read-three.is)
-    c.mark_desc.ensures))
+    comes _ c.in_ok-k.ensures
+    (comes _ c.in_ok-l.ensures (comes _ (found _ c.in_ok-kind.ensures) c.mark_desc.ensures))

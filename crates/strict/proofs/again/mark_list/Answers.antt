@@ -1,17 +1,12 @@
 -- `strict::again::mark_list` meets its contract. Assumes nothing.
-use mathlib.Core.Path.{sym, ◌∙◌, ap}
-use Rattle.refusal.proofs.Following.{stops, goes}
-use Rattle.strict.specs.Again.{said_marked, why_marked, list_marks}
+use Rattle.strict.proofs.Marking.{comes, falls}
+use Rattle.strict.specs.Again.{list_marks}
 use Rattle.strict.proofs.again.mark_list.Goals as goal
 
-pub returns-in_default : goal.returns-in_default
+pub returns-in_err-k : goal.returns-in_err-k
 unfolding list_marks
-returns-in_default c =
-    let e = c.in_default.is in
-    stops _ (sym c.mark_run-one.ensures ∙ ap said_marked e) (c.why.ensures ∙ ap why_marked e)
+returns-in_err-k c = falls _ _ _ c.in_err-k.ensures c.from_residual.ensures.1
 
 pub returns : goal.returns
 unfolding list_marks
-returns c =
-    goes _ (sym c.mark_run-one.ensures ∙ ap said_marked c.in-Read.is)
-    (simp c.with_entries.ensures)
+returns c = comes _ c.in_ok-k.ensures (simp c.with_entries.ensures)

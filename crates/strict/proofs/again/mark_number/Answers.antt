@@ -1,26 +1,20 @@
 -- `strict::again::mark_number` meets its contract. Assumes nothing.
-use mathlib.Core.Path.{◌∙◌, ap}
-use Rattle.leb.proofs.Answering.{hear}
-use Rattle.leb.proofs.Bounds.{u32-in}
-use Rattle.leb.specs.Answers.{said_u32, why_u32}
-use Rattle.refusal.proofs.Following.{stops, goes}
-use Rattle.strict.specs.Again.{number_marks}
 use native.Mathlib.Omega.{arith}
+use mathlib.Core.Path.{sym}
+use Rattle.leb.proofs.Bounds.{u32-in}
+use Rattle.strict.proofs.Marking.{comes, falls}
+use Rattle.strict.specs.Again.{number_marks}
 use Rattle.strict.proofs.again.mark_number.Goals as goal
 
-pub returns-in_default : goal.returns-in_default
+pub returns-in_err-next : goal.returns-in_err-next
 unfolding number_marks
-returns-in_default c =
-    let e = c.in_default.is in
-    stops _ (hear said_u32 _ _ c.read_number-one.ensures e) (c.why.ensures ∙ ap why_u32 e)
+returns-in_err-next c = falls _ _ _ c.in_err-next.ensures c.from_residual.ensures.1
 
 pub overflow_sub-next : goal.overflow_sub-next
 overflow_sub-next c =
-    let w = u32-in _ _ _ _ (hear said_u32 _ _ c.read_number-one.ensures c.in-Read.is) in
+    let w = u32-in _ _ _ _ (sym c.in_ok-next.ensures) in
     omega (arith, w.0.past)
 
 pub returns : goal.returns
 unfolding number_marks
-returns c =
-    goes _ (hear said_u32 _ _ c.read_number-one.ensures c.in-Read.is)
-    (simp c.with_number.ensures)
+returns c = comes _ c.in_ok-next.ensures (simp c.with_number.ensures)

@@ -1,17 +1,12 @@
 -- `strict::again::mark_symbol` meets its contract. Assumes nothing.
-use mathlib.Core.Path.{sym, ◌∙◌, ap}
-use Rattle.refusal.proofs.Following.{stops, goes}
-use Rattle.strict.specs.Again.{said_marked, why_marked, symbol_marks}
+use Rattle.strict.proofs.Marking.{comes, falls}
+use Rattle.strict.specs.Again.{symbol_marks}
 use Rattle.strict.proofs.again.mark_symbol.Goals as goal
 
-pub returns-in_default : goal.returns-in_default
+pub returns-in_err-k : goal.returns-in_err-k
 unfolding symbol_marks
-returns-in_default c =
-    let e = c.in_default.is in
-    stops _ (sym c.mark_number-one.ensures ∙ ap said_marked e) (c.why.ensures ∙ ap why_marked e)
+returns-in_err-k c = falls _ _ _ c.in_err-k.ensures c.from_residual.ensures.1
 
 pub returns : goal.returns
 unfolding symbol_marks
-returns c =
-    goes _ (sym c.mark_number-one.ensures ∙ ap said_marked c.in-Read.is)
-    c.mark_part.ensures
+returns c = comes _ c.in_ok-k.ensures c.mark_part.ensures

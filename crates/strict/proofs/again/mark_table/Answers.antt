@@ -1,19 +1,12 @@
 -- `strict::again::mark_table` meets its contract. Assumes nothing.
-use mathlib.Core.Path.{◌∙◌, ap}
-use Rattle.leb.proofs.Answering.{hear}
-use Rattle.leb.specs.Answers.{said_byte, why_byte}
-use Rattle.refusal.proofs.Following.{stops, goes}
+use Rattle.strict.proofs.Marking.{comes, falls, found}
 use Rattle.strict.specs.Again.{table_marks}
 use Rattle.strict.proofs.again.mark_table.Goals as goal
 
-pub returns-in_default : goal.returns-in_default
+pub returns-in_err-after_element : goal.returns-in_err-after_element
 unfolding table_marks
-returns-in_default c =
-    let e = c.in_default.is in
-    stops _ (hear said_byte _ _ c.u8-one.ensures e) (c.why.ensures ∙ ap why_byte e)
+returns-in_err-after_element c = falls _ _ _ (found _ c.in_err-after_element.ensures) c.from_residual.ensures.1
 
 pub returns : goal.returns
 unfolding table_marks
-returns c =
-    goes _ (hear said_byte _ _ c.u8-one.ensures c.in-Read.is)
-    c.mark_limits.ensures
+returns c = comes _ (found _ c.in_ok-after_element.ensures) c.mark_limits.ensures

@@ -1,7 +1,5 @@
 -- `strict::quick::all_new` meets its contract: the names from row i on are different, and their prints are marked. Assumes nothing.
-use mathlib.Core.Bool.{false≢true}
 use mathlib.Core.Path.{refl}
-use borrow.Author.Tests.{not-false}
 use Rattle.strict.proofs.Newness.{row_named, look-start, look-on, look-end}
 use native.Mathlib.Omega.{arith}
 use Rattle.strict.proofs.quick.all_new.Goals as goal
@@ -9,35 +7,14 @@ use Rattle.strict.proofs.quick.all_new.Goals as goal
 pub loop-i-init : goal.loop-i-init
 loop-i-init c = (look-start _ _ _ _ _ _, refl)
 
-pub overflow_sub-i : goal.overflow_sub-i
-overflow_sub-i c = omega arith
-
-pub is_new-requires : goal.is_new-requires
-is_new-requires c = omega arith
-
-pub shape_of-marks-then-not-is_new : goal.shape_of-marks-then-not-is_new
-shape_of-marks-then-not-is_new c = omega arith
-
-pub returns-then-not-is_new : goal.returns-then-not-is_new
-returns-then-not-is_new c = λ e. absurd (false≢true e)
-
-pub note-requires : goal.note-requires
-note-requires c = omega arith
-
-pub loop-i-smaller : goal.loop-i-smaller
-loop-i-smaller c = omega arith
-
 pub loop-i-preserved : goal.loop-i-preserved
 loop-i-preserved c =
     let l = c.loop-i in (
       look-on _ _ _ _ _ l.invariant.0 (omega (arith, c.loop-i-test.true))
           (row_named _ _ _ c.range.ensures.0 c.cell-from.ensures c.cell-len.ensures)
-          c.print_of-print.ensures (c.is_new.ensures (not-false _ c.if-not-is_new.false-raw)) c.note.ensures,
+          c.print_of-print.ensures (c.if-not-is_new.ensures refl) c.note.ensures,
       omega (arith, c.note.ensures.as_long, l.invariant.1),
     )
-
-pub shape_of-marks : goal.shape_of-marks
-shape_of-marks c = c.loop-i.invariant.1
 
 pub returns : goal.returns
 returns c = λ e. look-end _ _ _ _ _ c.loop-i.invariant.0 c.loop-i-test.false

@@ -1,11 +1,8 @@
 use mathlib.Core.Path.{◌≡◌}
-use Prim.Native.Nat.{◌-◌, ◌≤◌, ◌<◌}
-use lib.ListN.{length, drop}
+use Prim.Native.Nat.{◌<◌}
+use lib.ListN.{drop}
 use Rattle.strict.specs.Quick.{mixed}
 use Rattle.strict.proofs.quick.mix.Given as goal
 
-abbrev pub invariant-loop-i : goal.invariant-loop-i
-invariant-loop-i l = (l.i ≤ length l.bytes) × (l.print < 4294967296) × (mixed l.print (drop l.i l.bytes) ≡ mixed l.start l.bytes)
-
-abbrev pub decreases-loop-i : goal.decreases-loop-i
-decreases-loop-i l = length l.bytes - l.i
+abbrev pub invariant-loop-byte : goal.invariant-loop-byte
+invariant-loop-byte l = (l.print < 4294967296) × (mixed l.print (drop l.byte-index l.bytes) ≡ mixed l.start l.bytes)

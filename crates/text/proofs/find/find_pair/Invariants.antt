@@ -1,12 +1,8 @@
 use mathlib.Core.Path.{◌≡◌}
-use mathlib.Core.List.{[], ◌∷◌}
-use Prim.Native.Nat.{◌+◌, ◌-◌, ◌≤◌}
-use lib.ListN.{length, drop}
-use Rattle.text.specs.Find.{index_of2, seek, begins}
+use Prim.Native.Nat.{◌+◌}
+use lib.ListN.{drop}
+use Rattle.text.specs.Find.{index_of2}
 use Rattle.text.proofs.find.find_pair.Given as goal
 
 abbrev pub invariant-loop-i : goal.invariant-loop-i
-invariant-loop-i l = (l.i ≤ length l.s) × (index_of2 l.a l.b l.s ≡ l.i + seek (begins (l.a ∷ l.b ∷ [])) (drop l.i l.s))
-
-abbrev pub decreases-loop-i : goal.decreases-loop-i
-decreases-loop-i l = length l.s - l.i
+invariant-loop-i l = index_of2 l.a l.b l.s ≡ l.i + index_of2 l.a l.b (drop l.i l.s)

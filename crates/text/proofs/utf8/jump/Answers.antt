@@ -4,9 +4,6 @@ use native.Mathlib.Omega.{arith}
 use Rattle.text.proofs.FastLaws.{jump-eight, jump-on, jump-one, jump-step}
 use Rattle.text.proofs.utf8.jump.Goals as goal
 
-pub run-requires : goal.run-requires
-run-requires c = omega arith
-
 pub returns-then-low-high-lt128 : goal.returns-then-low-high-lt128
 returns-then-low-high-lt128 c =
     let a = c.args in

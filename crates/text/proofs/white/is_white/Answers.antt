@@ -1,93 +1,48 @@
 -- `is_white` meets its contract: what a line of the list takes is White_Space, and what no line takes is not. Assumes nothing.
-use borrow.Author.Rules.{rules}
 use Rattle.text.specs.Ranges.{in_some}
 use Rattle.text.specs.White.{whites, is_white}
 use Rattle.text.proofs.CharLaws.{white-in, missed, only}
 use Rattle.text.proofs.white.is_white.Goals as goal
 
-pub in_range-requires : goal.in_range-requires
-unfolding whites
-in_range-requires c = search rules
-
 pub returns-then-in_range : goal.returns-then-in_range
 unfolding whites
 returns-then-in_range c = white-in 0x9 0xD _ tt c.in_range.ensures c.if-in_range.true
-
-pub in_range-requires-2 : goal.in_range-requires-2
-unfolding whites
-in_range-requires-2 c = search rules
 
 pub returns-then-in_range-2 : goal.returns-then-in_range-2
 unfolding whites
 returns-then-in_range-2 c = white-in 0x20 0x20 _ tt c.in_range-2.ensures c.if-in_range-2.true
 
-pub in_range-requires-3 : goal.in_range-requires-3
-unfolding whites
-in_range-requires-3 c = search rules
-
 pub returns-then-in_range-3 : goal.returns-then-in_range-3
 unfolding whites
 returns-then-in_range-3 c = white-in 0x85 0x85 _ tt c.in_range-3.ensures c.if-in_range-3.true
-
-pub in_range-requires-4 : goal.in_range-requires-4
-unfolding whites
-in_range-requires-4 c = search rules
 
 pub returns-then-in_range-4 : goal.returns-then-in_range-4
 unfolding whites
 returns-then-in_range-4 c = white-in 0xA0 0xA0 _ tt c.in_range-4.ensures c.if-in_range-4.true
 
-pub in_range-requires-5 : goal.in_range-requires-5
-unfolding whites
-in_range-requires-5 c = search rules
-
 pub returns-then-in_range-5 : goal.returns-then-in_range-5
 unfolding whites
 returns-then-in_range-5 c = white-in 0x1680 0x1680 _ tt c.in_range-5.ensures c.if-in_range-5.true
-
-pub in_range-requires-6 : goal.in_range-requires-6
-unfolding whites
-in_range-requires-6 c = search rules
 
 pub returns-then-in_range-6 : goal.returns-then-in_range-6
 unfolding whites
 returns-then-in_range-6 c = white-in 0x2000 0x200A _ tt c.in_range-6.ensures c.if-in_range-6.true
 
-pub in_range-requires-7 : goal.in_range-requires-7
-unfolding whites
-in_range-requires-7 c = search rules
-
 pub returns-then-in_range-7 : goal.returns-then-in_range-7
 unfolding whites
 returns-then-in_range-7 c = white-in 0x2028 0x2028 _ tt c.in_range-7.ensures c.if-in_range-7.true
-
-pub in_range-requires-8 : goal.in_range-requires-8
-unfolding whites
-in_range-requires-8 c = search rules
 
 pub returns-then-in_range-8 : goal.returns-then-in_range-8
 unfolding whites
 returns-then-in_range-8 c = white-in 0x2029 0x2029 _ tt c.in_range-8.ensures c.if-in_range-8.true
 
-pub in_range-requires-9 : goal.in_range-requires-9
-unfolding whites
-in_range-requires-9 c = search rules
-
 pub returns-then-in_range-9 : goal.returns-then-in_range-9
 unfolding whites
 returns-then-in_range-9 c = white-in 0x202F 0x202F _ tt c.in_range-9.ensures c.if-in_range-9.true
 
-pub in_range-requires-10 : goal.in_range-requires-10
-unfolding whites
-in_range-requires-10 c = search rules
-
 pub returns-then-in_range-10 : goal.returns-then-in_range-10
 unfolding whites
 returns-then-in_range-10 c = white-in 0x205F 0x205F _ tt c.in_range-10.ensures c.if-in_range-10.true
-
-pub in_range-requires-11 : goal.in_range-requires-11
-unfolding whites
-in_range-requires-11 c = search rules
 
 pub returns : goal.returns
 unfolding is_white whites in_some

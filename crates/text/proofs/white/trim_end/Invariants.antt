@@ -1,11 +1,7 @@
 use mathlib.Core.Path.{◌≡◌}
-use Prim.Native.Nat.{◌≤◌}
-use lib.ListN.{length, take}
+use lib.ListN.{take}
 use Rattle.text.specs.Trim.{trim_end}
 use Rattle.text.proofs.white.trim_end.Given as goal
 
-abbrev pub invariant-loop-end : goal.invariant-loop-end
-invariant-loop-end l = (l.end ≤ length l.s) × (trim_end l.s ≡ trim_end (take l.end l.s))
-
-abbrev pub decreases-loop-end : goal.decreases-loop-end
-decreases-loop-end l = l.end
+abbrev pub invariant-loop-i : goal.invariant-loop-i
+invariant-loop-i l = trim_end l.s ≡ trim_end (take l.i l.s)

@@ -1,65 +1,34 @@
 -- `wasm::custom::read_custom` meets its contract. Assumes nothing.
-use mathlib.Core.Path.{◌≡◌, sym, ◌∙◌, ap}
-use native.Mathlib.Omega.{arith}
-use Rattle.refusal.specs.Said.{accepted, got}
+use mathlib.Core.Path.{refl, sym, ◌∙◌}
 use Rattle.table.proofs.Telling.{tell-first}
-use Rattle.leb.specs.Answers.{said_part, why_part}
-use Rattle.leb.specs.Reads.{name_at}
-use Rattle.leb.proofs.Answering.{hear}
-use Rattle.leb.proofs.Bounds.{name_in}
-use Rattle.wasm.specs.Custom.{custom_at, name_word, said_named}
+use Rattle.wasm.specs.Custom.{custom_at, name_word}
 use Rattle.wasm.proofs.Customs.{cut, custom-plain, custom-stop, custom-names}
+use Rattle.wasm.proofs.Reading.{heard, unheard, given_back}
 use Rattle.wasm.proofs.custom.read_custom.Goals as goal
 
-pub returns-in_default : goal.returns-in_default
+pub returns-in_err-p : goal.returns-in_err-p
 unfolding custom_at
-returns-in_default c t n h =
-    let e = c.in_default.is in
-    tell-first _ (hear said_part _ _ c.name-one.ensures (e)) (c.why.ensures ∙ ap why_part e)
-
-pub shift-name-requires : goal.shift-name-requires
-shift-name-requires c =
-    let named : name_at c.args.s.now 0 ≡ accepted (got c.in-Read.p c.in-Read.c.at) = hear said_part _ _ c.name-one.ensures c.in-Read.is in
-    let w = name_in _ _ _ _ (named) in omega
-    (arith, w.end, w.in-s, c.requires)
-
-pub overflow_add-end : goal.overflow_add-end
-overflow_add-end c =
-    let named : name_at c.args.s.now 0 ≡ accepted (got c.in-Read.p c.in-Read.c.at) = hear said_part _ _ c.name-one.ensures c.in-Read.is in
-    let w = name_in _ _ _ _ (named) in omega
-    (arith, w.end, w.in-s, c.requires)
-
-pub slice_bounds-equal-end : goal.slice_bounds-equal-end
-slice_bounds-equal-end c =
-    let named : name_at c.args.s.now 0 ≡ accepted (got c.in-Read.p c.in-Read.c.at) = hear said_part _ _ c.name-one.ensures c.in-Read.is in
-    let w = name_in _ _ _ _ (named) in omega (arith, w.end, w.in-s)
+returns-in_err-p c t n h =
+    rw (given_back _ _ c.from_residual.ensures) (tell-first _ (unheard _ _ _ c.in_err-p.ensures) refl)
 
 pub returns-then-not-equal : goal.returns-then-not-equal
 unfolding name_word
 returns-then-not-equal c t n h =
-    let named : name_at c.args.s.now 0 ≡ accepted (got c.in-Read.p c.in-Read.c.at) = hear said_part _ _ c.name-one.ensures c.in-Read.is in
-    let p = c.in-Read.p in
-    custom-plain _ _ _ t _ _ (named) _
-    (cut p.from p.len c.args.s.now) _ c.shift-name.ensures
+    let p = c.in_ok-p.p in
+    custom-plain _ _ _ t _ _ (heard _ _ c.in_ok-p.ensures) _ (cut p.from p.len c.args.s.now) _ c.shift-name.ensures
     (sym c.equal.ensures ∙ c.if-not-equal.true) _ _ n h
 
-pub returns-in-Refused : goal.returns-in-Refused
+pub returns-in_err-inner : goal.returns-in_err-inner
 unfolding name_word
-returns-in-Refused c t n h =
-    let named : name_at c.args.s.now 0 ≡ accepted (got c.in-Read.p c.in-Read.c.at) = hear said_part _ _ c.name-one.ensures c.in-Read.is in
-    let p = c.in-Read.p in
-    custom-stop _ _ _ t _ _ (named) _ (cut p.from p.len c.args.s.now) _
-    c.shift-name.ensures
-    (sym c.equal.ensures ∙ c.if-not-equal.false) _
-    (c.read_subsections.ensures t n h) (ap said_named c.in-Refused.is)
+returns-in_err-inner c t n h =
+    let p = c.in_ok-p.p in
+    rw (given_back _ _ c.from_residual-in_err-inner.ensures)
+    (custom-stop _ _ _ t _ _ (heard _ _ c.in_ok-p.ensures) _ (cut p.from p.len c.args.s.now) _ c.shift-name.ensures
+    (sym c.equal.ensures ∙ c.if-not-equal.false) _ (c.in_err-inner.ensures t n h) refl)
 
-pub returns-in-Read-read_subsections : goal.returns-in-Read-read_subsections
+pub returns : goal.returns
 unfolding name_word
-returns-in-Read-read_subsections c t n h =
-    let named : name_at c.args.s.now 0 ≡ accepted (got c.in-Read.p c.in-Read.c.at) = hear said_part _ _ c.name-one.ensures c.in-Read.is in
-    let p = c.in-Read.p in
-    custom-names _ _ _ t _ _ (named) _
-    (cut p.from p.len c.args.s.now) _ c.shift-name.ensures
-    (sym c.equal.ensures ∙ c.if-not-equal.false) _
-    (c.read_subsections.ensures t n h)
-    (ap said_named c.in-Read-read_subsections.is)
+returns c t n h =
+    let p = c.in_ok-p.p in
+    custom-names _ _ _ t _ _ (heard _ _ c.in_ok-p.ensures) _ (cut p.from p.len c.args.s.now) _ c.shift-name.ensures
+    (sym c.equal.ensures ∙ c.if-not-equal.false) _ (c.in_ok-inner.ensures t n h) refl

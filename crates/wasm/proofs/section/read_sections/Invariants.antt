@@ -8,10 +8,12 @@ use Rattle.wasm.specs.Module.{counts_of}
 use Rattle.wasm.proofs.section.read_sections.Given as goal
 
 abbrev pub invariant-loop-c : goal.invariant-loop-c
-invariant-loop-c l = Going counts_of (Holds (lend l.sections l.imports l.exports l.names) (sizes l.initial.sections l.initial.imports l.initial.exports l.initial.names)) l.n
-    (section_at l.file (sizes l.initial.sections l.initial.imports l.initial.exports l.initial.names)) l.file
-    (walk_from (section_at l.file (sizes l.initial.sections l.initial.imports l.initial.exports l.initial.names)) l.file l.initial.c.at no_tables) l.c.at
-    × (sizes l.sections l.imports l.exports l.names ≡ sizes l.initial.sections l.initial.imports l.initial.exports l.initial.names)
+invariant-loop-c l =
+    let i = l.initial in
+    let z = sizes i.sections i.imports i.exports i.names in
+    let held = Holds (lend l.sections l.imports l.exports l.names) z in
+    Going counts_of held l.n (section_at l.file z) l.file (walk_from (section_at l.file z) l.file i.c.at no_tables) l.c.at
+    × (sizes l.sections l.imports l.exports l.names ≡ z)
 
 abbrev pub decreases-loop-c : goal.decreases-loop-c
 decreases-loop-c l = length l.file - l.c.at

@@ -9,19 +9,10 @@ pub loop-i-init : goal.loop-i-init
 unfolding boundary
 loop-i-init c = omega arith
 
-pub splits_at-requires : goal.splits_at-requires
-splits_at-requires c = omega arith
-
 pub returns-then-splits_at : goal.returns-then-splits_at
 returns-then-splits_at c =
     let yes = sym c.splits_at.ensures ∙ c.if-splits_at.true in
     omega (arith, seek_hit splits c.args.s.now c.loop-i.i (omega arith) yes)
-
-pub overflow_add-i : goal.overflow_add-i
-overflow_add-i c = omega arith
-
-pub loop-i-smaller : goal.loop-i-smaller
-loop-i-smaller c = omega arith
 
 pub loop-i-preserved : goal.loop-i-preserved
 loop-i-preserved c =

@@ -1,6 +1,6 @@
 -- `strict::again::Marks::with_entries` meets its contract. Assumes nothing.
 use Rattle.strict.specs.Again.{with_entries}
-use borrow.Author.Tests.{ne_eqb, eq-eqb}
+use borrow.Author.Tests.{eq-eqb, ne_eqb}
 use Rattle.strict.proofs.again.Marks.with_entries.Goals as goal
 
 pub returns-then-at-size : goal.returns-then-at-size

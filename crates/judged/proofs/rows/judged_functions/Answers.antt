@@ -1,7 +1,0 @@
--- `judged_functions` meets its contract. Assumes nothing.
-use mathlib.Core.Path.{◌∙◌, ap}
-use Rattle.judged.specs.Rows.{count_told}
-use Rattle.judged.proofs.rows.judged_functions.Goals as goal
-
-pub returns : goal.returns
-returns c = c.count_of.ensures ∙ ap count_told c.imported_functions.ensures

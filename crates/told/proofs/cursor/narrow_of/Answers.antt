@@ -1,8 +1,0 @@
--- `narrow_of` meets its contract. Assumes nothing.
-use Rattle.told.proofs.cursor.narrow_of.Goals as goal
-
-pub returns-in-Read : goal.returns-in-Read
-returns-in-Read c = rw c.in-Read.is
-
-pub returns-in-Refused : goal.returns-in-Refused
-returns-in-Refused c = rw (c.in-Refused.is, c.number.ensures, c.place.ensures)
