@@ -162,6 +162,7 @@ static void make_modules(void) {
     put(open_bytes(modules, &module_count, "version 0"), "\0asm\0\0\0\0", 8);
     module("no sections");
     put(module("nine sections"), "\1\0\1\0\1\0\1\0\1\0\1\0\1\0\1\0\1\0", 18);
+    put(module("seventeen sections"), "\1\0\1\0\1\0\1\0\1\0\1\0\1\0\1\0\1\0\1\0\1\0\1\0\1\0\1\0\1\0\1\0\1\0", 34);
     full("full tables", "one", 0);
     full("full tables, others", "two", 0);
     full("full tables, a source each", "one", 1);

@@ -161,11 +161,12 @@ struct viscrombal_comparison {
 uint32_t viscrombal_interface(void);
 
 /* The stack that a call needs, with its caller's frame: no file needs more. Calls keep their tables there, so that how deep one goes
- * depends on the file: viscrombal_module needs 2 KB for eight sections, and all that is stated for nine. On a smaller stack it ends in the
- * guard page, by a signal, and overwrites nothing: large frames are touched page by page. Each number is the deepest chain of frames of the
- * proved archive, which the worst files are measured to reach, with 512 bytes for the caller, rounded up to pages of 4,096 bytes
- * (include/stack). memcpy and memset of the C library are called besides: a program that binds them at their first call, and not when it
- * starts (-z now), needs what that takes, some KB, on top. NUMBER is for the interface's number, numbers and names. */
+ * depends on the file: viscrombal_module needs some 2 KB for eight sections, some 4 KB for sixteen, and all that is stated for seventeen.
+ * On a smaller stack it ends in the guard page, by a signal, and overwrites nothing: large frames are touched page by page. Each number is
+ * the deepest chain of frames of the proved archive, which the worst files are measured to reach, with 512 bytes for the caller, rounded up
+ * to pages of 4,096 bytes (include/stack). memcpy, memmove and memset of the C library are called besides: a program that binds them at
+ * their first call, and not when it starts (-z now), needs what that takes, some KB, on top. NUMBER is for the interface's number, numbers
+ * and names. */
 #define VISCROMBAL_STACK_NUMBER 4096
 #define VISCROMBAL_STACK_POLICY 4096
 #define VISCROMBAL_STACK_TOKEN 4096
@@ -175,7 +176,7 @@ uint32_t viscrombal_interface(void);
 #define VISCROMBAL_STACK_STRICT 311296
 #define VISCROMBAL_STACK_MODULE 241664
 #define VISCROMBAL_STACK_MANIFEST 77824
-#define VISCROMBAL_STACK_COMPARE 561152
+#define VISCROMBAL_STACK_COMPARE 512000
 
 /* Reads at offset `at` of the bytes s[0] to s[len - 1]. */
 struct viscrombal_unsigned viscrombal_uleb128(const uint8_t *s, size_t len, size_t at);

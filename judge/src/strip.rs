@@ -2,7 +2,7 @@
 //! Ghost lines, clauses and what tells the prover how to search go.
 
 /// How a line begins that is no Rust.
-const FOR_THE_PROVER: [&str; 4] = ["ghost use ", "#![tactic(", "#[tactic(", "#[cycle("];
+const FOR_THE_PROVER: [&str; 5] = ["ghost ", "#![tactic(", "#[tactic(", "#[cycle(", "#[derive(Drop)]"];
 
 /// The source of a file of Rattle as Rust; of Rust, itself.
 pub fn stripped(source: &str) -> String {

@@ -2,11 +2,11 @@
 ghost use Rattle.std.specs.Prelude.{◌≡◌, length};
 ghost use Rattle.output.specs.Bytes.{WriterTells};
 ghost use Rattle.policy.specs.Reader.{read_policy};
-ghost use Rattle.capi.specs.Policies.{stance_number, rule_told, policy_shown, policy_told};
+ghost use Rattle.capi.specs.Policies.{rule_told, policy_shown, policy_told};
 ghost use Rattle.told.specs.Policies.{token_told, WriteTells};
 ghost use Rattle.capi.specs.Policies.{token_read, rewritten};
 
-use policy::{Policy, Slot, Stance, default_policy, read_policy};
+use policy::{Policy, Slot, default_policy, read_policy};
 use refusal::Refusal;
 use told::policies::{TokenTold, WrittenTold, no_token, token_for, written_of};
 
@@ -32,21 +32,11 @@ pub struct PolicyTold {
     pub rules: [RuleTold; 7],
 }
 
-fn mark_of(stance: Stance) -> usize
-    ensures { result ≡ stance_number stance }
-{
-    match stance {
-        Stance::None => 0,
-        Stance::Allow => 1,
-        Stance::Deny => 2,
-    }
-}
-
 fn rule_of(x: Slot) -> RuleTold
     ensures { result ≡ rule_told x }
 {
     RuleTold {
-        stance: mark_of(x.stance),
+        stance: x.stance as usize,
         from: x.from,
         len: x.len,
     }
@@ -85,7 +75,7 @@ pub fn viscrombal_token(text: &[u8], domain: usize, from: usize) -> TokenTold
     }
 }
 
-// The reader, then the writer. Refused, nothing is touched; accepted, nothing past the text.
+// The reader, then the writer.
 fn rewrite(text: &[u8], out: &mut [u8]) -> Result<usize, Refusal>
     ensures { WriterTells (rewritten text.now (length out.old)) out.old result out.new }
 {
@@ -93,6 +83,7 @@ fn rewrite(text: &[u8], out: &mut [u8]) -> Result<usize, Refusal>
     policy_text::write_policy(text, p, out)
 }
 
+// Refused, nothing is touched; accepted, nothing past the text.
 pub fn viscrombal_rewrite(text: &[u8], out: &mut [u8]) -> WrittenTold
     ensures { WriteTells (rewritten text.now (length out.old)) out.old result out.new }
 {

@@ -96,10 +96,10 @@ pub extern "C" fn viscrombal_manifest(text: &[u8], out: &mut [u8]) -> ManifestTo
 
 // Two builds: the rows of tables 8 and 9, whose row numbers are those of the module they came from, then the breaking reasons as text.
 #[unsafe(no_mangle)]
-pub extern "C" fn viscrombal_compare<'a, 'b>(
-    baseline: &'a [u8],
-    candidate: &'a [u8],
-    out: &'b mut [u8],
+pub extern "C" fn viscrombal_compare(
+    baseline: &[u8],
+    candidate: &[u8],
+    out: &mut [u8],
 ) -> ComparisonTold
     ensures { Delivers comparison_bytes comparison_told (comparison baseline.now candidate.now)
         out.old result out.new }

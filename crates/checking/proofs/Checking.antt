@@ -5,14 +5,19 @@ use mathlib.Core.List.{List, map}
 use Prim.Native.Nat.{ℕ, ◌*◌, ◌≤◌, ◌<◌}
 use lib.ListN.{length, take}
 use borrow.Author.Tests.{lt-ltb, le-ltb}
-use Rattle.refusal.specs.Said.{Said, accepted, refused, refused_by, follow, said_by, number_of, where_of, spot, Place}
+use native.Mathlib.Omega.{arith}
+use Rattle.refusal.specs.Said.{Said, accepted, refused, refused_by, follow, said_by, spot, Place}
 use Rattle.refusal.specs.declared.Refusal.{Refusal}
-use Rattle.refusal.specs.declared.Refusal.TheVariants.{Full}
-use Rattle.refusal.proofs.Known.{refusal_of, known}
-use Rattle.refusal.proofs.Following.{one_value, first-refused, followed, follow-stops, follow-goes}
+use Rattle.refusal.specs.contracts.Refusal.{the_row, the_type as refusals}
+use Rattle.std.specs.contracts.result.Result.{the_type as results}
+use denote.Enum.Declared.{tag_of}
+use Rattle.refusal.proofs.Known.{full-tagged}
+use Rattle.refusal.proofs.Following.{never, one_value, first-refused, followed, follow-stops, follow-goes}
 use Rattle.policy.specs.declared.Policy.{Policy}
 use Rattle.text.specs.Whole.{whole_text}
-use Rattle.verdicts.specs.Evaluate.{Outcome, evaluated}
+use Rattle.verdicts.specs.Evaluate.{Outcome, evaluated, said_evaluation}
+use Rattle.verdicts.specs.declared.Evaluation.{Evaluation}
+use Rattle.verdicts.specs.contracts.Evaluation.{the_row as evaluation}
 use Rattle.refusal.specs.Sizes.{file_limit}
 use Rattle.table.specs.Table.{laid, cells}
 use Rattle.table.specs.Shape.{width, limit}
@@ -106,7 +111,7 @@ module _ (file text : List ℕ) where
   unfolding read_then
   few-sure = sure-follow _ _ _ _ (larger-sure file few limits (limits-largest few)) (λ m. sure-same _)
 
-  pub settled : {x : Said Outcome} → x ≡ read_then few file text → ((p : Place) → x ≡ refused 13 p → ⊥) → x ≡ read_then limits file text
+  settled : {x : Said Outcome} → x ≡ read_then few file text → ((p : Place) → x ≡ refused 13 p → ⊥) → x ≡ read_then limits file text
   settled {x} h other = by few-sure
     where
       by : Sure larger.Full (read_then few file text) (read_then limits file text) → x ≡ read_then limits file text
@@ -114,11 +119,15 @@ module _ (file text : List ℕ) where
       by (spare n p full e) = absurd (other p (h ∙ e ∙ ap (λ (k : ℕ). refused k p) full))
 
   -- a refusal that is not Full is no 13
-  pub settled-refused : (why : Refusal) → refused_by why ≡ read_then few file text → ((x : ℕ) → why ≡ Full x → ⊥)
-      → refused_by why ≡ read_then limits file text
-  settled-refused why h other = settled h (λ p z. full p z)
+  pub settled-refused : (w : Refusal) → refused_by w ≡ read_then few file text → (tag_of refusals w ≡ 11 → ⊥)
+      → refused_by w ≡ read_then limits file text
+  settled-refused w h other = settled h (λ p z. other (full-tagged w (number-of z)))
     where
-      full : (p : Place) → ◌≡◌ {A = Said Outcome} (refused (number_of why) (where_of why)) (refused 13 p) → ⊥
-      full p z =
-          let n : number_of why ≡ 13 = cc in
-          other _ (sym (known why) ∙ ap (λ (n : ℕ). refusal_of n (where_of why)) n)
+      number-of : {n m : ℕ} {p o : Place} → ◌≡◌ {A = Said Outcome} (refused n p) (refused m o) → n ≡ m
+      number-of z = cc
+
+  -- and what is accepted is none
+  pub settled-accepted : (r : Result Evaluation Refusal) → said_evaluation r ≡ read_then few file text
+      → tag_of (results evaluation the_row) r ≡ 0 → said_evaluation r ≡ read_then limits file text
+  settled-accepted (Ok e) h k = settled h (λ p z. never (sym z))
+  settled-accepted (Err w) h k = absurd (omega (arith, k))

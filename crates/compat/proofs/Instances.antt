@@ -17,6 +17,7 @@ use Rattle.sorting.specs.Sort.{sort, selected, up_from}
 use Rattle.kinds.specs.Kinds.{kind_of}
 use Rattle.import_rows.specs.Queries.{kind_is}
 use Rattle.differences.specs.View.{ExportKey, Need, export_key_at, need_at, export_rows, row}
+use Rattle.differences.specs.Compared.{Given}
 use Rattle.differences.specs.Rank.{rank_of}
 use Rattle.differences.specs.Differences.{kind_slug, cmp_export, cmp_need, export_order, need_order, changes}
 use Rattle.differences.specs.Numbers.{sided}
@@ -24,7 +25,7 @@ use Rattle.differences.proofs.Ranks.{rank-order}
 use Rattle.differences.proofs.Only.{lawful-export, lawful-exports, lawful-needs}
 use Rattle.differences.proofs.Numbered.{sided-first, sided-second, number-order}
 use Rattle.compat.specs.declared.keys.Key.{Key}
-use Rattle.compat.specs.Keying.{key_name, export_key, need_key, export_keys, need_keys, keys_of, every_of, table_of}
+use Rattle.compat.specs.Keying.{key_name, export_key, need_key, export_keys, need_keys, row_count, keys_of, every_of, table_of}
 use Rattle.compat.specs.Listing.{exports_between, export_numbered, needs_between, need_numbered, Listed, Passed}
 use Rattle.compat.specs.declared.keys.Rows.{Rows}
 use Rattle.compat.specs.declared.keys.Rows.TheVariants.{Exports, Needs}
@@ -183,15 +184,22 @@ needs-listed b bi c ci nb nc size =
     (λ i j h k li lj. then_equal (cmp_need (need_numbered b bi nb c ci i).row.key (need_numbered b bi nb c ci j).row.key))
 
 -- ---- either list
-pub rows-listed : (rows : Rows) (b bt c ct : List ℕ) (nb nc size : ℕ) {keys before after : List ℕ} {t every : Bool} {s : Option ℕ} {r : ℕ}
-    → Passed rows b bt nb → Passed rows c ct nc → keys ≡ table_of size (keys_of rows b bt nb c ct) (nb + nc) → every ≡ every_of rows
-    → Lacks t (missing b c keys nb (nb + nc) every) before after s → t ≡ true → nb + nc ≤ length before → r ≡ unwrap_or s 0
-    → Listed rows b bt nb c ct nc after r
-rows-listed Exports b bt c ct nb nc size p q k e w y h m =
-    lists-numbers (rw (k, e) at w) y
-    (omega (arith, h, missing-few b c (table_of size (keys_of Exports b bt nb c ct) (nb + nc)) nb (nb + nc) (omega arith) true)) m
-    (exports-listed b bt c ct nb nc (exports-good _ _ _ p).1 (exports-good _ _ _ q).1 size)
-rows-listed Needs b bt c ct nb nc size p q k e w y h m =
-    lists-numbers (rw (k, e) at w) y
-    (omega (arith, h, missing-few b c (table_of size (keys_of Needs b bt nb c ct) (nb + nc)) nb (nb + nc) (omega arith) false)) m
-    (needs-listed b bt c ct nb nc size)
+pub rows-listed : (rows : Rows) (b c : Given) (size : ℕ) {nb nc : ℕ} {keys before after : List ℕ} {t every : Bool} {s : Option ℕ} {r : ℕ}
+    → nb ≡ row_count rows b → nc ≡ row_count rows c → Passed rows b → Passed rows c
+    → keys ≡ table_of size (keys_of rows b c) (nb + nc) → every ≡ every_of rows
+    → Lacks t (missing b.file c.file keys nb (nb + nc) every) before after s → t ≡ true → nb + nc ≤ length before → r ≡ unwrap_or s 0
+    → Listed rows b c after r
+rows-listed Exports b c size m n p q k e w y h u =
+    let f = b.file in
+    let g = c.file in
+    let all = b.export_count + c.export_count in
+    lists-numbers (rw (k, e, m, n) at w) y
+    (omega (arith, h, m, n, missing-few f g (table_of size (keys_of Exports b c) all) b.export_count all (omega arith) true)) u
+    (exports-listed f b.exports g c.exports b.export_count c.export_count (exports-good _ _ _ p).1 (exports-good _ _ _ q).1 size)
+rows-listed Needs b c size m n p q k e w y h u =
+    let f = b.file in
+    let g = c.file in
+    let all = b.import_count + c.import_count in
+    lists-numbers (rw (k, e, m, n) at w) y
+    (omega (arith, h, m, n, missing-few f g (table_of size (keys_of Needs b c) all) b.import_count all (omega arith) false)) u
+    (needs-listed f b.imports g c.imports b.import_count c.import_count size)

@@ -6,6 +6,7 @@ use Rattle.table.specs.Shape.{width, limit, cell_in}
 use Rattle.sorting.specs.Keys.{row_name}
 use Rattle.import_rows.specs.Queries.{kind_is}
 use Rattle.domains.specs.Classify.{import_domain}
+use Rattle.differences.specs.Compared.{Given}
 use Rattle.differences.specs.Rank.{rank_of}
 use Rattle.differences.specs.Numbers.{sided}
 use Rattle.compat.specs.declared.keys.Key.{Key}
@@ -44,12 +45,16 @@ abbrev pub need_keys : List ℕ → List ℕ → ℕ → List ℕ → List ℕ �
 need_keys b bi nb c ci = sided nb (need_key 0 b bi) (need_key 1 c ci)
 
 -- of either
-abbrev pub row_key : Rows → ℕ → List ℕ → List ℕ → ℕ → Key
-row_key Exports side file exports = export_key side exports
-row_key Needs side file imports = need_key side file imports
+abbrev pub row_key : Rows → ℕ → Given → ℕ → Key
+row_key Exports side g = export_key side g.exports
+row_key Needs side g = need_key side g.file g.imports
 
-abbrev pub keys_of : Rows → List ℕ → List ℕ → ℕ → List ℕ → List ℕ → ℕ → Key
-keys_of rows b bt nb c ct = sided nb (row_key rows 0 b bt) (row_key rows 1 c ct)
+abbrev pub row_count : Rows → Given → ℕ
+row_count Exports g = g.export_count
+row_count Needs g = g.import_count
+
+abbrev pub keys_of : Rows → Given → Given → ℕ → Key
+keys_of rows b c = sided (row_count rows b) (row_key rows 0 b) (row_key rows 1 c)
 
 -- every repeat of an export, of one pair the lowest row alone
 abbrev pub every_of : Rows → Bool

@@ -7,7 +7,7 @@ use Rattle.differences.specs.declared.Change.{Change}
 use Rattle.differences.specs.declared.Change.TheVariants.{Removed, Added}
 use Rattle.differences.specs.View.{ExportKey, Need, row, export_key_at, need_at, export_rows, need_rows}
 use Rattle.differences.specs.Differences.{Entry, entry, changes, is_change, cmp_export, cmp_need, export_order, need_order}
-use Rattle.differences.specs.Compared.{exports_tested, change_number, need_diff_cells}
+use Rattle.differences.specs.Compared.{Given, exports_tested, change_number, need_diff_cells}
 use Rattle.differences.specs.Numbers.{sided}
 use Rattle.compat.specs.declared.keys.Rows.{Rows}
 use Rattle.compat.specs.declared.keys.Rows.TheVariants.{Exports, Needs}
@@ -33,14 +33,18 @@ pub record Numbers {K : Type 0} (at : ℕ → Entry K) (d : List (Entry K)) (tab
   pub these : map at (take r table) ≡ d
 
 -- of either list
-abbrev pub Listed : Rows → List ℕ → List ℕ → ℕ → List ℕ → List ℕ → ℕ → List ℕ → ℕ → Type 0
-Listed Exports b be nb c ce nc = Numbers (export_numbered b be nb c ce) (exports_between b be nb c ce nc)
-Listed Needs b bi nb c ci nc = Numbers (need_numbered b bi nb c ci) (needs_between b bi nb c ci nc)
+abbrev pub Listed : Rows → Given → Given → List ℕ → ℕ → Type 0
+Listed Exports b c =
+    Numbers (export_numbered b.file b.exports b.export_count c.file c.exports)
+    (exports_between b.file b.exports b.export_count c.file c.exports c.export_count)
+Listed Needs b c =
+    Numbers (need_numbered b.file b.imports b.import_count c.file c.imports)
+    (needs_between b.file b.imports b.import_count c.file c.imports c.import_count)
 
 -- the rows of exports have passed; those of imports may be any
-abbrev pub Passed : Rows → List ℕ → List ℕ → ℕ → Type 0
-Passed Exports file exports n = exports_tested (length file) exports n ≡ accepted tt
-Passed Needs file imports n = Unit {0}
+abbrev pub Passed : Rows → Given → Type 0
+Passed Exports g = exports_tested (length g.file) g.exports g.export_count ≡ accepted tt
+Passed Needs g = Unit {0}
 
 -- ---- a number's module and row
 unfoldable pub place_at : ℕ → ℕ → Place
@@ -50,8 +54,8 @@ abbrev pub place_cells : ℕ → ℕ → List ℕ
 place_cells nb i = change_number (place_at nb i).change ∷ (place_at nb i).row ∷ []
 
 -- a row of table 9
-abbrev pub need_cells_at : List ℕ → List ℕ → ℕ → List ℕ → List ℕ → ℕ → List ℕ
-need_cells_at b bi nb c ci i = need_diff_cells (need_numbered b bi nb c ci i)
+abbrev pub need_cells_at : Given → Given → ℕ → List ℕ
+need_cells_at b c i = need_diff_cells (need_numbered b.file b.imports b.import_count c.file c.imports i)
 
 -- one of the numbers is of this change
 unfoldable pub has_change : ℕ → Change → List ℕ → Bool

@@ -1,5 +1,5 @@
--- Demand 3 of any two views: lists of exports and of the pairs that are needed, whether a file, a register or nothing else has them.
--- Theorems proves each record. Assumes nothing.
+-- When one view can replace another: a view has lists of exports and of the pairs that are needed, whether a file, a register or nothing
+-- else has them. Theorems proves each record. Assumes nothing.
 use Rattle.std.specs.Prelude.{◌≡◌, ◌↔◌, true, List, [], ◌∷◌, map, ℕ}
 use Rattle.sorting.specs.Sort.{◌∈◌, Ascending}
 use Rattle.differences.specs.declared.Change.TheVariants.{Removed, Added}

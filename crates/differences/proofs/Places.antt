@@ -9,9 +9,11 @@ use borrow.Author.Tests.{lt-ltb, le-ltb, le-leb, lt-leb}
 use lib.Dec.{ltb}
 use lib.ListN.{length, take, drop}
 use Rattle.table.specs.Table.{cell_of, capacity_of}
+use Rattle.table.specs.declared.given.GivenTable.{GivenTable}
+use Rattle.differences.specs.declared.GivenModule.{GivenModule}
 use Rattle.differences.specs.declared.Change.{Change}
 use Rattle.differences.specs.declared.Change.TheVariants.{Removed, Added}
-use Rattle.differences.specs.Part.{there, diff_bytes_at, block_at, offset_at, changed_bytes, changed_block, changed_offset}
+use Rattle.differences.specs.Part.{there, diff_bytes_at, block_at, offset_at, changed_bytes, changed_block, changed_offset, module_of}
 
 module _ (file : List ℕ) (w most : ℕ) (rows : List ℕ) (n i : ℕ) where
   pub past-count : n ≤ i → there file w most rows n i ≡ false
@@ -65,16 +67,22 @@ module _ (file : List ℕ) (w most : ℕ) (rows : List ℕ) (n i : ℕ) where
     unfolding offset_at
     gone-offset own base = rw e
 
--- by the change
-module _ (b bt : List ℕ) (nb : ℕ) (c ct : List ℕ) (nc w most i : ℕ) {h : Change} {r : List ℕ} {p q : ℕ} (base cand base2 cand2 : ℕ) where
-  pub removed-part : h ≡ Removed
-      → (r ≡ diff_bytes_at b w most bt nb i) × (p ≡ block_at b w most bt nb i base base) × (q ≡ offset_at b w most bt nb i base2 base2)
-      → (r ≡ changed_bytes b bt nb c ct nc w most h i) × (p ≡ changed_block b bt nb c ct nc w most h i base cand)
-      × (q ≡ changed_offset b bt nb c ct nc w most h i base2 cand2)
-  removed-part e x = rw e x
+-- by the change: the rows are those of either table
+module _ (rows : GivenModule → GivenTable) (w most : ℕ) (b c : GivenModule) (r : List ℕ) (p q : ℕ) where
+  abbrev Part : GivenModule → ℕ → Type 0
+  Part m i =
+      (r ≡ diff_bytes_at m.file.now w most (rows m).cells.now (rows m).count i)
+      × (p ≡ block_at m.file.now w most (rows m).cells.now (rows m).count i m.file.ref_ptr.0 b.file.ref_ptr.0)
+      × (q ≡ offset_at m.file.now w most (rows m).cells.now (rows m).count i m.file.ref_ptr.1 b.file.ref_ptr.1)
 
-  pub added-part : h ≡ Added
-      → (r ≡ diff_bytes_at c w most ct nc i) × (p ≡ block_at c w most ct nc i cand base) × (q ≡ offset_at c w most ct nc i cand2 base2)
-      → (r ≡ changed_bytes b bt nb c ct nc w most h i) × (p ≡ changed_block b bt nb c ct nc w most h i base cand)
-      × (q ≡ changed_offset b bt nb c ct nc w most h i base2 cand2)
-  added-part e x = rw e x
+  abbrev Changed : Change → ℕ → Type 0
+  Changed h i =
+      (r ≡ changed_bytes b.file.now (rows b).cells.now (rows b).count c.file.now (rows c).cells.now (rows c).count w most h i)
+      × (p ≡ changed_block b.file.now (rows b).cells.now (rows b).count c.file.now (rows c).cells.now (rows c).count w most h i
+      b.file.ref_ptr.0 c.file.ref_ptr.0)
+      × (q ≡ changed_offset b.file.now (rows b).cells.now (rows b).count c.file.now (rows c).cells.now (rows c).count w most h i
+      b.file.ref_ptr.1 c.file.ref_ptr.1)
+
+  pub changed-part : {m : GivenModule} (h : Change) (i : ℕ) → m ≡ module_of b c h → Part m i → Changed h i
+  changed-part Removed i e x = rw e at x
+  changed-part Added i e x = rw e at x

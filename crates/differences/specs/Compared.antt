@@ -8,6 +8,7 @@ use Rattle.table.specs.Shape.{capacity_in, cell_in}
 use Rattle.table.specs.Testing.{bad, tested}
 use Rattle.table.specs.Entries.{finished}
 use Rattle.import_rows.specs.Queries.{imports_tested}
+use Rattle.differences.specs.declared.GivenModule.{GivenModule}
 use Rattle.differences.specs.declared.Change.{Change}
 use Rattle.differences.specs.declared.Change.TheVariants.{Removed, Added}
 use Rattle.differences.specs.View.{ExportKey, Need, View, view_of}
@@ -31,6 +32,10 @@ pub record Given : Type 0 where
 abbrev pub given : List ℕ → List ℕ → ℕ → List ℕ → ℕ → Given
 given file imports m exports n =
     record { file = file; imports = imports; import_count = m; exports = exports; export_count = n }
+
+-- of the struct that the code hands in
+abbrev pub given_of : GivenModule → Given
+given_of g = given g.file.now g.imports.cells.now g.imports.count g.exports.cells.now g.exports.count
 
 abbrev pub viewed : Given → View
 viewed g = view_of g.file g.imports g.import_count g.exports g.export_count

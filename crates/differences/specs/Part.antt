@@ -4,6 +4,7 @@ use Rattle.std.specs.Prelude.{Bool, List, [], ℕ, ◌+◌, ltb, length, take, d
 use Rattle.refusal.specs.Pick.{pick, both}
 use Rattle.table.specs.Table.{cell_of, capacity_of, inside}
 use Rattle.table.specs.Shape.{width, limit}
+use Rattle.differences.specs.declared.GivenModule.{GivenModule}
 use Rattle.differences.specs.declared.Change.{Change}
 use Rattle.differences.specs.declared.Change.TheVariants.{Removed, Added}
 
@@ -47,3 +48,8 @@ module _ (b bt : List ℕ) (nb : ℕ) (c ct : List ℕ) (nc t : ℕ) where
 
   abbrev pub diff_offset : Change → ℕ → ℕ → ℕ → ℕ
   diff_offset = changed_offset b bt nb c ct nc (width t) (limit t)
+
+-- the module whose rows a change names
+abbrev pub module_of : GivenModule → GivenModule → Change → GivenModule
+module_of b c Removed = b
+module_of b c Added = c

@@ -2,7 +2,7 @@
 use mathlib.Core.Path.{◌≡◌, refl, sym, ap, ◌∙◌}
 use mathlib.Core.Bool.{Bool, true, false, false≢true}
 use mathlib.Core.List.{List, [], ◌∷◌}
-use Prim.Native.Nat.{ℕ, zero, suc, ◌<◌}
+use Prim.Native.Nat.{ℕ, ◌<◌}
 use native.Mathlib.Omega.{arith}
 use lib.Dec.{ltb}
 use borrow.Author.Tests.{ltb-true, le-ltb}
@@ -11,14 +11,6 @@ use Rattle.text.specs.Find.{same}
 use Rattle.domains.specs.declared.Domain.{Domain}
 use Rattle.domains.specs.declared.Domain.TheVariants.{Filesystem, Environment, Clock, Network, Random, Stdio, Unknown}
 use Rattle.domains.specs.Domain.{numbered, domain_number, Word, word, words, Perhaps, nothing, just, word_in, domain_of}
-
--- ---- a test that a name passed, and one that it failed
-module _ {A : Type 0} {t u : Bool} (a b : A) (e : u ≡ t) where
-  pub picked : u ≡ true → a ≡ pick t a b
-  picked h = rw (← e, h)
-
-  pub passed : u ≡ false → pick t a b ≡ b
-  passed h = rw (← e, h)
 
 -- ---- a domain's number is below 7
 pub data Small : Perhaps → Type 0 where
@@ -76,15 +68,7 @@ number_small Random = omega arith
 number_small Stdio = omega arith
 number_small Unknown = omega arith
 
--- ---- the domain with a number
-pub numbered-past : (n : ℕ) → (n ≡ 0 → ⊥) → (n ≡ 1 → ⊥) → (n ≡ 2 → ⊥) → (n ≡ 3 → ⊥) → (n ≡ 4 → ⊥) → (n ≡ 5 → ⊥) → (n ≡ 6 → ⊥)
-    → nothing ≡ numbered n
-numbered-past zero a b c d e f g = absurd (a refl)
-numbered-past (suc zero) a b c d e f g = absurd (b refl)
-numbered-past (suc (suc zero)) a b c d e f g = absurd (c refl)
-numbered-past (suc (suc (suc zero))) a b c d e f g = absurd (d refl)
-numbered-past (suc (suc (suc (suc zero)))) a b c d e f g = absurd (e refl)
-numbered-past (suc (suc (suc (suc (suc zero))))) a b c d e f g = absurd (f refl)
-numbered-past (suc (suc (suc (suc (suc (suc zero)))))) a b c d e f g = absurd (g refl)
-numbered-past (suc (suc (suc (suc (suc (suc (suc n))))))) a b c d e f g =
-    unfold numbered in rw (le-ltb (suc (suc (suc (suc (suc (suc (suc n))))))) 7 (omega arith))
+-- ---- no domain has a number above 6
+pub numbered_past : (n : ℕ) → 6 < n → numbered n ≡ nothing
+unfolding numbered
+numbered_past n h = rw (le-ltb n 7 (omega arith))

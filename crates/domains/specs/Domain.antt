@@ -1,5 +1,6 @@
 -- docs/RULES.md, "Domains and verdicts": the domains, their numbers and their slugs. Assumes nothing.
-use Rattle.std.specs.Prelude.{List, [], ◌∷◌, ℕ, ltb, get_or, Option, Some, None}
+use Rattle.std.specs.Prelude.{List, [], ◌∷◌, ℕ, ltb, get_or, Option, Some, None, map}
+use Rattle.std.specs.Borrow.{Bor}
 use Rattle.refusal.specs.Pick.{pick}
 use Rattle.text.specs.Find.{same}
 use Rattle.domains.specs.declared.Domain.{Domain}
@@ -83,6 +84,10 @@ words =
 unfoldable pub word_in : List Word → List ℕ → Perhaps
 word_in [] s = nothing
 word_in (word w d ∷ ws) s = pick (same w s) (just d) (word_in ws s)
+
+-- a table of words, a domain beside each
+abbrev pub table_words : List (Bor (List ℕ) × Domain) → List Word
+table_words table = map (λ row. word row.0.now (domain_number row.1)) table
 
 -- the domain that a word names
 unfoldable pub domain_of : List ℕ → Perhaps

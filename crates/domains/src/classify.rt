@@ -3,64 +3,48 @@ ghost use Rattle.std.specs.Prelude.{◌≡◌};
 ghost use Rattle.domains.specs.Domain.{domain_number};
 ghost use Rattle.domains.specs.Classify.{classed_by, preview, heads, head_of, up_to_byte, path_domain, import_domain};
 
-use crate::Domain;
+use crate::{Domain, lookup};
 use text::find::find;
 use text::order::{equal, starts};
 
 // A field of preview 1. Descriptors of streams cannot be told from those of files: `fd_` is filesystem.
+#[tactic(auto, unfolding(crate::specs::Classify::classed_by, crate::specs::Classify::passes, crate::specs::Classify::preview))]
 fn preview_of(s: &[u8]) -> Domain
     ensures { domain_number result ≡ classed_by preview s.now }
 {
-    if starts(s, b"fd_") {
-        return Domain::Filesystem;
+    if starts(s, b"fd_") || starts(s, b"path_") {
+        Domain::Filesystem
+    } else if starts(s, b"environ_") || starts(s, b"args_") {
+        Domain::Environment
+    } else if starts(s, b"clock_") {
+        Domain::Clock
+    } else if starts(s, b"sock_") {
+        Domain::Network
+    } else if equal(s, b"random_get") {
+        Domain::Random
+    } else {
+        Domain::Unknown
     }
-    if starts(s, b"path_") {
-        return Domain::Filesystem;
-    }
-    if starts(s, b"environ_") {
-        return Domain::Environment;
-    }
-    if starts(s, b"args_") {
-        return Domain::Environment;
-    }
-    if starts(s, b"clock_") {
-        return Domain::Clock;
-    }
-    if starts(s, b"sock_") {
-        return Domain::Network;
-    }
-    if equal(s, b"random_get") {
-        return Domain::Random;
-    }
-    Domain::Unknown
 }
 
-// The first part of a path.
+// Each first part of a path.
+const HEADS: [(&[u8], Domain); 6] = [
+    (b"filesystem", Domain::Filesystem),
+    (b"cli", Domain::Environment),
+    (b"clocks", Domain::Clock),
+    (b"sockets", Domain::Network),
+    (b"random", Domain::Random),
+    (b"io", Domain::Stdio),
+];
+
 fn head_of(s: &[u8]) -> Domain
     ensures { domain_number result ≡ classed_by heads s.now }
 {
-    if equal(s, b"filesystem") {
-        return Domain::Filesystem;
-    }
-    if equal(s, b"cli") {
-        return Domain::Environment;
-    }
-    if equal(s, b"clocks") {
-        return Domain::Clock;
-    }
-    if equal(s, b"sockets") {
-        return Domain::Network;
-    }
-    if equal(s, b"random") {
-        return Domain::Random;
-    }
-    if equal(s, b"io") {
-        return Domain::Stdio;
-    }
-    Domain::Unknown
+    lookup(&HEADS, s).unwrap_or(Domain::Unknown)
 }
 
 // A path without `wasi:`, up to `/` or `@`.
+#[tactic(auto, unfolding(crate::specs::Classify::head_of))]
 fn body_of(s: &[u8]) -> Domain
     ensures { domain_number result ≡ classed_by heads (head_of s.now) }
 {
@@ -76,6 +60,7 @@ fn versioned(s: &[u8]) -> Domain
     head_of(&s[..at])
 }
 
+#[tactic(auto, unfolding(crate::specs::Classify::path_domain))]
 pub fn classify_path(path: &[u8]) -> Domain
     ensures { domain_number result ≡ path_domain path.now }
 {
@@ -85,6 +70,7 @@ pub fn classify_path(path: &[u8]) -> Domain
     body_of(path)
 }
 
+#[tactic(auto, unfolding(crate::specs::Classify::import_domain))]
 pub fn classify_import(source: &[u8], field: &[u8]) -> Domain
     ensures { domain_number result ≡ import_domain source.now field.now }
 {

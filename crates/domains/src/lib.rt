@@ -5,36 +5,33 @@ pub mod classify;
 
 ghost use Rattle.std.specs.Prelude.{◌≡◌};
 ghost use Rattle.refusal.specs.Slug.{slug_of};
-ghost use Rattle.domains.specs.Domain.{domain_number, found, numbered, slug, domain_of};
+ghost use Rattle.domains.specs.Domain.{domain_number, found, numbered, slug, domain_of, word_in, table_words};
 
-use refusal::Slug;
+use refusal::{Slug, slug_of};
 use text::order::equal;
 
 #[derive(Clone, Copy)]
 pub enum Domain {
-    Filesystem,
-    Environment,
-    Clock,
-    Network,
-    Random,
-    Stdio,
-    Unknown,
+    Filesystem = 0,
+    Environment = 1,
+    Clock = 2,
+    Network = 3,
+    Random = 4,
+    Stdio = 5,
+    Unknown = 6,
 }
 
+// The number of the last domain.
+pub const LAST_DOMAIN: usize = Domain::Unknown as usize;
+
+// By name and no `From`, and so `domain_of`: the calls that the judge makes go by these names, and what they promise too.
 pub fn domain_number(d: Domain) -> usize
     ensures { result ≡ domain_number d }
 {
-    match d {
-        Domain::Filesystem => 0,
-        Domain::Environment => 1,
-        Domain::Clock => 2,
-        Domain::Network => 3,
-        Domain::Random => 4,
-        Domain::Stdio => 5,
-        Domain::Unknown => 6,
-    }
+    d as usize
 }
 
+#[tactic(auto, using(crate::proofs::DomainLaws::numbered_past), unfolding(crate::specs::Domain::numbered))]
 pub fn domain_of(n: usize) -> Option<Domain>
     ensures { found result ≡ numbered n }
 {
@@ -50,71 +47,50 @@ pub fn domain_of(n: usize) -> Option<Domain>
     }
 }
 
+#[tactic(auto, unfolding(crate::specs::Domain::slug, crate::specs::Domain::slugs))]
 pub fn domain_slug(d: Domain) -> Slug
     ensures { result ≡ slug_of (slug (domain_number d)) }
 {
     match d {
-        Domain::Filesystem => Slug {
-            bytes: *b"fs\0\0\0\0\0\0\0\0",
-            len: 2,
-        },
-        Domain::Environment => Slug {
-            bytes: *b"env\0\0\0\0\0\0\0",
-            len: 3,
-        },
-        Domain::Clock => Slug {
-            bytes: *b"clock\0\0\0\0\0",
-            len: 5,
-        },
-        Domain::Network => Slug {
-            bytes: *b"network\0\0\0",
-            len: 7,
-        },
-        Domain::Random => Slug {
-            bytes: *b"random\0\0\0\0",
-            len: 6,
-        },
-        Domain::Stdio => Slug {
-            bytes: *b"stdio\0\0\0\0\0",
-            len: 5,
-        },
-        Domain::Unknown => Slug {
-            bytes: *b"unknown\0\0\0",
-            len: 7,
-        },
+        Domain::Filesystem => slug_of(b"fs"),
+        Domain::Environment => slug_of(b"env"),
+        Domain::Clock => slug_of(b"clock"),
+        Domain::Network => slug_of(b"network"),
+        Domain::Random => slug_of(b"random"),
+        Domain::Stdio => slug_of(b"stdio"),
+        Domain::Unknown => slug_of(b"unknown"),
     }
 }
 
-// The domain that a word names: a slug, or one of the aliases `net` and `rand`.
+// Each word for a domain: the slugs, then the aliases `net` and `rand`.
+const WORDS: [(&[u8], Domain); 9] = [
+    (b"fs", Domain::Filesystem),
+    (b"env", Domain::Environment),
+    (b"clock", Domain::Clock),
+    (b"network", Domain::Network),
+    (b"random", Domain::Random),
+    (b"stdio", Domain::Stdio),
+    (b"unknown", Domain::Unknown),
+    (b"net", Domain::Network),
+    (b"rand", Domain::Random),
+];
+
+// The domain beside the first word that is the text. No `match` on the text: one was tried, and the proofs of its fifty ends did not close.
+pub(crate) fn lookup(table: &[(&[u8], Domain)], s: &[u8]) -> Option<Domain>
+    ensures { found result ≡ word_in (table_words table.now) s.now }
+{
+    for (word, domain) in table {
+        if equal(s, word) {
+            return Some(*domain);
+        }
+    }
+    None
+}
+
+// The domain that a word names.
+#[tactic(auto, unfolding(crate::specs::Domain::domain_of, crate::specs::Domain::words))]
 pub fn from_slug(s: &[u8]) -> Option<Domain>
     ensures { found result ≡ domain_of s.now }
 {
-    if equal(s, b"fs") {
-        return Some(Domain::Filesystem);
-    }
-    if equal(s, b"env") {
-        return Some(Domain::Environment);
-    }
-    if equal(s, b"clock") {
-        return Some(Domain::Clock);
-    }
-    if equal(s, b"network") {
-        return Some(Domain::Network);
-    }
-    if equal(s, b"random") {
-        return Some(Domain::Random);
-    }
-    if equal(s, b"stdio") {
-        return Some(Domain::Stdio);
-    }
-    if equal(s, b"unknown") {
-        return Some(Domain::Unknown);
-    }
-    if equal(s, b"net") {
-        return Some(Domain::Network);
-    }
-    if equal(s, b"rand") {
-        return Some(Domain::Random);
-    }
-    None
+    lookup(&WORDS, s)
 }

@@ -1,18 +1,20 @@
 // wasm.rs: what the rows of table 2 answer: how many functions and memories are imported, and from which namespaces.
 #![tactic(auto)]
 
-ghost use Rattle.std.specs.Prelude.{◌≡◌, ◌≤◌, ◌<◌, ◌+◌, ℕ, Bool, length, nat_eq, count_by};
+ghost use Rattle.std.specs.Prelude.{◌≡◌, ◌≤◌, ◌<◌, ◌+◌, length, nat_eq, count_by};
 ghost use Rattle.std.specs.List.{range_with_len};
 ghost use Rattle.refusal.specs.Sizes.{fits_in};
 ghost use Rattle.refusal.specs.Said.{said_by};
-ghost use Rattle.table.specs.Testing.{bad, tested};
-ghost use Rattle.table.specs.Shape.{capacity_in};
 ghost use Rattle.table.specs.Listing.{ListsRows};
 ghost use Rattle.import_rows.specs.Queries.{import_cell, given_of, number_fits, desc_fits, kind_fits, import_fits};
 ghost use Rattle.import_rows.specs.Queries.{imports_tested, kinds_tested, imported_of, namespaces_of};
 
 use refusal::{MAX_FILE, Refusal};
-use table::shape::{IMPORT_WIDTH, MAX_IMPORTS};
+use table::given::GivenTable;
+use table::shape::{
+    FUNC, GLOBAL, IMPORT_FIELD, IMPORT_FLAG, IMPORT_GIVEN, IMPORT_KIND, IMPORT_MODULE, IMPORT_TYPE,
+    IMPORT_WIDTH, MAX_IMPORTS, MEMORY, TABLE,
+};
 
 // The mark of an import of this kind: bit c - 5 is set where the number in cell c is there. Bit 0 of a flag says whether the most is.
 fn given_of(kind: usize, flag: usize) -> usize
@@ -20,20 +22,22 @@ fn given_of(kind: usize, flag: usize) -> usize
 {
     let most = (flag & 1) * 16;
     match kind {
-        0 => 1,
-        1 => 14 + most,
-        2 => 12 + most,
-        3 => 34,
+        FUNC => 1,
+        TABLE => 14 + most,
+        MEMORY => 12 + most,
+        GLOBAL => 34,
         _ => 0,
     }
 }
+
+// What is asked of one row takes the cells alone: the count says nothing of a row.
 
 // The number in a column of row i is there, or 0.
 fn number_fits(given: usize, imports: &[usize], i: usize, column: usize) -> bool
     requires { (5 ≤ column) × (column < 11) }
     ensures { result ≡ number_fits given imports.now i column }
 {
-    if (given >> (column - 5)) & 1 == 1 {
+    if (given >> (column - IMPORT_TYPE)) & 1 == 1 {
         return true;
     }
     table::cell(imports, IMPORT_WIDTH, i, column) == 0
@@ -44,13 +48,13 @@ fn desc_fits(imports: &[usize], i: usize) -> bool
     ensures { result ≡ desc_fits imports.now i }
 {
     let given = given_of(
-        table::cell(imports, IMPORT_WIDTH, i, 4),
-        table::cell(imports, IMPORT_WIDTH, i, 7),
+        table::cell(imports, IMPORT_WIDTH, i, IMPORT_KIND),
+        table::cell(imports, IMPORT_WIDTH, i, IMPORT_FLAG),
     );
-    if table::cell(imports, IMPORT_WIDTH, i, 11) != given {
+    if table::cell(imports, IMPORT_WIDTH, i, IMPORT_GIVEN) != given {
         return false;
     }
-    for column in 5..11 {
+    for column in IMPORT_TYPE..IMPORT_GIVEN {
         if !number_fits(given, imports, i, column) {
             return false;
         }
@@ -62,7 +66,7 @@ fn desc_fits(imports: &[usize], i: usize) -> bool
 fn kind_fits(imports: &[usize], i: usize) -> bool
     ensures { result ≡ kind_fits imports.now i }
 {
-    table::cell(imports, IMPORT_WIDTH, i, 4) <= 255 && desc_fits(imports, i)
+    table::cell(imports, IMPORT_WIDTH, i, IMPORT_KIND) <= 255 && desc_fits(imports, i)
 }
 
 // The name whose range is at a column of row i and at the next one lies in so many bytes.
@@ -79,91 +83,82 @@ fn name_fits(length: usize, imports: &[usize], i: usize, column: usize) -> bool
 fn import_fits(length: usize, imports: &[usize], i: usize) -> bool
     ensures { result ≡ import_fits length imports.now i }
 {
-    name_fits(length, imports, i, 0) && name_fits(length, imports, i, 2) && kind_fits(imports, i)
-}
-
-// 15 for a table that is handed in with a count and has room for so many rows: the count, then the first row that does not fit.
-fn check_rows<F: Fn(usize) -> bool>(room: usize, n: usize, fits: F) -> Result<(), Refusal>
-    requires { F.IsAlwaysCallable fits }
-    ensures { (good : ℕ → Bool) → ((i : ℕ) (r : Bool) → i < n → F.post fits i r → r ≡ good i)
-        → said_by result ≡ tested room n (bad good) }
-{
-    if room < n {
-        return Err(Refusal::BadTable(room));
-    }
-    for i in 0..n {
-        if !fits(i) {
-            return Err(Refusal::BadTable(i));
-        }
-    }
-    Ok(())
-}
-
-fn room_in(imports: &[usize]) -> usize
-    ensures { result ≡ capacity_in 2 (length imports.now) }
-{
-    table::capacity(imports.len(), IMPORT_WIDTH, MAX_IMPORTS)
+    name_fits(length, imports, i, IMPORT_MODULE)
+        && name_fits(length, imports, i, IMPORT_FIELD)
+        && kind_fits(imports, i)
 }
 
 // Table 2, handed in with a file of so many bytes: each row's ranges, kind and descriptor.
-pub fn check_imports(length: usize, imports: &[usize], n: usize) -> Result<(), Refusal>
-    ensures { said_by result ≡ imports_tested length imports.now n }
+pub fn check_imports(length: usize, imports: GivenTable) -> Result<(), Refusal>
+    ensures { said_by result ≡ imports_tested length imports.entry.cells.now imports.entry.count }
 {
-    check_rows(room_in(imports), n, |i| import_fits(length, imports, i))
+    imports.check_rows(
+        IMPORT_WIDTH,
+        MAX_IMPORTS,
+        |i| import_fits(length, imports.cells, i),
+    )
 }
 
 // Table 2, handed in without a file: each row's kind and descriptor.
-fn check_kinds(imports: &[usize], n: usize) -> Result<(), Refusal>
-    ensures { said_by result ≡ kinds_tested imports.now n }
+fn check_kinds(imports: GivenTable) -> Result<(), Refusal>
+    ensures { said_by result ≡ kinds_tested imports.entry.cells.now imports.entry.count }
 {
-    check_rows(room_in(imports), n, |i| kind_fits(imports, i))
+    imports.check_rows(IMPORT_WIDTH, MAX_IMPORTS, |i| kind_fits(imports.cells, i))
 }
 
-fn count_kind(imports: &[usize], n: usize, kind: usize) -> usize
-    ensures { result ≡ count_by (λ i. nat_eq (import_cell imports.now i 4) kind) (range_with_len 0 n) }
+fn count_kind(imports: GivenTable, kind: usize) -> usize
+    ensures { result ≡ count_by (λ i. nat_eq (import_cell imports.entry.cells.now i 4) kind)
+        (range_with_len 0 imports.entry.count) }
 {
-    (0..n)
-        .filter(|i| table::cell(imports, IMPORT_WIDTH, *i, 4) == kind)
+    (0..imports.count)
+        .filter(|i| table::cell(imports.cells, IMPORT_WIDTH, *i, IMPORT_KIND) == kind)
         .count()
 }
 
-fn imported(imports: &[usize], n: usize, kind: usize) -> Result<usize, Refusal>
-    ensures { said_by result ≡ imported_of imports.now n kind }
+fn imported(imports: GivenTable, kind: usize) -> Result<usize, Refusal>
+    ensures { said_by result ≡ imported_of imports.entry.cells.now imports.entry.count kind }
 {
-    check_kinds(imports, n)?;
-    Ok(count_kind(imports, n, kind))
+    check_kinds(imports)?;
+    Ok(count_kind(imports, kind))
 }
 
-pub fn imported_functions(imports: &[usize], n: usize) -> Result<usize, Refusal>
-    ensures { said_by result ≡ imported_of imports.now n 0 }
+pub fn imported_functions(imports: GivenTable) -> Result<usize, Refusal>
+    ensures { said_by result ≡ imported_of imports.entry.cells.now imports.entry.count 0 }
 {
-    imported(imports, n, 0)
+    imported(imports, FUNC)
 }
 
-pub fn imported_memories(imports: &[usize], n: usize) -> Result<usize, Refusal>
-    ensures { said_by result ≡ imported_of imports.now n 2 }
+pub fn imported_memories(imports: GivenTable) -> Result<usize, Refusal>
+    ensures { said_by result ≡ imported_of imports.entry.cells.now imports.entry.count 2 }
 {
-    imported(imports, n, 2)
+    imported(imports, MEMORY)
 }
 
 // Table 15: of each module name among the imports, of whatever kind, the lowest row, by bytes.
 pub fn import_namespaces(
     file: &[u8],
-    imports: &[usize],
-    n: usize,
+    imports: GivenTable,
     sorted: &mut [usize],
 ) -> Result<usize, Refusal>
-    ensures { ListsRows (namespaces_of file.now imports.now n (length sorted.old))
+    ensures { ListsRows (namespaces_of file.now imports.entry.cells.now imports.entry.count (length sorted.old))
         sorted.old sorted.new (said_by result) }
 {
     if file.len() > MAX_FILE {
         table::clear(sorted);
         return Err(Refusal::TooLong);
     }
-    if let Err(why) = check_imports(file.len(), imports, n) {
+    if let Err(why) = check_imports(file.len(), imports) {
         table::clear(sorted);
         return Err(why);
     }
     let keys = sorting::by_name(IMPORT_WIDTH, 0, 1, IMPORT_WIDTH, 0);
-    sorting::sort(file, file, imports, keys, n, sorted).ok_or(Refusal::Full(15))
+    let namespaces = sorting::Rows {
+        first: file,
+        second: file,
+        cells: imports.cells,
+        keys,
+    };
+    namespaces
+        .sort(imports.count, sorted)
+        .ok_or(Refusal::Full(15))
 }

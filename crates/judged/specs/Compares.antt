@@ -1,12 +1,15 @@
 -- compat.rs with lent tables: the answer in a struct of numbers, all zero but number and place on a refusal. Assumes nothing.
 use Rattle.std.specs.Prelude.{ℕ, zero, suc, false, ◌≡◌, List, ltb, length, get_or}
+use Rattle.std.specs.Borrow.{Bor}
 use Rattle.refusal.specs.Pick.{pick}
 use Rattle.refusal.specs.Said.{Said, accepted, refused, number_at, follow}
 use Rattle.table.specs.Table.{laid, cells, range_of}
 use Rattle.refusal.specs.declared.Slug.{Slug}
+use Rattle.differences.specs.declared.GivenModule.{GivenModule}
 use Rattle.differences.specs.declared.Change.{Change}
 use Rattle.differences.specs.declared.Change.TheVariants.{Removed, Added}
 use Rattle.differences.specs.Compared.{Lists, Verdict, verdict_on, export_diff_cells, need_diff_cells, listed}
+use Rattle.reasons.specs.declared.GivenDiffs.{GivenDiffs}
 use Rattle.judged.specs.declared.compares.CompareTold.{CompareTold}
 use Rattle.judged.specs.declared.compares.NameTold.{NameTold}
 
@@ -33,3 +36,11 @@ name_told l k = record { len = length l; byte = pick (ltb k (length l)) (get_or 
 -- of a word, the same
 abbrev pub word_told : Slug → ℕ → NameTold
 word_told w k = name_told (range_of w.bytes 0 w.len) k
+
+-- the structs of what is handed in of a module, and of two lists of differences
+abbrev pub given_as : Bor (List ℕ) → Bor (List ℕ) → ℕ → Bor (List ℕ) → ℕ → GivenModule
+given_as file imports m exports n =
+    record { file = file; imports = record { cells = imports; count = m }; exports = record { cells = exports; count = n } }
+
+abbrev pub diffs_as : Bor (List ℕ) → ℕ → Bor (List ℕ) → ℕ → GivenDiffs
+diffs_as xd n cd m = record { exports = record { cells = xd; count = n }; needs = record { cells = cd; count = m } }

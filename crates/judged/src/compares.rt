@@ -6,11 +6,14 @@ ghost use Rattle.compat.specs.Answer.{said_compared};
 ghost use Rattle.differences.specs.Part.{diff_bytes};
 ghost use Rattle.reasons.specs.Reasons.{diffs, reasoned};
 ghost use Rattle.told.specs.Policies.{WriteTells};
-ghost use Rattle.judged.specs.Compares.{compare_told, CompareTells, change_at, name_told};
+ghost use Rattle.judged.specs.Compares.{compare_told, CompareTells, change_at, name_told, given_as, diffs_as};
 
 use compat::Lists;
-use differences::Change;
+use differences::parts::{capability_diff_source, export_diff_name};
+use differences::{Change, GivenModule};
+use reasons::{GivenDiffs, breaking_reasons};
 use refusal::Refusal;
+use table::given::GivenTable;
 use told::policies::{WrittenTold, written_of};
 
 #[repr(C)]
@@ -70,6 +73,45 @@ pub(crate) fn name_of(name: &[u8], k: usize) -> NameTold
     }
 }
 
+// What C hands in of a module, by parameters.
+fn given_module<'a, 'b>(
+    file: &'a [u8],
+    imports: &'b [usize],
+    m: usize,
+    exports: &'b [usize],
+    n: usize,
+) -> GivenModule<'a, 'b>
+    ensures { result ≡ given_as file.entry imports.entry m exports.entry n }
+{
+    GivenModule {
+        file,
+        imports: GivenTable {
+            cells: imports,
+            count: m,
+        },
+        exports: GivenTable {
+            cells: exports,
+            count: n,
+        },
+    }
+}
+
+// And of two lists of differences.
+fn given_diffs<'a>(xd: &'a [usize], n: usize, cd: &'a [usize], m: usize) -> GivenDiffs<'a>
+    ensures { result ≡ diffs_as xd.entry n cd.entry m }
+{
+    GivenDiffs {
+        exports: GivenTable {
+            cells: xd,
+            count: n,
+        },
+        needs: GivenTable {
+            cells: cd,
+            count: m,
+        },
+    }
+}
+
 // Tables 8 and 9: what was removed from the baseline and added in the candidate.
 pub fn judged_compare<'a, 'b, 'c, 'd, 'e, 'f, 'g>(
     baseline: &'a [u8],
@@ -90,9 +132,9 @@ pub fn judged_compare<'a, 'b, 'c, 'd, 'e, 'f, 'g>(
         (capacity_in 8 (length xd.old)) (capacity_in 9 (length cd.old)))
         xd.old xd.new cd.old cd.new result }
 {
-    compare_of(compat::compare_modules(
-        baseline, bi, nbi, be, nbe, candidate, ci, nci, ce, nce, xd, cd,
-    ))
+    let baseline = given_module(baseline, bi, nbi, be, nbe);
+    let candidate = given_module(candidate, ci, nci, ce, nce);
+    compare_of(compat::compare_modules(baseline, candidate, xd, cd))
 }
 
 // Of the name of an export that was removed (0) or added, byte k.
@@ -110,16 +152,9 @@ pub fn judged_export_name<'a, 'b, 'c>(
     ensures { result ≡ name_told (diff_bytes baseline.now be.now nbe
         candidate.now ce.now nce 3 (change_at change) row) k }
 {
-    let name = differences::parts::export_diff_name(
-        baseline,
-        be,
-        nbe,
-        candidate,
-        ce,
-        nce,
-        change_of(change),
-        row,
-    );
+    let baseline = given_module(baseline, &[], 0, be, nbe);
+    let candidate = given_module(candidate, &[], 0, ce, nce);
+    let name = export_diff_name(baseline, candidate, change_of(change), row);
     name_of(name, k)
 }
 
@@ -138,16 +173,9 @@ pub fn judged_source_name<'a, 'b, 'c>(
     ensures { result ≡ name_told (diff_bytes baseline.now bi.now nbi
         candidate.now ci.now nci 2 (change_at change) row) k }
 {
-    let name = differences::parts::capability_diff_source(
-        baseline,
-        bi,
-        nbi,
-        candidate,
-        ci,
-        nci,
-        change_of(change),
-        row,
-    );
+    let baseline = given_module(baseline, bi, nbi, &[], 0);
+    let candidate = given_module(candidate, ci, nci, &[], 0);
+    let name = capability_diff_source(baseline, candidate, change_of(change), row);
     name_of(name, k)
 }
 
@@ -173,7 +201,8 @@ pub fn judged_reasons(
         (given candidate.now ci.now nci ce.now nce)
         (diffs xd.now nxd cd.now ncd) (length out.old)) out.old result out.new }
 {
-    written_of(reasons::breaking_reasons(
-        baseline, bi, nbi, be, nbe, candidate, ci, nci, ce, nce, xd, nxd, cd, ncd, out,
-    ))
+    let baseline = given_module(baseline, bi, nbi, be, nbe);
+    let candidate = given_module(candidate, ci, nci, ce, nce);
+    let lists = given_diffs(xd, nxd, cd, ncd);
+    written_of(breaking_reasons(baseline, candidate, lists, out))
 }

@@ -8,7 +8,9 @@ ghost use Rattle.requirements.specs.Interfaces.{reference_domain, manifest_rows}
 ghost use Rattle.judged.specs.Rows.{ListTells, RequireTells};
 
 use crate::rows::{CountTold, count_of, part_of};
+use reference_rows::GivenManifest;
 use refusal::Refusal;
+use table::given::GivenTable;
 use wit::Manifest;
 
 #[repr(C)]
@@ -56,6 +58,31 @@ pub fn judged_manifest(text: &[u8], worlds: &mut [usize], references: &mut [usiz
     manifest_of(wit::read_manifest(text, worlds, references))
 }
 
+// A manifest as C hands it in, with the counts of tables 5 and 6.
+fn given_of<'a>(
+    text: &'a [u8],
+    worlds: &'a [usize],
+    n5: usize,
+    references: &'a [usize],
+    n6: usize,
+) -> GivenManifest<'a>
+    ensures { (result.text.now ≡ text.now)
+        × (result.worlds.cells.now ≡ worlds.now) × (result.worlds.count ≡ n5)
+        × (result.references.cells.now ≡ references.now) × (result.references.count ≡ n6) }
+{
+    GivenManifest {
+        text,
+        worlds: GivenTable {
+            cells: worlds,
+            count: n5,
+        },
+        references: GivenTable {
+            cells: references,
+            count: n6,
+        },
+    }
+}
+
 // Table 15: of each path that is imported the lowest row, by bytes.
 pub fn judged_imports(
     text: &[u8],
@@ -68,7 +95,8 @@ pub fn judged_imports(
     ensures { ListTells (paths_of false text.now worlds.now n5 references.now n6
         (length sorted.old)) sorted.old sorted.new result }
 {
-    count_of(reference_rows::all_imports(text, worlds, n5, references, n6, sorted))
+    let given = given_of(text, worlds, n5, references, n6);
+    count_of(reference_rows::all_imports(given, sorted))
 }
 
 // And of each that is exported.
@@ -83,7 +111,8 @@ pub fn judged_exports(
     ensures { ListTells (paths_of true text.now worlds.now n5 references.now n6
         (length sorted.old)) sorted.old sorted.new result }
 {
-    count_of(reference_rows::all_exports(text, worlds, n5, references, n6, sorted))
+    let given = given_of(text, worlds, n5, references, n6);
+    count_of(reference_rows::all_exports(given, sorted))
 }
 
 // Table 7: of each path that is imported the domain and the lowest row, by bytes.
@@ -101,7 +130,6 @@ pub fn judged_needs(
         (room_of (length domains.old) (length rows.old)))
         domains.old domains.new rows.old rows.new result }
 {
-    count_of(requirements::manifest::requirements_from_manifest(
-        text, worlds, n5, references, n6, domains, rows,
-    ))
+    let given = given_of(text, worlds, n5, references, n6);
+    count_of(requirements::manifest::requirements_from_manifest(given, domains, rows))
 }

@@ -8,7 +8,8 @@ ghost use Rattle.requirements.specs.Requirements.{room_of, row_domain, module_ro
 ghost use Rattle.judged.specs.Rows.{part_told, module_answer, count_told, ModuleTells, ListTells, RequireTells};
 
 use refusal::{Part, Refusal};
-use wasm::Module;
+use table::given::GivenTable;
+use wasm::{LentTables, Module};
 
 #[repr(C)]
 #[derive(Clone, Copy)]
@@ -106,7 +107,13 @@ pub fn judged_module(
         (module_at file.now (sizes sections.old imports.old exports.old names.old))
         (lend sections.new imports.new exports.new names.new) result }
 {
-    module_of(wasm::read_module(file, sections, imports, exports, names))
+    let mut tables = LentTables {
+        sections,
+        imports,
+        exports,
+        names,
+    };
+    module_of(wasm::read_module(file, &mut tables))
 }
 
 pub fn judged_strict(
@@ -121,19 +128,31 @@ pub fn judged_strict(
         (strict_at file.now (sizes sections.old imports.old exports.old names.old))
         (lend sections.new imports.new exports.new names.new) result }
 {
-    module_of(strict::read_strict(file, sections, imports, exports, names))
+    let mut tables = LentTables {
+        sections,
+        imports,
+        exports,
+        names,
+    };
+    module_of(strict::read_strict(file, &mut tables))
 }
 
 pub fn judged_functions(imports: &[usize], n: usize) -> CountTold
     ensures { result ≡ count_told (imported_of imports.now n 0) }
 {
-    count_of(import_rows::imported_functions(imports, n))
+    count_of(import_rows::imported_functions(GivenTable {
+        cells: imports,
+        count: n,
+    }))
 }
 
 pub fn judged_memories(imports: &[usize], n: usize) -> CountTold
     ensures { result ≡ count_told (imported_of imports.now n 2) }
 {
-    count_of(import_rows::imported_memories(imports, n))
+    count_of(import_rows::imported_memories(GivenTable {
+        cells: imports,
+        count: n,
+    }))
 }
 
 pub fn judged_namespaces(
@@ -145,7 +164,11 @@ pub fn judged_namespaces(
     ensures { ListTells (namespaces_of file.now imports.now n (length sorted.old))
         sorted.old sorted.new result }
 {
-    count_of(import_rows::import_namespaces(file, imports, n, sorted))
+    let given = GivenTable {
+        cells: imports,
+        count: n,
+    };
+    count_of(import_rows::import_namespaces(file, given, sorted))
 }
 
 // Table 7: of each function that is imported the domain and the row.
@@ -160,5 +183,9 @@ pub fn judged_requirements(
         (module_rows file.now imports.now n (room_of (length domains.old) (length rows.old)))
         domains.old domains.new rows.old rows.new result }
 {
-    count_of(requirements::module::requirements_from_module(file, imports, n, domains, rows))
+    let given = GivenTable {
+        cells: imports,
+        count: n,
+    };
+    count_of(requirements::module::requirements_from_module(file, given, domains, rows))
 }

@@ -4,13 +4,14 @@
 mod marks;
 mod quick;
 mod ranks;
+mod rows;
 
 ghost use Rattle.std.specs.Prelude.{◌≡◌, [], ◌+◌, length};
 ghost use Rattle.table.specs.Table.{laid};
 ghost use Rattle.keyed.specs.Keying.{columns, missing, holds_all, Lacks};
 
 use crate::quick::try_quick;
-use crate::ranks::list_by_rank;
+use crate::rows::KeyRows;
 use sorting::Keys;
 
 // A row has six cells: the list, 0 or 1, whose bytes its name lies in; the name's range; a number that counts before the name and one
@@ -77,10 +78,16 @@ fn list_in<'a, 'b, 'c, 'd, 'e>(
         return None;
     }
     let n = nb + nc;
-    if try_quick(first, second, keys, nb, n, ranks, lost) {
-        return sorting::sort(first, second, keys, columns(every), n, numbers);
+    let found = try_quick(first, second, keys, nb, n, ranks, lost);
+    let rows = KeyRows {
+        first,
+        second,
+        keys,
+    };
+    if found {
+        return rows.by(columns(every)).sort(n, numbers);
     }
-    list_by_rank(first, second, keys, nb, nc, every, ranks, lost, numbers)
+    rows.list_by_rank(nb, nc, every, ranks, lost, numbers)
 }
 
 // The numbers of the rows whose key the other list lacks, in order: those of the first list are numbered first. The other tables are lent

@@ -3,12 +3,13 @@ ghost use Rattle.std.specs.Prelude.{◌≡◌, true, [], ◌+◌, ◌-◌, ◌*�
 ghost use Rattle.table.specs.Table.{laid, cells, rows_of};
 ghost use Rattle.differences.specs.Numbers.{some_from};
 ghost use Rattle.keyed.specs.Keying.{single};
-ghost use Rattle.keyed.specs.Quick.{mixed_print, and_number, ends_print, print_at, Printed, Unlike, meets_key};
-ghost use Rattle.keyed.specs.Quick.{Seeks, found_mark, Unmarked, Tried};
+ghost use Rattle.keyed.specs.Quick.{mixed_print, and_number, ends_print, Unlike, Seeks, Unmarked, Tried};
+ghost use Rattle.keyed.specs.Rows.{print_of, PrintedOf, meets, mark_of};
 
 use crate::marks::others;
-use crate::ranks::{name_at, same_key};
+use crate::rows::KeyRows;
 use crate::{KEY_LEN, KEY_MAJOR, KEY_MARK, KEY_MINOR, KEY_WIDTH};
+use std::ops::Range;
 
 // A print is below this; the factor is odd and takes every bit of it along.
 const PRINTS: usize = 4294967296;
@@ -53,32 +54,6 @@ fn name_print(name: &[u8]) -> usize
     mix(table::range(name, n - EDGE, EDGE), head)
 }
 
-// The print of row i: of its name and its two numbers.
-fn print_at<'a, 'b>(first: &'a [u8], second: &'a [u8], keys: &'b [usize], i: usize) -> usize
-    ensures { result ≡ print_at first.now second.now keys.now i }
-{
-    let name = name_print(name_at(first, second, keys, i));
-    let major = stir(name, table::cell(keys, KEY_WIDTH, i, KEY_MAJOR));
-    stir(major, table::cell(keys, KEY_WIDTH, i, KEY_MINOR))
-}
-
-// The print of every row.
-fn fill_prints<'a, 'b, 'c>(
-    first: &'a [u8],
-    second: &'a [u8],
-    keys: &'b [usize],
-    n: usize,
-    prints: &'c mut [usize],
-)
-    requires { (prints.old ≡ laid (length prints.old) []) × (n ≤ length prints.old) }
-    ensures { prints.new ≡ laid (length prints.old)
-        (cells single (rows_of (print_at first.now second.now keys.now) n)) }
-{
-    for i in 0..n {
-        table::put_row(prints, i, &[print_at(first, second, keys, i)]);
-    }
-}
-
 // None of the sixteen prints from `at` on is this one. Each is looked at, whatever those before it are, so that many are at once.
 fn none_like(prints: &[usize], print: usize, at: usize) -> bool
     requires { at + 16 ≤ length prints.now }
@@ -119,13 +94,6 @@ fn next_like(prints: &[usize], print: usize, from: usize, to: usize) -> usize
     to
 }
 
-// Row j is wanted, and its key is that of row i.
-fn meets<'a, 'b>(first: &'a [u8], second: &'a [u8], keys: &'b [usize], i: usize, j: usize) -> bool
-    ensures { result ≡ meets_key first.now second.now keys.now i j }
-{
-    table::cell(keys, KEY_WIDTH, j, KEY_MARK) == 1 && same_key(first, second, keys, i, j)
-}
-
 // Whether a row has the key, and what is left of the budget.
 #[derive(Clone, Copy)]
 pub(crate) struct Sought {
@@ -133,67 +101,81 @@ pub(crate) struct Sought {
     left: usize,
 }
 
-// The key of row i among rows `from` to before `to`; none where the budget did not last. A row of its print with another key costs the
-// length of the name, and one.
-fn seek<'a, 'b, 'c>(
-    first: &'a [u8],
-    second: &'a [u8],
-    keys: &'b [usize],
-    prints: &'c [usize],
-    n: usize,
-    i: usize,
-    from: usize,
-    to: usize,
-    budget: usize,
-) -> Option<Sought>
-    requires i_lt_n { (i < n) × (from ≤ to) × (to ≤ n) × (n ≤ length prints.now) }
-    requires printed { Printed first.now second.now keys.now n prints.now }
-    ensures { Seeks (some_from (meets_key first.now second.now keys.now i) from (to - from)) result }
-{
-    let print = prints[i];
-    let cost = table::cell(keys, KEY_WIDTH, i, KEY_LEN);
-    let mut left = budget;
-    let mut j = next_like(prints, print, from, to);
-    'search: while j < to {
-        if meets(first, second, keys, i, j) {
-            return Some(Sought { met: true, left });
-        }
-        if left <= cost {
-            return None;
-        }
-        left -= cost + 1;
-        j = next_like(prints, print, j + 1, to);
+impl<'a> KeyRows<'a> {
+    // The print of row i: of its name and its two numbers.
+    fn print(self, i: usize) -> usize
+        ensures { result ≡ print_of self.entry i }
+    {
+        let name = name_print(self.name(i));
+        let major = stir(name, self.cell(i, KEY_MAJOR));
+        stir(major, self.cell(i, KEY_MINOR))
     }
-    Some(Sought { met: false, left })
-}
 
-// 1 for each row whose key the other list has, else 0; or false where the budget, half the bytes of both lists, did not last.
-fn mark_found<'a, 'b, 'c, 'd>(
-    first: &'a [u8],
-    second: &'a [u8],
-    keys: &'b [usize],
-    prints: &'c [usize],
-    nb: usize,
-    n: usize,
-    found: &'d mut [usize],
-) -> bool
-    requires found_value { (found.old ≡ laid (length found.old) []) × (nb ≤ n) × (n ≤ length prints.now) × (n ≤ length found.old) }
-    requires printed { Printed first.now second.now keys.now n prints.now }
-    ensures { result ≡ true → found.new ≡ laid (length found.old)
-        (cells single (rows_of (found_mark first.now second.now keys.now nb n) n)) }
-{
-    let mut left = first.len() / 2 + second.len() / 2;
-    for i in 0..n {
-        let span = others(nb, n, i);
-        let Some(sought) = seek(
-            first, second, keys, prints, n, i, span.start, span.end, left,
-        ) else {
-            return false;
-        };
-        table::put_row(found, i, &[usize::from(sought.met)]);
-        left = sought.left;
+    // The print of every row.
+    fn fill_prints(self, n: usize, prints: &mut [usize])
+        requires { (prints.old ≡ laid (length prints.old) []) × (n ≤ length prints.old) }
+        ensures { prints.new ≡ laid (length prints.old) (cells single (rows_of (print_of self.entry) n)) }
+    {
+        for i in 0..n {
+            table::put_row(prints, i, &[self.print(i)]);
+        }
     }
-    true
+
+    // Row j is wanted, and its key is that of row i.
+    fn meets(self, i: usize, j: usize) -> bool
+        ensures { result ≡ meets self.entry i j }
+    {
+        self.cell(j, KEY_MARK) == 1 && self.same_key(i, j)
+    }
+
+    // The key of row i among the rows of a span; none where the budget did not last. A row of its print with another key costs the
+    // length of the name, and one.
+    fn seek(
+        self,
+        prints: &[usize],
+        n: usize,
+        i: usize,
+        span: Range<usize>,
+        budget: usize,
+    ) -> Option<Sought>
+        requires i_lt_n { (i < n) × (span.start ≤ span.end) × (span.end ≤ n) × (n ≤ length prints.now) }
+        requires printed { PrintedOf self n prints.now }
+        ensures { Seeks (some_from (meets self.entry i) span.start (span.end - span.start)) result }
+    {
+        let print = prints[i];
+        let cost = self.cell(i, KEY_LEN);
+        let mut left = budget;
+        let mut j = next_like(prints, print, span.start, span.end);
+        // the label is the loop's name in its proof
+        'search: while j < span.end {
+            if self.meets(i, j) {
+                return Some(Sought { met: true, left });
+            }
+            if left <= cost {
+                return None;
+            }
+            left -= cost + 1;
+            j = next_like(prints, print, j + 1, span.end);
+        }
+        Some(Sought { met: false, left })
+    }
+
+    // 1 for each row whose key the other list has, else 0; or false where the budget, half the bytes of both lists, did not last.
+    fn mark_found(self, prints: &[usize], nb: usize, n: usize, found: &mut [usize]) -> bool
+        requires found_value { (found.old ≡ laid (length found.old) []) × (nb ≤ n) × (n ≤ length prints.now) × (n ≤ length found.old) }
+        requires printed { PrintedOf self n prints.now }
+        ensures { result ≡ true → found.new ≡ laid (length found.old) (cells single (rows_of (mark_of self.entry nb n) n)) }
+    {
+        let mut left = self.first.len() / 2 + self.second.len() / 2;
+        for i in 0..n {
+            let Some(sought) = self.seek(prints, n, i, others(nb, n, i), left) else {
+                return false;
+            };
+            table::put_row(found, i, &[usize::from(sought.met)]);
+            left = sought.left;
+        }
+        true
+    }
 }
 
 // Row i has no mark: zero in its last cell, where the table has it.
@@ -217,22 +199,27 @@ fn unmark(keys: &mut [usize], found: &[usize], n: usize)
 }
 
 // The marks of rows that the other list has are taken; false, and nothing changed, where the budget did not last.
-pub(crate) fn try_quick<'a, 'b, 'c, 'd>(
-    first: &'a [u8],
-    second: &'a [u8],
-    keys: &'b mut [usize],
+pub(crate) fn try_quick(
+    first: &[u8],
+    second: &[u8],
+    keys: &mut [usize],
     nb: usize,
     n: usize,
-    prints: &'c mut [usize],
-    found: &'d mut [usize],
+    prints: &mut [usize],
+    found: &mut [usize],
 ) -> bool
     requires { (nb ≤ n) × (n ≤ length prints.old) × (n ≤ length found.old) }
     ensures { Tried first.now second.now keys.old nb n keys.new result }
 {
     table::clear(prints);
     table::clear(found);
-    fill_prints(first, second, keys, n, prints);
-    if !mark_found(first, second, keys, prints, nb, n, found) {
+    let rows = KeyRows {
+        first,
+        second,
+        keys,
+    };
+    rows.fill_prints(n, prints);
+    if !rows.mark_found(prints, nb, n, found) {
         return false;
     }
     unmark(keys, found, n);

@@ -2,83 +2,91 @@
 ghost use Rattle.std.specs.Prelude.{◌≡◌, [], ℕ, ◌+◌, ◌≤◌, ◌<◌, length};
 ghost use Rattle.table.specs.Table.{laid};
 ghost use Rattle.sorting.specs.Sort.{◌∈◌};
-ghost use Rattle.keyed.specs.Keying.{name_in, same_key, rank_after, ranked, by_rank, missing, holds_all, Whole, Lacks};
+ghost use Rattle.keyed.specs.Keying.{rank_after, ranked, by_rank, missing, holds_all, Whole, Lacks};
+ghost use Rattle.keyed.specs.Rows.{one_key};
 
 use crate::marks::mark_missing;
-use crate::{KEY_FROM, KEY_LEN, KEY_LIST, KEY_MAJOR, KEY_MINOR, KEY_WIDTH, columns, has_room};
-use sorting::Keys;
+use crate::rows::KeyRows;
+use crate::{columns, has_room};
+use sorting::{Keys, Rows};
 
-// The name of row i, a part of its list's bytes.
-pub(crate) fn name_at<'a, 'b>(
-    first: &'a [u8],
-    second: &'a [u8],
-    keys: &'b [usize],
-    i: usize,
-) -> &'a [u8]
-    ensures { result.now ≡ name_in first.now second.now keys.now i }
-{
-    let from = table::cell(keys, KEY_WIDTH, i, KEY_FROM);
-    let len = table::cell(keys, KEY_WIDTH, i, KEY_LEN);
-    if table::cell(keys, KEY_WIDTH, i, KEY_LIST) == 0 {
-        return table::range(first, from, len);
+impl<'a> KeyRows<'a> {
+    // The rank of row i, which stands after row `last` with this rank.
+    fn next_rank(self, last: usize, i: usize, rank: usize) -> usize
+        requires { rank + 1 < 18446744073709551616 }
+        ensures { result ≡ rank_after (one_key self.entry last i) rank }
+    {
+        if self.same_key(last, i) {
+            return rank;
+        }
+        rank + 1
     }
-    table::range(second, from, len)
-}
 
-// Rows i and j have one key.
-pub(crate) fn same_key<'a, 'b>(
-    first: &'a [u8],
-    second: &'a [u8],
-    keys: &'b [usize],
-    i: usize,
-    j: usize,
-) -> bool
-    ensures { result ≡ same_key first.now second.now keys.now i j }
-{
-    table::cell(keys, KEY_WIDTH, i, KEY_MAJOR) == table::cell(keys, KEY_WIDTH, j, KEY_MAJOR)
-        && table::cell(keys, KEY_WIDTH, i, KEY_MINOR) == table::cell(keys, KEY_WIDTH, j, KEY_MINOR)
-        && name_at(first, second, keys, i) == name_at(first, second, keys, j)
-}
-
-// The rank of row i, which stands after row `last` with this rank.
-fn next_rank<'a, 'b>(
-    first: &'a [u8],
-    second: &'a [u8],
-    keys: &'b [usize],
-    last: usize,
-    i: usize,
-    rank: usize,
-) -> usize
-    requires { rank + 1 < 18446744073709551616 }
-    ensures { result ≡ rank_after (same_key first.now second.now keys.now last i) rank }
-{
-    if same_key(first, second, keys, last, i) {
-        return rank;
+    // The rows of a sorted list are ranked from 1 on, one more where the key is not that of the row before.
+    fn number_rows(self, list: &[usize], ranks: &mut [usize])
+        requires { (i : ℕ) → i ∈ list.now → i < length ranks.old }
+        ensures { ranks.new ≡ ranked (one_key self.entry) list.now ranks.old }
+    {
+        if list.is_empty() {
+            return;
+        }
+        let mut last = list[0];
+        let mut rank = 1;
+        for &i in list {
+            rank = self.next_rank(last, i, rank);
+            ranks[i] = rank;
+            last = i;
+        }
     }
-    rank + 1
-}
 
-// The rows of a sorted list are ranked from 1 on, one more where the key is not that of the row before.
-fn number_rows<'a, 'b, 'c, 'd>(
-    first: &'a [u8],
-    second: &'a [u8],
-    keys: &'b [usize],
-    list: &'c [usize],
-    ranks: &'d mut [usize],
-)
-    requires { (i : ℕ) → i ∈ list.now → i < length ranks.old }
-    ensures { ranks.new
-        ≡ ranked (same_key first.now second.now keys.now) list.now ranks.old }
-{
-    if list.is_empty() {
-        return;
+    // Every wanted row in order, its rank, which of them the other list lacks, and these by rank.
+    fn sort_missing(
+        self,
+        nb: usize,
+        n: usize,
+        every: bool,
+        ranks: &mut [usize],
+        lost: &mut [usize],
+        numbers: &mut [usize],
+    ) -> Option<usize>
+        requires nb_le_n { (nb ≤ n) × (n ≤ length ranks.old) × (n ≤ length lost.old) × (n ≤ length numbers.old) }
+        requires ranks_value { (ranks.old ≡ laid (length ranks.old) []) × (lost.old ≡ laid (length lost.old) []) }
+        ensures { Whole (missing self.entry.first.now self.entry.second.now self.entry.keys.now nb n every)
+            numbers.old numbers.new result }
+    {
+        let m = self.by(columns(true)).sort(n, numbers)?;
+        self.number_rows(&numbers[..m], ranks);
+        mark_missing(ranks, nb, n, lost);
+        let marked = Rows {
+            first: self.first,
+            second: self.second,
+            cells: lost,
+            keys: by_rank(every),
+        };
+        marked.sort_others(n, numbers)
     }
-    let mut last = list[0];
-    let mut rank = 1;
-    for &i in list {
-        rank = next_rank(first, second, keys, last, i, rank);
-        ranks[i] = rank;
-        last = i;
+
+    // What `list_missing` answers, by ranks alone.
+    pub(crate) fn list_by_rank(
+        self,
+        nb: usize,
+        nc: usize,
+        every: bool,
+        ranks: &mut [usize],
+        lost: &mut [usize],
+        numbers: &mut [usize],
+    ) -> Option<usize>
+        ensures { Lacks (holds_all (nb + nc) (length ranks.old) (length lost.old) (length numbers.old))
+            (missing self.entry.first.now self.entry.second.now self.entry.keys.now nb (nb + nc) every)
+            numbers.old numbers.new result }
+    {
+        table::clear(ranks);
+        table::clear(lost);
+        table::clear(numbers);
+        if !has_room(nb, nc, ranks.len(), lost.len(), numbers.len()) {
+            return None;
+        }
+        self.sort_missing(nb, nb + nc, every, ranks, lost, numbers)
     }
 }
 
@@ -97,62 +105,4 @@ fn by_rank(every: bool) -> Keys
         minor: 1,
         every,
     }
-}
-
-// Every wanted row in order, its rank, which of them the other list lacks, and these by rank.
-fn sort_missing<'a, 'b, 'c, 'd, 'e>(
-    first: &'a [u8],
-    second: &'a [u8],
-    keys: &'b [usize],
-    nb: usize,
-    n: usize,
-    every: bool,
-    ranks: &'c mut [usize],
-    lost: &'d mut [usize],
-    numbers: &'e mut [usize],
-) -> Option<usize>
-    requires nb_le_n { (nb ≤ n) × (n ≤ length ranks.old) × (n ≤ length lost.old) × (n ≤ length numbers.old) }
-    requires ranks_value { (ranks.old ≡ laid (length ranks.old) []) × (lost.old ≡ laid (length lost.old) []) }
-    ensures { Whole (missing first.now second.now keys.now nb n every)
-        numbers.old numbers.new result }
-{
-    let m = sorting::sort(first, second, keys, columns(true), n, numbers)?;
-    number_rows(first, second, keys, &numbers[..m], ranks);
-    mark_missing(ranks, nb, n, lost);
-    sorting::sort_others(first, second, lost, by_rank(every), n, numbers)
-}
-
-// What `list_missing` answers, by ranks alone.
-pub(crate) fn list_by_rank<'a, 'b, 'c, 'd, 'e>(
-    first: &'a [u8],
-    second: &'a [u8],
-    keys: &'b [usize],
-    nb: usize,
-    nc: usize,
-    every: bool,
-    ranks: &'c mut [usize],
-    lost: &'d mut [usize],
-    numbers: &'e mut [usize],
-) -> Option<usize>
-    ensures { Lacks (holds_all (nb + nc) (length ranks.old) (length lost.old) (length numbers.old))
-        (missing first.now second.now keys.now nb (nb + nc) every)
-        numbers.old numbers.new result }
-{
-    table::clear(ranks);
-    table::clear(lost);
-    table::clear(numbers);
-    if !has_room(nb, nc, ranks.len(), lost.len(), numbers.len()) {
-        return None;
-    }
-    sort_missing(
-        first,
-        second,
-        keys,
-        nb,
-        nb + nc,
-        every,
-        ranks,
-        lost,
-        numbers,
-    )
 }

@@ -18,6 +18,10 @@ kind_byte (Other b) = b
 abbrev pub hex_of : ℕ → ℕ
 hex_of n = pick (ltb n 10) (48 + n) (97 + (n - 10))
 
+-- the two digits of a byte
+abbrev pub hex_byte : ℕ → List ℕ
+hex_byte b = hex_of (b / 16) ∷ hex_of (b % 16) ∷ []
+
 -- func, table, memory, global; others are `other:0x` and two digits
 abbrev pub kind_word : ExternalKind → List ℕ
 kind_word Func = 102 ∷ 117 ∷ 110 ∷ 99 ∷ []

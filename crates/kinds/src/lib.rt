@@ -3,7 +3,7 @@
 
 ghost use Rattle.std.specs.Prelude.{◌≡◌, ◌<◌};
 ghost use Rattle.refusal.specs.Slug.{slug_of};
-ghost use Rattle.kinds.specs.Kinds.{kind_of, kind_byte, kind_word, hex_of, section_word};
+ghost use Rattle.kinds.specs.Kinds.{kind_of, kind_byte, kind_word, hex_of, hex_byte, section_word};
 
 use refusal::{Slug, slug_of};
 
@@ -43,11 +43,18 @@ pub fn kind_byte(k: ExternalKind) -> u8
 }
 
 // A digit of base sixteen, in lower case.
-fn hex(n: u8) -> u8
+fn digit(n: u8) -> u8
     requires { n < 16 }
     ensures { result ≡ hex_of n }
 {
     if n < 10 { b'0' + n } else { b'a' + (n - 10) }
+}
+
+// The two digits of a byte.
+pub fn hex(b: u8) -> [u8; 2]
+    ensures { result ≡ hex_byte b }
+{
+    [digit(b / 16), digit(b % 16)]
 }
 
 pub fn kind_slug(k: ExternalKind) -> Slug
@@ -59,8 +66,7 @@ pub fn kind_slug(k: ExternalKind) -> Slug
         ExternalKind::Memory => slug_of(b"memory"),
         ExternalKind::Global => slug_of(b"global"),
         ExternalKind::Other(b) => {
-            let high = hex(b / 16);
-            let low = hex(b % 16);
+            let [high, low] = hex(b);
             slug_of(&[b'o', b't', b'h', b'e', b'r', b':', b'0', b'x', high, low])
         }
     }

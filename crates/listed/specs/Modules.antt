@@ -6,7 +6,7 @@ use Rattle.table.specs.Table.{cells}
 use Rattle.table.specs.Shape.{width, full_cells}
 use Rattle.output.specs.Cells.{cell_bytes}
 use Rattle.wasm.specs.Rows.{import_cells, export_cells, symbol_cells}
-use Rattle.wasm.specs.Module.{Parsed, module_at, module_of, section_cells}
+use Rattle.wasm.specs.Module.{Parsed, module_at, module_of, section_cells, Lent}
 use Rattle.wasm.specs.declared.Module.{Module}
 use Rattle.conform.specs.Sound.{limits}
 use Rattle.listed.specs.Delivered.{no_part, Delivers}
@@ -67,28 +67,28 @@ module_told n (refused k p) = no_module k p
 
 -- ---- for the code
 -- tables within the limits
-pub record TablesWithin (sections imports exports names : List ℕ) : Type 0 where
-  pub sections-few : length sections ≤ full_cells 1
-  pub imports-few : length imports ≤ full_cells 2
-  pub exports-few : length exports ≤ full_cells 3
-  pub names-few : length names ≤ full_cells 4
+pub record TablesWithin (l : Lent) : Type 0 where
+  pub sections-few : length l.sections ≤ full_cells 1
+  pub imports-few : length l.imports ≤ full_cells 2
+  pub exports-few : length l.exports ≤ full_cells 3
+  pub names-few : length l.names ≤ full_cells 4
 
 -- the counts are of rows that lie in them
-pub record ModuleCounted (m : Module) (sections imports exports names : List ℕ) : Type 0 where
-  pub sections-in : m.sections * width 1 ≤ length sections
-  pub imports-in : m.imports * width 2 ≤ length imports
-  pub exports-in : m.exports * width 3 ≤ length exports
-  pub names_in : m.symbols * width 4 ≤ length names
-  pub within : TablesWithin sections imports exports names
+pub record ModuleCounted (m : Module) (l : Lent) : Type 0 where
+  pub sections-in : m.sections * width 1 ≤ length l.sections
+  pub imports-in : m.imports * width 2 ≤ length l.imports
+  pub exports-in : m.exports * width 3 ≤ length l.exports
+  pub names_in : m.symbols * width 4 ≤ length l.names
+  pub within : TablesWithin l
 
 -- the bytes of the counted rows
-abbrev pub taken_bytes : Module → List ℕ → List ℕ → List ℕ → List ℕ → List ℕ
-taken_bytes m sections imports exports names =
+abbrev pub taken_bytes : Module → Lent → List ℕ
+taken_bytes m l =
     cell_bytes (
-    take (m.sections * width 1) sections
-    ++ take (m.imports * width 2) imports
-    ++ take (m.exports * width 3) exports
-    ++ take (m.symbols * width 4) names)
+    take (m.sections * width 1) l.sections
+    ++ take (m.imports * width 2) l.imports
+    ++ take (m.exports * width 3) l.exports
+    ++ take (m.symbols * width 4) l.names)
 
 -- a file that was read with some tables: it is told as with tables at the limits; or a table was full, and the buffer is as it was
 abbrev pub Tried : List ℕ → List ℕ → Option ModuleTold → List ℕ → Type 0

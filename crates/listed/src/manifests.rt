@@ -7,8 +7,9 @@ ghost use Rattle.listed.specs.Manifests.{no_manifest, manifest_by, manifest_byte
 ghost use Rattle.listed.specs.Manifests.{ManifestCounted, Short, laid_bytes, paths_listed, manifest_listed};
 
 use crate::lists::lay_four;
-use reference_rows::{all_exports, all_imports};
+use reference_rows::{GivenManifest, all_exports, all_imports};
 use refusal::{Part, Refusal};
+use table::given::GivenTable;
 use table::shape::{MAX_SORTED, REFERENCE_CELLS, REFERENCE_WIDTH, WORLD_CELLS, WORLD_WIDTH};
 use wit::Manifest;
 
@@ -71,7 +72,7 @@ fn manifest_of(
     }
 }
 
-// The rows that were read, one table after another, then the two lists.
+// The rows that were read, one table after another, then the two lists. The counts of both tables stand in `m`.
 fn lay_manifest(
     m: Manifest,
     worlds: &[usize],
@@ -106,13 +107,22 @@ fn list_paths(
         (worlds_in m worlds.now) (references_in m references.now))
         out.old result out.new }
 {
-    let n = m.worlds;
-    let k = m.references;
     let mut imported = [0usize; MAX_SORTED];
     let mut exported = [0usize; MAX_SORTED];
-    match all_imports(text, worlds, n, references, k, &mut imported) {
+    let given = GivenManifest {
+        text,
+        worlds: GivenTable {
+            cells: worlds,
+            count: m.worlds,
+        },
+        references: GivenTable {
+            cells: references,
+            count: m.references,
+        },
+    };
+    match all_imports(given, &mut imported) {
         Err(why) => no_manifest(why),
-        Ok(i) => match all_exports(text, worlds, n, references, k, &mut exported) {
+        Ok(i) => match all_exports(given, &mut exported) {
             Err(why) => no_manifest(why),
             Ok(e) => lay_manifest(m, worlds, references, &imported[..i], &exported[..e], out),
         },

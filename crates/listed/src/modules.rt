@@ -3,6 +3,7 @@ ghost use Rattle.std.specs.Prelude.{◌≡◌, ◌≤◌, length};
 ghost use Rattle.refusal.specs.Said.{number_of, where_of, said_by};
 ghost use Rattle.table.specs.Shape.{full_cells};
 ghost use Rattle.wasm.specs.Module.{module_at};
+ghost use Rattle.wasm.specs.Lending.{lent};
 ghost use Rattle.conform.specs.Sound.{limits};
 ghost use Rattle.output.specs.Bytes.{room_for};
 ghost use Rattle.listed.specs.Delivered.{Lays, Delivers};
@@ -15,7 +16,7 @@ use table::shape::{
     FEW_SECTION_CELLS, IMPORT_CELLS, IMPORT_WIDTH, NAME_CELLS, NAME_WIDTH, SECTION_CELLS,
     SECTION_WIDTH,
 };
-use wasm::Module;
+use wasm::{LentTables, Module};
 
 // The cells of tables for the smallest modules: 8 sections, 4 imports, 4 exports, no function name.
 const LEAST_SECTIONS: usize = 8 * SECTION_WIDTH;
@@ -88,18 +89,9 @@ fn module_of(m: Module, w: Result<usize, Refusal>) -> ModuleTold
 }
 
 // The rows that were read, one table after another.
-fn lay_module(
-    m: Module,
-    sections: &[usize],
-    imports: &[usize],
-    exports: &[usize],
-    names: &[usize],
-    out: &mut [u8],
-) -> ModuleTold
-    requires { ModuleCounted m sections.now imports.now exports.now names.now }
-    ensures { Lays (module_by m)
-        (room_for (taken_bytes m sections.now imports.now exports.now names.now)
-        (length out.old)) out.old result out.new }
+fn lay_module(m: Module, tables: &LentTables, out: &mut [u8]) -> ModuleTold
+    requires { ModuleCounted m (lent tables.now) }
+    ensures { Lays (module_by m) (room_for (taken_bytes m (lent tables.now)) (length out.old)) out.old result out.new }
 {
     let a = m.sections * SECTION_WIDTH;
     let b = m.imports * IMPORT_WIDTH;
@@ -108,10 +100,10 @@ fn lay_module(
     module_of(
         m,
         lay_four(
-            &sections[..a],
-            &imports[..b],
-            &exports[..c],
-            &names[..d],
+            &tables.sections[..a],
+            &tables.imports[..b],
+            &tables.exports[..c],
+            &tables.names[..d],
             out,
         ),
     )
@@ -127,12 +119,14 @@ fn list_in<const S: usize, const I: usize, const E: usize, const N: usize>(
     requires { (S ≤ full_cells 1) × (I ≤ full_cells 2) × (E ≤ full_cells 3) × (N ≤ full_cells 4) }
     ensures { Tried file.now out.old result out.new }
 {
-    let mut sections = [0usize; S];
-    let mut imports = [0usize; I];
-    let mut exports = [0usize; E];
-    let mut names = [0usize; N];
-    match wasm::read_module(file, &mut sections, &mut imports, &mut exports, &mut names) {
-        Ok(m) => Some(lay_module(m, &sections, &imports, &exports, &names, out)),
+    let mut tables = LentTables {
+        sections: &mut [0; S],
+        imports: &mut [0; I],
+        exports: &mut [0; E],
+        names: &mut [0; N],
+    };
+    match wasm::read_module(file, &mut tables) {
+        Ok(m) => Some(lay_module(m, &tables, out)),
         Err(Refusal::Full(_)) => None,
         Err(why) => Some(no_module(why)),
     }
@@ -144,12 +138,14 @@ fn list_all(file: &[u8], out: &mut [u8]) -> ModuleTold
     ensures { Delivers module_bytes (module_told (length file.now)) (module_at file.now limits)
         out.old result out.new }
 {
-    let mut sections = [0usize; SECTION_CELLS];
-    let mut imports = [0usize; IMPORT_CELLS];
-    let mut exports = [0usize; EXPORT_CELLS];
-    let mut names = [0usize; NAME_CELLS];
-    match wasm::read_module(file, &mut sections, &mut imports, &mut exports, &mut names) {
-        Ok(m) => lay_module(m, &sections, &imports, &exports, &names, out),
+    let mut tables = LentTables {
+        sections: &mut [0; SECTION_CELLS],
+        imports: &mut [0; IMPORT_CELLS],
+        exports: &mut [0; EXPORT_CELLS],
+        names: &mut [0; NAME_CELLS],
+    };
+    match wasm::read_module(file, &mut tables) {
+        Ok(m) => lay_module(m, &tables, out),
         Err(why) => no_module(why),
     }
 }

@@ -4,3 +4,4 @@ pub mod Putting
 pub mod ByteLaws
 pub mod Words
 pub mod Known
+pub mod Writing

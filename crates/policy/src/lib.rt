@@ -15,11 +15,12 @@ use refusal::Refusal;
 use text::lines::line_at;
 use text::pieces::test_text;
 
+// The number of a stance is what C is told.
 #[derive(Clone, Copy)]
 pub enum Stance {
-    None,
-    Allow,
-    Deny,
+    None = 0,
+    Allow = 1,
+    Deny = 2,
 }
 
 // A domain's rule, and the range of its token list: from after the `:` to the end of the line; 0, 0 without one.
@@ -44,6 +45,7 @@ pub struct Policy {
 }
 
 // Deny by default: what an empty text gives.
+#[tactic(auto, unfolding(crate::specs::Reader::zero_policy))]
 pub fn default_policy() -> Policy
     ensures { result ≡ zero_policy }
 {
@@ -80,6 +82,7 @@ fn obeyed_by(p: Policy, heard: Heard) -> Policy
     v
 }
 
+// No `for` over the lines: where one ends is read, and each has its number.
 fn read_lines(s: &[u8]) -> Result<Policy, Refusal>
     ensures { said_by result ≡ run obey 1 zero_policy (lines_of s.now) }
 {

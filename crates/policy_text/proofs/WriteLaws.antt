@@ -29,8 +29,11 @@ use Rattle.policy.specs.declared.Slot.{Slot}
 use Rattle.policy.specs.declared.Stance.{Stance}
 use Rattle.policy.specs.declared.Stance.TheVariants.{None, Allow, Deny}
 use Rattle.text.proofs.PieceLaws.{trim-is, trim-bytes, piece-long, first_piece, beyond-piece}
-use Rattle.output.specs.Bytes.{most, Wrote, FormedFrom}
-use Rattle.output.proofs.ByteLaws.{wrote_none, wrote_then, formed-first}
+use Rattle.output.specs.Bytes.{most, FormedFrom}
+use Rattle.output.specs.Writing.{Added}
+use Rattle.output.specs.declared.bytes.Writer.{Writer}
+use Rattle.output.proofs.ByteLaws.{formed-first}
+use Rattle.output.proofs.Writing.{added_none, added_then}
 use Rattle.output.proofs.Words.{slug-long}
 use Rattle.policy_text.specs.Writer.{written, Writes, form, stance_word, name_line, default_line, form_lines}
 use Rattle.policy_text.specs.Writer.{joined, list_part, rule_line, rule_lines, unlines}
@@ -147,30 +150,30 @@ pub whole-list : (s : List ℕ) → bytes_between s 0 (length s) ≡ s
 whole-list s = let z : length s - 0 ≡ length s = omega arith in rw z (take-length s)
 
 -- ---- the loop's state: so much is written, and what is left makes the whole
-pub record Going (s : List ℕ) (a e : ℕ) (d : List ℕ) (at : ℕ) (go : Bool) (x : List ℕ) (i n : ℕ) (some : Bool) : Type 0 where
+pub record Going (s : List ℕ) (a e : ℕ) (before : Writer) (now : Writer) (i : ℕ) (some : Bool) : Type 0 where
   pub done : List ℕ
-  pub wrote : Wrote d at go done n x
+  pub wrote : Added before done now
   pub whole : list_part (tokens (bytes_between s a e)) ≡ done ++ rest some (left_t s i e)
 
-pub going-first : (s : List ℕ) (a e : ℕ) (d : List ℕ) (at : ℕ) (go : Bool) → a ≤ e → at ≤ most → Going s a e d at go d a at false
-going-first s a e d at go h m = record { done = []; wrote = wrote_none d at go m; whole = unfold rest in rw (le-leb a e h) }
+pub going-first : (s : List ℕ) (a e : ℕ) (w : Writer) → a ≤ e → Going s a e w w a false
+going-first s a e w h = record { done = []; wrote = added_none w; whole = unfold rest in rw (le-leb a e h) }
 
-pub going_next : {s : List ℕ} {a e : ℕ} {d : List ℕ} {at : ℕ} {go : Bool} {x : List ℕ} {i n : ℕ} {some : Bool} (k f g m : ℕ) (y : List ℕ)
-    → Going s a e d at go x i n some → i ≤ e → e ≤ length s → k ≡ index_of 44 (bytes_between s i e) → TrimTo s i (i + k) f g
-    → Wrote x n go (token_form some (bytes_between s f g)) m y → Going s a e d at go y (i + k + 1) m (any_token some (bytes_between s f g))
-going_next {s} {a} {e} {d} {at} {go} {x} {i} {n} {some} k f g m y w h l q t r =
+pub going_next : {s : List ℕ} {a e : ℕ} {before now : Writer} {i : ℕ} {some : Bool} (k f g : ℕ) {next : Writer}
+    → Going s a e before now i some → i ≤ e → e ≤ length s → k ≡ index_of 44 (bytes_between s i e) → TrimTo s i (i + k) f g
+    → Added now (token_form some (bytes_between s f g)) next → Going s a e before next (i + k + 1) (any_token some (bytes_between s f g))
+going_next {s} {a} {e} {before} {now} {i} {some} k f g {next} w h l q t r =
     let p = token_form some (bytes_between s f g) in
     let z = rest (any_token some (bytes_between s f g)) (left_t s (i + k + 1) e) in
     record {
       done = w.done ++ p;
-      wrote = wrote_then w.wrote r;
+      wrote = added_then w.wrote r;
       whole = w.whole
           ∙ ap (λ (v : List ℕ). w.done ++ v) (list-next s i e k f g some h l q t) ∙ sym (append_assoc w.done p z);
     }
 
-pub going-last : {s : List ℕ} {a e : ℕ} {d : List ℕ} {at : ℕ} {go : Bool} {x : List ℕ} {i n : ℕ} {some : Bool}
-    → Going s a e d at go x i n some → e < i → Wrote d at go (list_part (tokens (bytes_between s a e))) n x
-going-last {s} {a} {e} {d} {at} {go} {x} {i} {n} {some} w h =
+pub going-last : {s : List ℕ} {a e : ℕ} {before now : Writer} {i : ℕ} {some : Bool}
+    → Going s a e before now i some → e < i → Added before (list_part (tokens (bytes_between s a e))) now
+going-last {s} {a} {e} {before} {now} {i} {some} w h =
     rw (w.whole ∙ ap (λ (v : List ℕ). w.done ++ v) (list_done s i e some h) ∙ append-nil w.done) w.wrote
 
 -- ---- the lines of the rules
@@ -207,18 +210,18 @@ unfolding unlines rule_lines
 rules-next d silent rs = refl
 rules-next d (ruling t ts) rs = sym (append_snoc (rule_line t d ts) 10 (unlines (rule_lines (suc d) rs)))
 
-pub record Turning (s : List ℕ) (xs : List Slot) (d : List ℕ) (at : ℕ) (go : Bool) (x : List ℕ) (k n : ℕ) : Type 0 where
+pub record Turning (s : List ℕ) (xs : List Slot) (before : Writer) (now : Writer) (k : ℕ) : Type 0 where
   pub done : List ℕ
-  pub wrote : Wrote d at go done n x
+  pub wrote : Added before done now
   pub whole : unlines (rule_lines 0 (map (rule_of s) xs)) ≡ done ++ unlines (rule_lines k (map (rule_of s) (drop k xs)))
 
-pub turning-first : (s : List ℕ) (xs : List Slot) (d : List ℕ) (at : ℕ) (go : Bool) → at ≤ most → Turning s xs d at go d 0 at
-turning-first s xs d at go m = record { done = []; wrote = wrote_none d at go m; whole = refl }
+pub turning-first : (s : List ℕ) (xs : List Slot) (w : Writer) → Turning s xs w w 0
+turning-first s xs w = record { done = []; wrote = added_none w; whole = refl }
 
-pub turning-next : {s : List ℕ} {xs : List Slot} {d : List ℕ} {at : ℕ} {go : Bool} {x : List ℕ} {k n m : ℕ} {y : List ℕ}
-    (w : Turning s xs d at go x k n) (z : Slot) → drop k xs ≡ z ∷ drop (k + 1) xs
-    → Wrote x n go (rule_text k (rule_of s z)) m y → Turning s xs d at go y (k + 1) m
-turning-next {s} {xs} {d} {at} {go} {x} {k} {n} {m} {y} w z e r =
+pub turning-next : {s : List ℕ} {xs : List Slot} {before now next : Writer} {k : ℕ}
+    (w : Turning s xs before now k) (z : Slot) → drop k xs ≡ z ∷ drop (k + 1) xs
+    → Added now (rule_text k (rule_of s z)) next → Turning s xs before next (k + 1)
+turning-next {s} {xs} {before} {now} {next} {k} w z e r =
     let p = rule_text k (rule_of s z) in
     let o : unlines (rule_lines k (map (rule_of s) (drop k xs))) ≡ p ++ unlines (rule_lines (k + 1) (map (rule_of s) (drop (k + 1) xs))) =
     ap (λ (l : List Slot). unlines (rule_lines k (map (rule_of s) l))) e
@@ -226,14 +229,14 @@ turning-next {s} {xs} {d} {at} {go} {x} {k} {n} {m} {y} w z e r =
     ∙ ap (λ (j : ℕ). p ++ unlines (rule_lines j (map (rule_of s) (drop (k + 1) xs)))) (sym (add-one k)) in
     record {
       done = w.done ++ p;
-      wrote = wrote_then w.wrote r;
+      wrote = added_then w.wrote r;
       whole = w.whole ∙ ap (λ (v : List ℕ). w.done ++ v) o
           ∙ sym (append_assoc w.done p (unlines (rule_lines (k + 1) (map (rule_of s) (drop (k + 1) xs)))));
     }
 
-pub turning-last : {s : List ℕ} {xs : List Slot} {d : List ℕ} {at : ℕ} {go : Bool} {x : List ℕ} {k n : ℕ}
-    → Turning s xs d at go x k n → drop k xs ≡ [] → Wrote d at go (unlines (rule_lines 0 (map (rule_of s) xs))) n x
-turning-last {s} {xs} {d} {at} {go} {x} {k} {n} w e =
+pub turning-last : {s : List ℕ} {xs : List Slot} {before now : Writer} {k : ℕ}
+    → Turning s xs before now k → drop k xs ≡ [] → Added before (unlines (rule_lines 0 (map (rule_of s) xs))) now
+turning-last {s} {xs} {before} {now} {k} w e =
     let o : unlines (rule_lines k (map (rule_of s) (drop k xs))) ≡ [] =
     ap (λ (l : List Slot). unlines (rule_lines k (map (rule_of s) l))) e ∙ (unfold unlines rule_lines in refl) in
     rw (w.whole ∙ ap (λ (v : List ℕ). w.done ++ v) o ∙ append-nil w.done) w.wrote

@@ -8,11 +8,12 @@ ghost use Rattle.refusal.specs.Pick.{pick};
 ghost use Rattle.refusal.specs.Sizes.{text_limit};
 ghost use Rattle.policy.specs.Eight.{SlotFits, SlotsFit};
 ghost use Rattle.policy.specs.View.{tokens, no_name, range, rule_of, says};
-ghost use Rattle.output.specs.Bytes.{Wrote, FormedFrom};
+ghost use Rattle.output.specs.Bytes.{FormedFrom};
+ghost use Rattle.output.specs.Writing.{Added};
 ghost use Rattle.policy_text.specs.Writer.{stance_word, list_part, form, Writes};
 ghost use Rattle.policy_text.specs.Writing.{token_form, any_token, line_text, rule_text, rules_text};
 
-use output::bytes::{put, put_domain};
+use output::bytes::Writer;
 use policy::ranges::test_policy;
 use policy::{Policy, Slot, Stance};
 use refusal::Refusal;
@@ -20,15 +21,14 @@ use text::find::find;
 use text::white::trim;
 
 // A token after its separator: `: ` before the first, `, ` before each other. No token, nothing.
-fn put_token(out: &mut [u8], at: usize, token: &[u8], some: bool, go: bool) -> usize
-    ensures { Wrote out.old at go (token_form some token.now) result out.new }
+fn put_token(out: &mut Writer, token: &[u8], some: bool)
+    ensures same_reference { out.new.out.ghost_name ≡ out.old.out.ghost_name }
+    ensures added { Added out.old (token_form some token.now) out.new }
 {
-    if token.is_empty() {
-        return at;
+    if !token.is_empty() {
+        out.put(if some { b", " } else { b": " });
+        out.put(token);
     }
-    let separator = if some { b", " } else { b": " };
-    let n = put(out, at, separator, go);
-    put(out, n, token, go)
 }
 
 // There was a token, or there is one now.
@@ -39,94 +39,97 @@ fn mark(some: bool, token: &[u8]) -> bool
 }
 
 // The tokens of a list.
-fn put_list(list: &[u8], out: &mut [u8], at: usize, go: bool) -> usize
+fn put_list(out: &mut Writer, list: &[u8])
     requires { length list.now ≤ text_limit }
-    ensures { Wrote out.old at go (list_part (tokens list.now)) result out.new }
+    ensures same_reference { out.new.out.ghost_name ≡ out.old.out.ghost_name }
+    ensures added { Added out.old (list_part (tokens list.now)) out.new }
 {
     let mut i = 0;
-    let mut n = at;
     let mut some = false;
     while i <= list.len() {
         let j = i + find(&list[i..], b',');
         let t = trim(&list[i..j]);
         let from = i + t.from;
         let token = &list[from..from + t.len];
-        n = put_token(out, n, token, some, go);
+        put_token(out, token, some);
         some = mark(some, token);
         i = j + 1;
     }
-    n
 }
 
-fn put_stance(out: &mut [u8], at: usize, allow: bool, go: bool) -> usize
-    ensures { Wrote out.old at go (stance_word allow) result out.new }
+fn put_stance(out: &mut Writer, allow: bool)
+    ensures same_reference { out.new.out.ghost_name ≡ out.old.out.ghost_name }
+    ensures added { Added out.old (stance_word allow) out.new }
 {
     if allow {
-        put(out, at, b"allow", go)
+        out.put(b"allow");
     } else {
-        put(out, at, b"deny", go)
+        out.put(b"deny");
     }
 }
 
 // The line of a rule for domain d, with its list.
-fn put_line(list: &[u8], allow: bool, d: usize, out: &mut [u8], at: usize, go: bool) -> usize
+fn put_line(out: &mut Writer, list: &[u8], allow: bool, d: usize)
     requires { length list.now ≤ text_limit }
-    ensures { Wrote out.old at go (line_text allow d (tokens list.now)) result out.new }
+    ensures same_reference { out.new.out.ghost_name ≡ out.old.out.ghost_name }
+    ensures added { Added out.old (line_text allow d (tokens list.now)) out.new }
 {
-    let a = put_stance(out, at, allow, go);
-    let b = put(out, a, b" ", go);
-    let c = put_domain(out, b, d, go);
-    let e = put_list(list, out, c, go);
-    put(out, e, b"\n", go)
+    put_stance(out, allow);
+    out.put(b" ");
+    out.put_domain(d);
+    put_list(out, list);
+    out.put(b"\n");
 }
 
 // A domain's rule, where it has one.
-fn put_rule(s: &[u8], x: Slot, d: usize, out: &mut [u8], at: usize, go: bool) -> usize
+fn put_rule(out: &mut Writer, s: &[u8], x: Slot, d: usize)
     requires { (SlotFits (length s.now) x) × (length s.now ≤ text_limit) }
-    ensures { Wrote out.old at go (rule_text d (rule_of s.now x)) result out.new }
+    ensures same_reference { out.new.out.ghost_name ≡ out.old.out.ghost_name }
+    ensures added { Added out.old (rule_text d (rule_of s.now x)) out.new }
 {
     let list = &s[x.from..x.from + x.len];
     match x.stance {
-        Stance::None => at,
-        Stance::Allow => put_line(list, true, d, out, at, go),
-        Stance::Deny => put_line(list, false, d, out, at, go),
+        Stance::None => {}
+        Stance::Allow => put_line(out, list, true, d),
+        Stance::Deny => put_line(out, list, false, d),
     }
 }
 
 // The explicit rules, in domain order.
-fn put_rules(s: &[u8], p: Policy, out: &mut [u8], at: usize, go: bool) -> usize
+fn put_rules(out: &mut Writer, s: &[u8], p: Policy)
     requires { (SlotsFit (length s.now) p.rules) × (length s.now ≤ text_limit) }
-    ensures { Wrote out.old at go (rules_text s.now p) result out.new }
+    ensures same_reference { out.new.out.ghost_name ≡ out.old.out.ghost_name }
+    ensures added { Added out.old (rules_text s.now p) out.new }
 {
-    let mut n = at;
     for (d, rule) in p.rules.iter().enumerate() {
-        n = put_rule(s, *rule, d, out, n, go);
+        put_rule(out, s, *rule, d);
     }
-    n
 }
 
-fn put_name(s: &[u8], p: Policy, out: &mut [u8], at: usize, go: bool) -> usize
+fn put_name(out: &mut Writer, s: &[u8], p: Policy)
     requires { p.start + p.size ≤ length s.now }
-    ensures { Wrote out.old at go (pick p.named (range s.now p.start p.size) no_name) result out.new }
+    ensures same_reference { out.new.out.ghost_name ≡ out.old.out.ghost_name }
+    ensures added { Added out.old (pick p.named (range s.now p.start p.size) no_name) out.new }
 {
     if p.named {
-        put(out, at, &s[p.start..p.start + p.size], go)
+        out.put(&s[p.start..p.start + p.size]);
     } else {
-        put(out, at, b"default-deny", go)
+        out.put(b"default-deny");
     }
 }
 
 // The whole text of a policy whose ranges fit its text.
-fn put_form(s: &[u8], p: Policy, out: &mut [u8], go: bool) -> usize
+fn put_form(out: &mut Writer, s: &[u8], p: Policy)
     requires { (SlotsFit (length s.now) p.rules) × (p.start + p.size ≤ length s.now) × (length s.now ≤ text_limit) }
-    ensures { Wrote out.old 0 go (form (says s.now p)) result out.new }
+    ensures same_reference { out.new.out.ghost_name ≡ out.old.out.ghost_name }
+    ensures added { Added out.old (form (says s.now p)) out.new }
 {
-    let a = put(out, 0, b"policy \"", go);
-    let b = put_name(s, p, out, a, go);
-    let c = put(out, b, b"\"\ndefault ", go);
-    let d = put_stance(out, c, p.permit, go);
-    let e = put(out, d, b"\n", go);
-    put_rules(s, p, out, e, go)
+    out.put(b"policy \"");
+    put_name(out, s, p);
+    out.put(b"\"\ndefault ");
+    put_stance(out, p.permit);
+    out.put(b"\n");
+    put_rules(out, s, p);
 }
 
 // The text of such a policy into the buffer, where it has room for all of it.
@@ -134,11 +137,15 @@ fn write_form(s: &[u8], p: Policy, out: &mut [u8]) -> Result<usize, Refusal>
     requires { (SlotsFit (length s.now) p.rules) × (p.start + p.size ≤ length s.now) × (length s.now ≤ text_limit) }
     ensures { FormedFrom 0 (form (says s.now p)) out.old result out.new }
 {
-    let needed = put_form(s, p, out, false);
+    let mut counted = Writer::counting(out, 0);
+    put_form(&mut counted, s, p);
+    let needed = counted.at;
     if out.len() < needed {
         return Err(Refusal::NoRoom(needed));
     }
-    Ok(put_form(s, p, out, true))
+    let mut written = Writer::writing(out, 0);
+    put_form(&mut written, s, p);
+    Ok(written.at)
 }
 
 // The text of a policy: 14, 4 and 15 of what is handed in, 16 last. Refused, nothing is touched; accepted, nothing past the text.

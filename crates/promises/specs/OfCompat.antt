@@ -29,11 +29,11 @@ pub compare-modules-decides : Decides compare-modules-kinds.ps compare-modules-k
 compare-modules-decides κs a x y s t p q = compared-known x y (p.answer-is ∙ sym q.answer-is)
 
 -- every cell of the tables
-module _ (κs : Lfts 7) (a : Dens κs compare-modules-kinds.ps) (x y : (res_t compare-modules-kinds.r κs).Denot)
-    (s t : AtExit (ended_of 7 compare-modules-kinds.ps compare-modules-kinds.r) κs) (p : compare-modules.Post κs a x s)
+module _ (κs : Lfts 6) (a : Dens κs compare-modules-kinds.ps) (x y : (res_t compare-modules-kinds.r κs).Denot)
+    (s t : AtExit (ended_of 6 compare-modules-kinds.ps compare-modules-kinds.r) κs) (p : compare-modules.Post κs a x s)
     (q : compare-modules.Post κs a y t) where
-  pub exports-left : s.1.1.1.1.1.1.1.1.1.1.0.now ≡ t.1.1.1.1.1.1.1.1.1.1.0.now
+  pub exports-left : s.1.1.0.now ≡ t.1.1.0.now
   exports-left = p.table8-is ∙ sym q.table8-is
 
-  pub capabilities-left : s.1.1.1.1.1.1.1.1.1.1.1.0.now ≡ t.1.1.1.1.1.1.1.1.1.1.1.0.now
+  pub capabilities-left : s.1.1.1.0.now ≡ t.1.1.1.0.now
   capabilities-left = p.table9-is ∙ sym q.table9-is

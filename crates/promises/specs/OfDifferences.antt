@@ -41,12 +41,12 @@ check-tables-decides κs a x y s t p q = result-known x y (p ∙ sym q)
 pub check-both-decides : Decides check-both-kinds.ps check-both-kinds.r check_both.Post
 check-both-decides κs a x y s t p q = result-known x y (p ∙ sym q)
 
-pub export-diff-name-decides : (κs : Lfts 3) (a : Dens κs export-kinds.ps) (x y : (res_t export-kinds.r κs).Denot)
-    (s t : AtExit (ended_of 3 export-kinds.ps export-kinds.r) κs) → export.Post κs a x s → export.Post κs a y t
+pub export-diff-name-decides : (κs : Lfts 2) (a : Dens κs export-kinds.ps) (x y : (res_t export-kinds.r κs).Denot)
+    (s t : AtExit (ended_of 2 export-kinds.ps export-kinds.r) κs) → export.Post κs a x s → export.Post κs a y t
     → (x.now ≡ y.now) × (x.ref_ptr.0 ≡ y.ref_ptr.0) × (x.ref_ptr.1 ≡ y.ref_ptr.1)
 export-diff-name-decides κs a x y s t p q = (p.0 ∙ sym q.0, p.1 ∙ sym q.1, p.2 ∙ sym q.2)
 
-pub capability-diff-source-decides : (κs : Lfts 3) (a : Dens κs capability-kinds.ps) (x y : (res_t capability-kinds.r κs).Denot)
-    (s t : AtExit (ended_of 3 capability-kinds.ps capability-kinds.r) κs) → capability.Post κs a x s → capability.Post κs a y t
+pub capability-diff-source-decides : (κs : Lfts 2) (a : Dens κs capability-kinds.ps) (x y : (res_t capability-kinds.r κs).Denot)
+    (s t : AtExit (ended_of 2 capability-kinds.ps capability-kinds.r) κs) → capability.Post κs a x s → capability.Post κs a y t
     → (x.now ≡ y.now) × (x.ref_ptr.0 ≡ y.ref_ptr.0) × (x.ref_ptr.1 ≡ y.ref_ptr.1)
 capability-diff-source-decides κs a x y s t p q = (p.0 ∙ sym q.0, p.1 ∙ sym q.1, p.2 ∙ sym q.2)

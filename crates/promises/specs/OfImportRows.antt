@@ -29,5 +29,5 @@ import-namespaces-decides κs a x y s t p q = result-known x y (p.answer-is ∙ 
 
 pub import-namespaces-leaves : (κs : Lfts 3) (a : Dens κs import-namespaces-kinds.ps) (x y : (res_t import-namespaces-kinds.r κs).Denot)
     (s t : AtExit (ended_of 3 import-namespaces-kinds.ps import-namespaces-kinds.r) κs)
-    → import-namespaces.Post κs a x s → import-namespaces.Post κs a y t → s.1.1.1.0.now ≡ t.1.1.1.0.now
+    → import-namespaces.Post κs a x s → import-namespaces.Post κs a y t → s.1.1.0.now ≡ t.1.1.0.now
 import-namespaces-leaves κs a x y s t p q = p.table_is ∙ sym q.table_is

@@ -8,6 +8,8 @@ use Rattle.kinds.proofs.kind_of.Kinds as kind-of-kinds
 use Rattle.kinds.proofs.kind_of.Reads as kind-of
 use Rattle.kinds.proofs.kind_byte.Kinds as kind-byte-kinds
 use Rattle.kinds.proofs.kind_byte.Reads as kind-byte
+use Rattle.kinds.proofs.hex.Kinds as hex-kinds
+use Rattle.kinds.proofs.hex.Reads as hex
 use Rattle.kinds.proofs.kind_slug.Kinds as kind-slug-kinds
 use Rattle.kinds.proofs.kind_slug.Reads as kind-slug
 use Rattle.kinds.proofs.section_name.Kinds as section-name-kinds
@@ -18,6 +20,9 @@ kind-of-decides κs a x y s t p q = p ∙ sym q
 
 pub kind-byte-decides : Decides kind-byte-kinds.ps kind-byte-kinds.r kind-byte.Post
 kind-byte-decides κs a x y s t p q = p ∙ sym q
+
+pub hex-decides : Decides hex-kinds.ps hex-kinds.r hex.Post
+hex-decides κs a x y s t p q = p ∙ sym q
 
 pub kind-slug-decides : Decides kind-slug-kinds.ps kind-slug-kinds.r kind-slug.Post
 kind-slug-decides κs a x y s t p q = p ∙ sym q

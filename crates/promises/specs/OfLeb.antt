@@ -28,6 +28,8 @@ use Rattle.leb.proofs.Cursor.counted.Kinds as counted-kinds
 use Rattle.leb.proofs.Cursor.counted.Reads as counted
 use Rattle.leb.proofs.Cursor.name.Kinds as name-kinds
 use Rattle.leb.proofs.Cursor.name.Reads as name
+use Rattle.leb.proofs.RefusalFromUnread.from.Kinds as from-unread-kinds
+use Rattle.leb.proofs.RefusalFromUnread.from.Reads as from-unread
 
 pub new-decides : Decides new-kinds.ps new-kinds.r new.Post
 new-decides κs a x y s t p q = p ∙ sym q
@@ -67,3 +69,7 @@ counted-decides κs a x y s t p q = read-known x y (p ∙ sym q)
 
 pub name-decides : Decides name-kinds.ps name-kinds.r name.Post
 name-decides κs a x y s t p q = read-known x y (p ∙ sym q)
+
+-- why a read of any kind was refused: `?` hands it on by this one function
+pub from-unread-decides : Decides from-unread-kinds.ps from-unread-kinds.r from-unread.Post
+from-unread-decides κs a x y s t p q = p ∙ sym q

@@ -75,8 +75,8 @@ list-comparison-leaves κs a x y s t p q = p.output-is ∙ sym q.output-is
 pub compare-call-decides : Decides compare-kinds.ps compare-kinds.r compare.Post
 compare-call-decides κs a x y s t p q = p.answer-is ∙ sym q.answer-is
 
-pub compare-call-leaves : (κs : Lfts 2) (a : Dens κs compare-kinds.ps) (x y : (res_t compare-kinds.r κs).Denot)
-    (s t : AtExit (ended_of 2 compare-kinds.ps compare-kinds.r) κs)
+pub compare-call-leaves : (κs : Lfts 3) (a : Dens κs compare-kinds.ps) (x y : (res_t compare-kinds.r κs).Denot)
+    (s t : AtExit (ended_of 3 compare-kinds.ps compare-kinds.r) κs)
     → compare.Post κs a x s → compare.Post κs a y t → s.1.1.0.now ≡ t.1.1.0.now
 compare-call-leaves κs a x y s t p q = p.output-is ∙ sym q.output-is
 

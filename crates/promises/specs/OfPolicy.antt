@@ -1,13 +1,15 @@
 -- No two answers satisfy the promise of any function of policy and of rewriting. Assumes nothing.
-use Rattle.std.specs.Prelude.{◌≡◌, refl}
+use Rattle.std.specs.Prelude.{◌≡◌, refl, Result}
 use Rattle.std.proofs.Common.{sym, ◌∙◌}
 use contract.Lifetimes.{Lfts}
 use borrow.Fn.Kinds.{Dens, res_t, ended_of}
 use denote.Triple.Clauses.{AtExit}
+use Rattle.refusal.specs.declared.Refusal.{Refusal}
+use Rattle.refusal.specs.Said.{refused_by}
 use Rattle.refusal.proofs.Known.{result-known, taken_back}
 use Rattle.domains.proofs.DomainLaws.{same-domain}
 use Rattle.domains.proofs.Known.{found-known}
-use Rattle.verdicts.specs.Evaluate.{Outcome, outcome_in}
+use Rattle.verdicts.specs.Evaluate.{Outcome, outcome_in, said_evaluation}
 use Rattle.verdicts.specs.declared.Evaluation.{Evaluation}
 use Rattle.verdicts.proofs.Known.{evaluation-known}
 use Rattle.output.proofs.Known.{one_answer, one-output}
@@ -92,6 +94,11 @@ is-compliant-decides κs a x y s t p q = p ∙ sym q
 
 pub evaluate-domains-decides : Decides evaluate-domains-kinds.ps evaluate-domains-kinds.r evaluate-domains.Post
 evaluate-domains-decides κs a x y s t p q = evaluation-known x y p q
+
+-- no two answers are one refusal: no verdict stands beside it
+pub refused-evaluation-decides : (why : Refusal) (x y : Result Evaluation Refusal)
+    → said_evaluation x ≡ refused_by why → said_evaluation y ≡ refused_by why → x ≡ y
+refused-evaluation-decides why x y p q = evaluation-known x y p q
 
 pub judge-decides : Decides judge-kinds.ps judge-kinds.r judge.Post
 judge-decides κs a x y s t p q = outcome-known x y (p ∙ sym q)

@@ -19,15 +19,15 @@ check-manifest-decides κs a x y s t p q = result-known x y (p ∙ sym q)
 pub all-imports-decides : Decides all-imports-kinds.ps all-imports-kinds.r all-imports.Post
 all-imports-decides κs a x y s t p q = result-known x y (p.answer-is ∙ sym q.answer-is)
 
-pub all-imports-leaves : (κs : Lfts 4) (a : Dens κs all-imports-kinds.ps) (x y : (res_t all-imports-kinds.r κs).Denot)
-    (s t : AtExit (ended_of 4 all-imports-kinds.ps all-imports-kinds.r) κs)
-    → all-imports.Post κs a x s → all-imports.Post κs a y t → s.1.1.1.1.1.0.now ≡ t.1.1.1.1.1.0.now
+pub all-imports-leaves : (κs : Lfts 2) (a : Dens κs all-imports-kinds.ps) (x y : (res_t all-imports-kinds.r κs).Denot)
+    (s t : AtExit (ended_of 2 all-imports-kinds.ps all-imports-kinds.r) κs)
+    → all-imports.Post κs a x s → all-imports.Post κs a y t → s.1.0.now ≡ t.1.0.now
 all-imports-leaves κs a x y s t p q = p.table_is ∙ sym q.table_is
 
 pub all-exports-decides : Decides all-exports-kinds.ps all-exports-kinds.r all-exports.Post
 all-exports-decides κs a x y s t p q = result-known x y (p.answer-is ∙ sym q.answer-is)
 
-pub all-exports-leaves : (κs : Lfts 4) (a : Dens κs all-exports-kinds.ps) (x y : (res_t all-exports-kinds.r κs).Denot)
-    (s t : AtExit (ended_of 4 all-exports-kinds.ps all-exports-kinds.r) κs)
-    → all-exports.Post κs a x s → all-exports.Post κs a y t → s.1.1.1.1.1.0.now ≡ t.1.1.1.1.1.0.now
+pub all-exports-leaves : (κs : Lfts 2) (a : Dens κs all-exports-kinds.ps) (x y : (res_t all-exports-kinds.r κs).Denot)
+    (s t : AtExit (ended_of 2 all-exports-kinds.ps all-exports-kinds.r) κs)
+    → all-exports.Post κs a x s → all-exports.Post κs a y t → s.1.0.now ≡ t.1.0.now
 all-exports-leaves κs a x y s t p q = p.table_is ∙ sym q.table_is

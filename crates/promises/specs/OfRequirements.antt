@@ -30,20 +30,20 @@ from-module-decides κs a x y s t p q = result-known x y (p.answer-is ∙ sym q.
 module _ (κs : Lfts 4) (a : Dens κs from-module-kinds.ps) (x y : (res_t from-module-kinds.r κs).Denot)
     (s t : AtExit (ended_of 4 from-module-kinds.ps from-module-kinds.r) κs) (p : from-module.Post κs a x s)
     (q : from-module.Post κs a y t) where
-  pub from-module-domains : s.1.1.1.0.now ≡ t.1.1.1.0.now
+  pub from-module-domains : s.1.1.0.now ≡ t.1.1.0.now
   from-module-domains = p.domains-are ∙ sym q.domains-are
 
-  pub from-module-rows : s.1.1.1.1.0.now ≡ t.1.1.1.1.0.now
+  pub from-module-rows : s.1.1.1.0.now ≡ t.1.1.1.0.now
   from-module-rows = p.rows_are ∙ sym q.rows_are
 
 pub from-manifest-decides : Decides from-manifest-kinds.ps from-manifest-kinds.r from-manifest.Post
 from-manifest-decides κs a x y s t p q = result-known x y (p.answer-is ∙ sym q.answer-is)
 
-module _ (κs : Lfts 5) (a : Dens κs from-manifest-kinds.ps) (x y : (res_t from-manifest-kinds.r κs).Denot)
-    (s t : AtExit (ended_of 5 from-manifest-kinds.ps from-manifest-kinds.r) κs) (p : from-manifest.Post κs a x s)
+module _ (κs : Lfts 3) (a : Dens κs from-manifest-kinds.ps) (x y : (res_t from-manifest-kinds.r κs).Denot)
+    (s t : AtExit (ended_of 3 from-manifest-kinds.ps from-manifest-kinds.r) κs) (p : from-manifest.Post κs a x s)
     (q : from-manifest.Post κs a y t) where
-  pub from-manifest-domains : s.1.1.1.1.1.0.now ≡ t.1.1.1.1.1.0.now
+  pub from-manifest-domains : s.1.0.now ≡ t.1.0.now
   from-manifest-domains = p.domains-are ∙ sym q.domains-are
 
-  pub from-manifest-rows : s.1.1.1.1.1.1.0.now ≡ t.1.1.1.1.1.1.0.now
+  pub from-manifest-rows : s.1.1.0.now ≡ t.1.1.0.now
   from-manifest-rows = p.rows_are ∙ sym q.rows_are

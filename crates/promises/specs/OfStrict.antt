@@ -14,23 +14,23 @@ use Rattle.promises.specs.Decides.{Decides}
 use Rattle.promises.specs.OfWasm.{module-known}
 
 pub read-strict-decides : Decides read-strict-kinds.ps read-strict-kinds.r read-strict.Post
-read-strict-decides κs a x y s t p q = module-known x y (p.answer-is ∙ sym q.answer-is)
+read-strict-decides κs a x y s t p q = module-known x y (p.1.answer-is ∙ sym q.1.answer-is)
 
 pub test-strict-decides : Decides test-strict-kinds.ps test-strict-kinds.r test-strict.Post
 test-strict-decides κs a x y s t p q = result-known x y (p ∙ sym q)
 
 -- every cell of the tables
-module _ (κs : Lfts 5) (a : Dens κs read-strict-kinds.ps) (x y : (res_t read-strict-kinds.r κs).Denot)
-    (s t : AtExit (ended_of 5 read-strict-kinds.ps read-strict-kinds.r) κs)
+module _ (κs : Lfts 3) (a : Dens κs read-strict-kinds.ps) (x y : (res_t read-strict-kinds.r κs).Denot)
+    (s t : AtExit (ended_of 3 read-strict-kinds.ps read-strict-kinds.r) κs)
     (p : read-strict.Post κs a x s) (q : read-strict.Post κs a y t) where
-  pub strict-sections-left : s.1.0.now ≡ t.1.0.now
-  strict-sections-left = p.tables-are.sections-are ∙ sym q.tables-are.sections-are
+  pub strict-sections-left : s.1.0.now.sections.now ≡ t.1.0.now.sections.now
+  strict-sections-left = p.1.tables-are.sections-are ∙ sym q.1.tables-are.sections-are
 
-  pub strict-imports-left : s.1.1.0.now ≡ t.1.1.0.now
-  strict-imports-left = p.tables-are.imports-are ∙ sym q.tables-are.imports-are
+  pub strict-imports-left : s.1.0.now.imports.now ≡ t.1.0.now.imports.now
+  strict-imports-left = p.1.tables-are.imports-are ∙ sym q.1.tables-are.imports-are
 
-  pub strict-exports-left : s.1.1.1.0.now ≡ t.1.1.1.0.now
-  strict-exports-left = p.tables-are.exports-are ∙ sym q.tables-are.exports-are
+  pub strict-exports-left : s.1.0.now.exports.now ≡ t.1.0.now.exports.now
+  strict-exports-left = p.1.tables-are.exports-are ∙ sym q.1.tables-are.exports-are
 
-  pub strict-names-left : s.1.1.1.1.0.now ≡ t.1.1.1.1.0.now
-  strict-names-left = p.tables-are.names-are ∙ sym q.tables-are.names-are
+  pub strict-names-left : s.1.0.now.names.now ≡ t.1.0.now.names.now
+  strict-names-left = p.1.tables-are.names-are ∙ sym q.1.tables-are.names-are

@@ -43,7 +43,8 @@ use Rattle.leb.specs.Grammar.{U}
 use Rattle.leb.specs.Answers.{answer_from, unread_at}
 use Rattle.leb.specs.declared.Cursor.{Cursor}
 use Rattle.leb.proofs.Conform.{u64-read}
-use Rattle.wasm.specs.Module.{Sizes, sizes, Parsed, module_at, module_of}
+use Rattle.wasm.specs.Lending.{sizes_of}
+use Rattle.wasm.specs.Module.{Sizes, Parsed, module_at, module_of}
 use Rattle.wasm.specs.declared.Module.{Module}
 use Rattle.wasm.proofs.read_module.Kinds as read-module-kinds
 use Rattle.wasm.proofs.read_module.Reads as read_module
@@ -66,21 +67,21 @@ refuses-number κs a s why back v k u p =
     omega arith
 
 -- a module reader that refuses a file that is read: one that refuses everything
-module _ (κs : Lfts 5) (a : Dens κs read-module-kinds.ps) (s : AtExit (ended_of 5 read-module-kinds.ps read-module-kinds.r) κs) where
+module _ (κs : Lfts 3) (a : Dens κs read-module-kinds.ps) (s : AtExit (ended_of 3 read-module-kinds.ps read-module-kinds.r) κs) where
   abbrev lent : Sizes
-  lent = sizes a.1.0.now a.1.1.0.now a.1.1.1.0.now a.1.1.1.1.0.now
+  lent = sizes_of a.1.0.now
 
   pub refuses-module : (m : Parsed) (why : Refusal) → module_at a.0.now lent ≡ accepted m
       → read_module.Post κs a (Err why) s → ⊥
   unfolding follow
-  refuses-module m why e p = never (p.answer-is ∙ ap (λ (x : Said Parsed). follow x (λ n. accepted (module_of (length a.0.now) n))) e)
+  refuses-module m why e p = never (p.1.answer-is ∙ ap (λ (x : Said Parsed). follow x (λ n. accepted (module_of (length a.0.now) n))) e)
 
   -- the answer to a file that is read is that file's, so no answer serves two files that are read differently: one module for all files
   pub own-module : (m : Parsed) (r : Module) → module_at a.0.now lent ≡ accepted m
       → read_module.Post κs a (Ok r) s → r ≡ module_of (length a.0.now) m
   unfolding follow
   own-module m r e p =
-      let q = p.answer-is ∙ ap (λ (x : Said Parsed). follow x (λ n. accepted (module_of (length a.0.now) n))) e in
+      let q = p.1.answer-is ∙ ap (λ (x : Said Parsed). follow x (λ n. accepted (module_of (length a.0.now) n))) e in
       cc
 
 -- a policy reader that obeys the first line only: `allow fs`, and after it `deny fs`

@@ -12,27 +12,23 @@ use Rattle.refusal.specs.Said.{Said, accepted, refused, follow, spot}
 use Rattle.refusal.proofs.Following.{never, followed}
 use Rattle.table.specs.Shape.{capacity_in, cell_in}
 use Rattle.differences.specs.View.{export_key_at}
-use Rattle.differences.specs.Compared.{Given, given, Lists, compared, Verdict, verdict_on}
+use Rattle.differences.specs.Compared.{Given, given_of, Lists, compared, Verdict, verdict_on}
 use Rattle.compat.specs.declared.Lists.{Lists as Answered}
 use Rattle.compat.proofs.compare_modules.Kinds as compare-modules-kinds
 use Rattle.compat.proofs.compare_modules.Reads as compare-modules
 use Rattle.output.specs.Bytes.{room_for, written_count, left}
-use Rattle.reasons.specs.Reasons.{Diffs, diffs, reason_lines, export_reason, export_row, export_reasons, need_reasons}
+use Rattle.reasons.specs.Reasons.{Diffs, diffs_of, reason_lines, export_reason, export_row, export_reasons, need_reasons}
 use Rattle.reasons.specs.Reasons.{reasons_of, reasons_tested}
 use Rattle.reasons.specs.Reasons.{reasoned, Reasons}
 use Rattle.reasons.proofs.breaking_reasons.Kinds as breaking-reasons-kinds
 use Rattle.reasons.proofs.breaking_reasons.Reads as breaking-reasons
 
 -- a comparison that is always compatible: where the lists break something, it is not said that they do not
-module _ (κs : Lfts 7) (a : Dens κs compare-modules-kinds.ps)
-    (s : AtExit (ended_of 7 compare-modules-kinds.ps compare-modules-kinds.r) κs) where
+module _ (κs : Lfts 6) (a : Dens κs compare-modules-kinds.ps)
+    (s : AtExit (ended_of 6 compare-modules-kinds.ps compare-modules-kinds.r) κs) where
   abbrev compared_here : Said Lists
   compared_here =
-      compared (given a.0.now a.1.0.now a.1.1.0 a.1.1.1.0.now a.1.1.1.1.0)
-      (given a.1.1.1.1.1.0.now a.1.1.1.1.1.1.0.now a.1.1.1.1.1.1.1.0
-      a.1.1.1.1.1.1.1.1.0.now a.1.1.1.1.1.1.1.1.1.0)
-      (capacity_in 8 (length a.1.1.1.1.1.1.1.1.1.1.0.now))
-      (capacity_in 9 (length a.1.1.1.1.1.1.1.1.1.1.1.0.now))
+      compared (given_of a.0) (given_of a.1.0) (capacity_in 8 (length a.1.1.0.now)) (capacity_in 9 (length a.1.1.1.0.now))
 
   abbrev answered : ℕ → ℕ → Bool → Answered
   answered m n fine = record { exports = m; capabilities = n; compatible = fine }
@@ -99,30 +95,23 @@ some-reason b c d i h z =
           (need_reasons c.file c.imports d.needs d.need_count),
     )
 
-module _ (κs : Lfts 9) (a : Dens κs breaking-reasons-kinds.ps)
-    (s : AtExit (ended_of 9 breaking-reasons-kinds.ps breaking-reasons-kinds.r) κs) where
+module _ (κs : Lfts 6) (a : Dens κs breaking-reasons-kinds.ps)
+    (s : AtExit (ended_of 6 breaking-reasons-kinds.ps breaking-reasons-kinds.r) κs) where
   abbrev old_module : Given
-  old_module = given a.0.now a.1.0.now a.1.1.0 a.1.1.1.0.now a.1.1.1.1.0
+  old_module = given_of a.0
 
   abbrev new_module : Given
-  new_module =
-      given a.1.1.1.1.1.0.now a.1.1.1.1.1.1.0.now a.1.1.1.1.1.1.1.0
-      a.1.1.1.1.1.1.1.1.0.now a.1.1.1.1.1.1.1.1.1.0
+  new_module = given_of a.1.0
 
   abbrev lent_diffs : Diffs
-  lent_diffs =
-      diffs a.1.1.1.1.1.1.1.1.1.1.0.now a.1.1.1.1.1.1.1.1.1.1.1.0
-      a.1.1.1.1.1.1.1.1.1.1.1.1.0.now a.1.1.1.1.1.1.1.1.1.1.1.1.1.0
+  lent_diffs = diffs_of a.1.1.0
 
   pub writes-its-reasons : (n : ℕ) → breaking-reasons.Post κs a (Ok n) s
-      → take n s.1.1.1.1.1.1.1.1.1.1.1.1.1.1.0.now ≡ reasons_of old_module new_module lent_diffs
-  writes-its-reasons n p =
-      (told-reasons old_module new_module lent_diffs a.1.1.1.1.1.1.1.1.1.1.1.1.1.1.0.now
-      s.1.1.1.1.1.1.1.1.1.1.1.1.1.1.0.now n p).0
+      → take n s.1.1.1.0.now ≡ reasons_of old_module new_module lent_diffs
+  writes-its-reasons n p = (told-reasons old_module new_module lent_diffs a.1.1.1.0.now s.1.1.1.0.now n p).0
 
   pub writes-no-reason : (i : ℕ) → i < lent_diffs.export_count → cell_in 8 lent_diffs.exports i 0 ≡ 0
       → breaking-reasons.Post κs a (Ok 0) s → ⊥
   writes-no-reason i h z p =
-      let e = (told-reasons old_module new_module lent_diffs a.1.1.1.1.1.1.1.1.1.1.1.1.1.1.0.now
-      s.1.1.1.1.1.1.1.1.1.1.1.1.1.1.0.now 0 p).1 in
+      let e = (told-reasons old_module new_module lent_diffs a.1.1.1.0.now s.1.1.1.0.now 0 p).1 in
       omega (arith, e, some-reason old_module new_module lent_diffs i h z)

@@ -82,8 +82,8 @@ pub record BySteps (f : List ℕ) (gs : List (List ℕ)) (d : List ℕ) (r : Com
   pub exports : (h : Change) (e : ExportKey) → Reports h e all.lists.exports → SomeStep f gs (ExportReported h e)
   pub needs : (h : Change) (n : Need) → Reports h n all.lists.needs → SomeStep f gs (NeedReported h n)
 
-module _ (κs : Lfts 2) (a : Dens κs compare-kinds.ps) (r : (res_t compare-kinds.r κs).Denot)
-    (s : AtExit (ended_of 2 compare-kinds.ps compare-kinds.r) κs) (p : compare.Post κs a r s) where
+module _ (κs : Lfts 3) (a : Dens κs compare-kinds.ps) (r : (res_t compare-kinds.r κs).Denot)
+    (s : AtExit (ended_of 3 compare-kinds.ps compare-kinds.r) κs) (p : compare.Post κs a r s) where
   abbrev baseline : List ℕ
   baseline = a.0.now
 

@@ -11,7 +11,7 @@ use Rattle.refusal.proofs.Following.{never, one_value}
 use Rattle.table.specs.Shape.{capacity_in}
 use Rattle.verdicts.specs.Evaluate.{Outcome}
 use Rattle.output.specs.Bytes.{room_for}
-use Rattle.differences.specs.Compared.{Given, given, compared, verdict_on}
+use Rattle.differences.specs.Compared.{Given, given_of, compared, verdict_on}
 use Rattle.compat.specs.declared.Lists.{Lists}
 use Rattle.compat.proofs.compare_modules.Kinds as compare-modules-kinds
 use Rattle.compat.proofs.compare_modules.Reads as compare-modules
@@ -32,21 +32,19 @@ use Rattle.standin.proofs.Theorems.{replacement}
 use Rattle.standin.proofs.Files.{of-files}
 
 -- ---- `compare_modules`
-module _ (κs : Lfts 7) (a : Dens κs compare-modules-kinds.ps)
-    (s : AtExit (ended_of 7 compare-modules-kinds.ps compare-modules-kinds.r) κs) where
+module _ (κs : Lfts 6) (a : Dens κs compare-modules-kinds.ps)
+    (s : AtExit (ended_of 6 compare-modules-kinds.ps compare-modules-kinds.r) κs) where
   abbrev baseline : Given
-  baseline = given a.0.now a.1.0.now a.1.1.0 a.1.1.1.0.now a.1.1.1.1.0
+  baseline = given_of a.0
 
   abbrev candidate : Given
-  candidate =
-      given a.1.1.1.1.1.0.now a.1.1.1.1.1.1.0.now a.1.1.1.1.1.1.1.0
-      a.1.1.1.1.1.1.1.1.0.now a.1.1.1.1.1.1.1.1.1.0
+  candidate = given_of a.1.0
 
   abbrev room8 : ℕ
-  room8 = capacity_in 8 (length a.1.1.1.1.1.1.1.1.1.1.0.now)
+  room8 = capacity_in 8 (length a.1.1.0.now)
 
   abbrev room9 : ℕ
-  room9 = capacity_in 9 (length a.1.1.1.1.1.1.1.1.1.1.1.0.now)
+  room9 = capacity_in 9 (length a.1.1.1.0.now)
 
   abbrev answered : ℕ → ℕ → Bool → Lists
   answered m n fine = record { exports = m; capabilities = n; compatible = fine }
@@ -98,8 +96,8 @@ says-compatible f g d y r p = by (comparison f g) refl p.answer-is
       λ h. absurd (never (sym e ∙ h.0.answers)),
     )
 
-module _ (κs : Lfts 2) (a : Dens κs compare-kinds.ps) (r : (res_t compare-kinds.r κs).Denot)
-    (s : AtExit (ended_of 2 compare-kinds.ps compare-kinds.r) κs) (p : compare.Post κs a r s) where
+module _ (κs : Lfts 3) (a : Dens κs compare-kinds.ps) (r : (res_t compare-kinds.r κs).Denot)
+    (s : AtExit (ended_of 3 compare-kinds.ps compare-kinds.r) κs) (p : compare.Post κs a r s) where
   -- an answer says compatible exactly where the candidate's file can replace the baseline's and the number is 0
   pub compare-says : (r.compatible ≡ true) ↔ (Replaces a.0.now a.1.0.now × (r.number ≡ 0))
   compare-says = says-compatible a.0.now a.1.0.now a.1.1.0.now s.1.1.0.now r p

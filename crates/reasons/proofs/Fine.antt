@@ -103,8 +103,4 @@ module _ (b c : Given) (d : Diffs) where
 
   -- what was tested can be counted, after four thousand million other bytes as well
   pub reasons-short : reasons_tested b c d ≡ accepted tt → {at : ℕ} → at ≤ 4294967295 → at + length (reasons_of b c d) ≤ most
-  unfolding reasons_of
-  reasons-short e h =
-      let z = fine_of e in
-      reasons-few b.file b.exports c.file c.imports d.exports d.needs d.export_count d.need_count
-      z.files.0 z.files.1 z.counts.0 z.counts.1 h
+  reasons-short e h = let z = fine_of e in reasons-few b c d z.files.0 z.files.1 z.counts.0 z.counts.1 h

@@ -11,7 +11,7 @@ use lib.Dec.{eqb, leb}
 use lib.ListN.{length, take, drop, length-append, length-drop, length-take}
 use Rattle.refusal.specs.Pick.{pick}
 use Rattle.refusal.specs.Sizes.{file_limit}
-use Rattle.table.specs.Table.{range_of}
+use Rattle.table.specs.Table.{range_of, name_in}
 use Rattle.table.specs.Shape.{width, limit, cell_in}
 use Rattle.sorting.specs.Keys.{row_name}
 use Rattle.domains.specs.Domain.{slug}
@@ -20,25 +20,28 @@ use Rattle.kinds.specs.declared.ExternalKind.{ExternalKind}
 use Rattle.kinds.specs.declared.ExternalKind.TheVariants.{Func, Table, Memory, Global, Other}
 use Rattle.differences.specs.View.{export_key_at}
 use Rattle.differences.specs.Differences.{kind_slug}
-use Rattle.output.specs.Bytes.{most, Wrote}
-use Rattle.output.proofs.ByteLaws.{wrote_none, wrote_then}
+use Rattle.differences.specs.Compared.{Given}
+use Rattle.output.specs.Bytes.{most}
+use Rattle.output.specs.Writing.{Added}
+use Rattle.output.specs.declared.bytes.Writer.{Writer}
+use Rattle.output.proofs.Writing.{added_none, added_then}
 use Rattle.output.proofs.Words.{slug-long}
 use Rattle.reasons.specs.Reasons.{export_removed, capability_required, via, export_reason, need_reason, reason_lines, export_row, need_row}
-use Rattle.reasons.specs.Reasons.{export_reasons, need_reasons, KindFits}
+use Rattle.reasons.specs.Reasons.{export_reasons, need_reasons, Diffs, reasons_of, KindFits}
 
 -- ---- a line, by what the calls on the cells answer
-module _ (file table : List ℕ) (i : ℕ) {from len : ℕ} {part : List ℕ} (p : part ≡ range_of file from len) where
-  pub export-line : {kind : ℕ} → from ≡ cell_in 3 table i 0 → len ≡ cell_in 3 table i 1 → kind ≡ cell_in 3 table i 2
+module _ (file table : List ℕ) (i : ℕ) {part : List ℕ} where
+  pub export-line : {kind : ℕ} → part ≡ name_in file table (width 3) i 0 → kind ≡ cell_in 3 table i 2
       → export_reason (export_key_at file table i)
       ≡ export_removed ++ (part ++ ((32 ∷ 40 ∷ []) ++ (kind_slug kind ++ (41 ∷ 10 ∷ []))))
   unfolding export_reason export_key_at
-  export-line f l k = rw (p, f, l, k)
+  export-line p k = rw (p, k)
 
-  pub need-line : (domain : ℕ) → from ≡ cell_in 2 table i 0 → len ≡ cell_in 2 table i 1
+  pub need-line : (domain : ℕ) → part ≡ name_in file table (width 2) i 0
       → need_reason domain (row_name file table (width 2) 0 1 i)
       ≡ capability_required ++ (slug domain ++ (via ++ (part ++ (10 ∷ []))))
   unfolding need_reason
-  need-line domain f l = rw (p, f, l)
+  need-line domain p = rw p
 
 -- ---- a row
 module _ (file rows table : List ℕ) (i : ℕ) {change : ℕ} where
@@ -67,17 +70,15 @@ row-kind exports xd i k e h r = rw r (k (sym e ∙ h))
 
 -- ---- the rows one after another
 module _ (line : ℕ → List ℕ) where
-  pub lines-first : (d : List ℕ) (at : ℕ) (go : Bool) → at ≤ most → Wrote d at go (reason_lines line 0) at d
+  pub lines-first : (a : Writer) → Added a (reason_lines line 0) a
   unfolding reason_lines
-  lines-first d at go h = wrote_none d at go h
+  lines-first a = added_none a
 
-  pub lines_next : (i : ℕ) {d : List ℕ} {at : ℕ} {go : Bool} {m r : ℕ} {x y : List ℕ} → Wrote d at go (reason_lines line i) m x
-      → Wrote x m go (line i) r y → Wrote d at go (reason_lines line (i + 1)) r y
+  pub lines_next : (i : ℕ) {a b c : Writer} → Added a (reason_lines line i) b → Added b (line i) c → Added a (reason_lines line (i + 1)) c
   unfolding reason_lines
-  lines_next i f g = rw (add-one i) (wrote_then f g)
+  lines_next i f g = rw (add-one i) (added_then f g)
 
-  pub lines-all : {i n : ℕ} {d : List ℕ} {at : ℕ} {go : Bool} {m : ℕ} {x : List ℕ} → Wrote d at go (reason_lines line i) m x → i ≡ n
-      → Wrote d at go (reason_lines line n) m x
+  pub lines-all : {i n : ℕ} {a b : Writer} → Added a (reason_lines line i) b → i ≡ n → Added a (reason_lines line n) b
   lines-all w e = rw (← e) w
 
   lines_long : (k n : ℕ) → ((i : ℕ) → length (line i) ≤ k) → length (reason_lines line n) ≤ n * k
@@ -149,12 +150,15 @@ module _ (file rows table : List ℕ) (i : ℕ) where
           )
 
 -- all of them can be counted, after four thousand million other bytes as well
-pub reasons-few : (b be c ci xd cd : List ℕ) (n m : ℕ) → length b ≤ file_limit → length c ≤ file_limit → n ≤ limit 8 → m ≤ limit 9
-    → {at : ℕ} → at ≤ 4294967295 → at + length (export_reasons b be xd n ++ need_reasons c ci cd m) ≤ most
-reasons-few b be c ci xd cd n m h k l o p =
+pub reasons-few : (b c : Given) (d : Diffs) → length b.file ≤ file_limit → length c.file ≤ file_limit → d.export_count ≤ limit 8
+    → d.need_count ≤ limit 9 → {at : ℕ} → at ≤ 4294967295 → at + length (reasons_of b c d) ≤ most
+unfolding reasons_of
+reasons-few b c d h k l o p =
     omega (
       arith,
-      length-append (export_reasons b be xd n) (need_reasons c ci cd m),
-      lines_long (export_row b be xd) 16777254 n (λ i. omega (arith, export-long b be xd i)),
-      lines_long (need_row c ci cd) 16777254 m (λ i. omega (arith, need-long c ci cd i)),
+      length-append (export_reasons b.file b.exports d.exports d.export_count) (need_reasons c.file c.imports d.needs d.need_count),
+      lines_long (export_row b.file b.exports d.exports) 16777254 d.export_count
+          (λ i. omega (arith, export-long b.file b.exports d.exports i)),
+      lines_long (need_row c.file c.imports d.needs) 16777254 d.need_count
+          (λ i. omega (arith, need-long c.file c.imports d.needs i)),
     )

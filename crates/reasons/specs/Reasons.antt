@@ -11,6 +11,7 @@ use Rattle.domains.specs.Domain.{slug}
 use Rattle.differences.specs.View.{ExportKey, export_key_at}
 use Rattle.differences.specs.Differences.{kind_slug}
 use Rattle.differences.specs.Compared.{Given, both_tested}
+use Rattle.reasons.specs.declared.GivenDiffs.{GivenDiffs}
 use Rattle.output.specs.Bytes.{room_for, WriterTells, room_from, WriterTellsFrom}
 
 -- ---- the lines
@@ -50,6 +51,10 @@ pub record Diffs : Type 0 where
 
 abbrev pub diffs : List ℕ → ℕ → List ℕ → ℕ → Diffs
 diffs xd n cd m = record { exports = xd; export_count = n; needs = cd; need_count = m }
+
+-- of the struct that the code hands in
+abbrev pub diffs_of : GivenDiffs → Diffs
+diffs_of d = diffs d.exports.cells.now d.exports.count d.needs.cells.now d.needs.count
 
 -- one by the change cell of row i: 0 is removed, any other number added
 abbrev pub by_change : {A : Type 0} → ℕ → List ℕ → ℕ → A → A → A

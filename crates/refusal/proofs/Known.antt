@@ -3,10 +3,12 @@ use Prim.Native.Nat.{ℕ}
 use native.Mathlib.Omega.{arith}
 use mathlib.Core.Path.{◌≡◌, refl, sym, ◌∙◌, ap}
 use lib.Dec.{eqb}
+use denote.Enum.Declared.{tag_of}
 use Rattle.std.specs.Prelude.{Result, Ok, Err}
 use Rattle.refusal.specs.Pick.{pick}
 use Rattle.refusal.specs.Said.{Said, accepted, refused, Place, number_at, beside_at, number_of, where_of, moved_by, moved_on}
 use Rattle.refusal.specs.Said.{refused_by, relocated, said_by}
+use Rattle.refusal.specs.contracts.Refusal.{the_type as refusals}
 use Rattle.refusal.specs.declared.Refusal.{Refusal}
 use Rattle.refusal.specs.declared.Refusal.TheVariants.{UnexpectedEof, BadMagic, BadUtf8, MalformedSection, Directive}
 use Rattle.refusal.specs.declared.Refusal.TheVariants.{BadDefault, BadDomain, PackageInWorld, NoName, Unmatched, Outside}
@@ -68,6 +70,10 @@ pub never-three : (w : Refusal) → number_of w ≡ 3 → ⊥
 never-three w e =
     let last : 20 ≡ number_of w = ap number_of (ap (λ (n : ℕ). refusal_of n (where_of w)) (sym e) ∙ known w) in
     omega (arith, last, e)
+
+-- 13 is what `Full` says
+pub full-tagged : (w : Refusal) → number_of w ≡ 13 → tag_of refusals w ≡ 11
+full-tagged w e = ap (tag_of refusals) (sym (known w) ∙ ap (λ (n : ℕ). refusal_of n (where_of w)) e)
 
 -- what can be taken back is known, so `said` loses nothing
 pub taken_back : {A O : Type 0} {said : A → O} (back : O → A) → ((a : A) → back (said a) ≡ a) → (a b : A) → said a ≡ said b → a ≡ b

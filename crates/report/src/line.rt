@@ -56,7 +56,7 @@ fn add_digit(l: Line, d: usize) -> Line
     add(l, &[b'0' + d as u8])
 }
 
-// A number in decimal.
+// A number in decimal. By hand, and no `write!`: a write that has no room fails, and here what has none is left out.
 pub(crate) fn add_number(l: Line, n: usize) -> Line
     ensures { result ≡ added l (decimal_of n) }
 {

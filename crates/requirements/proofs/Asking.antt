@@ -13,7 +13,7 @@ use lib.ListN.{length, get_or, replicate, length-map, get_or-append}
 use Rattle.refusal.specs.Pick.{pick}
 use Rattle.refusal.specs.Said.{accepted, refused, follow, spot, Place}
 use Rattle.refusal.proofs.Following.{never}
-use Rattle.table.specs.Table.{laid, put_row, range_of, rows_of}
+use Rattle.table.specs.Table.{laid, put_row, rows_of, name_in}
 use Rattle.table.specs.Shape.{width, cell_in}
 use Rattle.table.specs.Entries.{finished}
 use Rattle.table.specs.Listing.{fitted}
@@ -29,10 +29,10 @@ use Rattle.requirements.specs.Filling.{Column, Fills}
 use Rattle.requirements.proofs.Filling.{column-more}
 use Rattle.requirements.specs.Interfaces.{reference_domain, domain_of_cell, manifest_rows}
 
--- the domain of a row, by its cells and its range
-pub row-domain : (s references : List ℕ) (i : ℕ) {a b : ℕ} {path : List ℕ} → a ≡ cell_in 6 references i 2 → b ≡ cell_in 6 references i 3
-    → path ≡ range_of s a b → path_domain path ≡ reference_domain s references i
-row-domain s references i ea eb e = rw (e, ea, eb)
+-- the domain of a row, by its path
+pub row-domain : (s references : List ℕ) (i : ℕ) {path : List ℕ} → path ≡ name_in s references (width 6) i 2
+    → path_domain path ≡ reference_domain s references i
+row-domain s references i e = rw e
 
 -- a turn of the loop
 pub column-turn : (g : ℕ → ℕ) (n i : ℕ) {v : ℕ} {t after : List ℕ} → Column n (rows_of g i) t → v ≡ g i → after ≡ put_row t i (v ∷ [])

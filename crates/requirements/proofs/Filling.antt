@@ -9,8 +9,8 @@ use native.Mathlib.Omega.{arith}
 use borrow.Author.Tests.{le-leb, lt-leb}
 use lib.ListN.{length, length-append, length-map}
 use Rattle.refusal.specs.Said.{Said, accepted, refused, follow, spot, Place}
-use Rattle.table.specs.Table.{cells, laid, put_row, capacity_of, range_of}
-use Rattle.table.specs.Shape.{capacity_in, cell_in}
+use Rattle.table.specs.Table.{cells, laid, put_row, capacity_of, name_in}
+use Rattle.table.specs.Shape.{width, capacity_in}
 use Rattle.table.specs.Listing.{fitted}
 use Rattle.table.proofs.Laws.{length-laid, length-put-row, put-row-laid}
 use Rattle.sorting.specs.Sort.{selected, up_from}
@@ -135,9 +135,7 @@ module _ {of : ℕ → ℕ} {l domains domains1 rows rows1 : List ℕ} {found : 
         rows_are = f.in_rows.holds (omega arith);
       })
 
--- ---- the domain of a row, by its cells and ranges
-pub row-domain : (file imports : List ℕ) (i : ℕ) {a b d e : ℕ} {source field : List ℕ} → a ≡ cell_in 2 imports i 0
-    → b ≡ cell_in 2 imports i 1 → d ≡ cell_in 2 imports i 2 → e ≡ cell_in 2 imports i 3 → source ≡ range_of file a b
-    → field ≡ range_of file d e
-    → import_domain source field ≡ row_domain file imports i
-row-domain file imports i ea eb ed ee es ef = rw (es, ef, ea, eb, ed, ee)
+-- ---- the domain of a row, by its names
+pub row-domain : (file imports : List ℕ) (i : ℕ) {source field : List ℕ} → source ≡ name_in file imports (width 2) i 0
+    → field ≡ name_in file imports (width 2) i 2 → import_domain source field ≡ row_domain file imports i
+row-domain file imports i es ef = rw (es, ef)

@@ -2,7 +2,6 @@
 #![tactic(auto)]
 
 mod files;
-mod standard_error;
 
 ghost use Rattle.std.specs.Prelude.{◌≡◌};
 ghost use Rattle.reviewed.specs.Review.{file_at, review_of, unread_of, or_no_room};
@@ -10,8 +9,8 @@ ghost use Rattle.reviewed.specs.Review.{file_at, review_of, unread_of, or_no_roo
 use files::{argument, argument_count, path_buffer, read_argument};
 use refusal::MAX_TEXT;
 use reviewed::{review_text, unread_text};
-use standard_error::fail;
 use std::rt::{Env, Files};
+use streams::standard_error::fail;
 
 // One byte more than a policy and a build may have, so that 14 is seen; and room for a report.
 const BUFFER: usize = MAX_TEXT + 1;
@@ -77,12 +76,12 @@ fn review_one(
     }
 }
 
-fn review<'a, 'b>(
+fn review(
     rt: &(impl Env + Print + Eprint + AllocGlobal),
-    text: &'b [u8],
-    baseline: &'a [u8],
+    text: &[u8],
+    baseline: &[u8],
     i: usize,
-    candidate: &'a [u8],
+    candidate: &[u8],
 ) {
     let mut first = path_buffer();
     let a = argument(rt, POLICY, &mut first);
@@ -101,14 +100,14 @@ fn review<'a, 'b>(
     );
 }
 
-fn report<'a, 'b, 'c, 'd, 'e>(
+fn report(
     rt: &(impl Print + Eprint + AllocGlobal),
-    text_path: &'b [u8],
-    text: &'c [u8],
-    baseline_path: &'d [u8],
-    baseline: &'a [u8],
-    candidate_path: &'e [u8],
-    candidate: &'a [u8],
+    text_path: &[u8],
+    text: &[u8],
+    baseline_path: &[u8],
+    baseline: &[u8],
+    candidate_path: &[u8],
+    candidate: &[u8],
 ) {
     let mut out = blank();
     let n = review_text(

@@ -1,19 +1,19 @@
 -- Names as they are shown, byte by byte. Assumes nothing.
 use mathlib.Core.Path.{◌≡◌, refl, sym, ap, ◌∙◌}
-use mathlib.Core.Bool.{Bool, true, false, not}
+use mathlib.Core.Bool.{Bool, true, false}
 use mathlib.Core.Logic.{◌⊎◌, inl, inr}
 use mathlib.Core.List.{List, [], ◌∷◌, ◌++◌, append-nil, append_assoc}
 use Prim.Native.Nat.{ℕ, zero, suc, ◌+◌, ◌*◌, ◌/◌, ◌%◌, ◌≤◌, ◌<◌}
 use native.Mathlib.Nat.{suc-add}
 use native.Mathlib.Omega.{arith}
-use lib.Dec.{eqb}
 use lib.ListN.{length, take, get_or, length-append}
 use lib.Seq.{take_all}
-use borrow.Author.Tests.{lt-leb, le-leb, eq-eqb, ne_eqb}
+use borrow.Author.Tests.{lt-leb, le-leb, ne_eqb}
 use Rattle.refusal.specs.Pick.{pick}
 use Rattle.kinds.specs.Kinds.{hex_of}
-use Rattle.output.specs.Bytes.{most, Wrote}
-use Rattle.output.proofs.ByteLaws.{wrote_none, wrote_then}
+use Rattle.output.specs.Writing.{Added}
+use Rattle.output.specs.declared.bytes.Writer.{Writer}
+use Rattle.output.proofs.Writing.{added_none, added_then}
 use Rattle.reviewed.specs.Escape.{shown_plain, shown, escaped}
 
 -- ---- lists byte by byte
@@ -50,28 +50,27 @@ escaped-long [] = omega arith
 escaped-long (b ∷ s) = omega (arith, length-append (shown b) (escaped s), shown-long b, escaped-long s)
 
 -- ---- bytes that are put one after another
-pub name-none : (d : List ℕ) (at : ℕ) (go : Bool) (s : List ℕ) → at ≤ most → Wrote d at go (escaped (take 0 s)) at d
+pub name-none : (a : Writer) (s : List ℕ) → Added a (escaped (take 0 s)) a
 unfolding escaped
-name-none d at go s h = wrote_none d at go h
+name-none a s = added_none a
 
-module _ {d : List ℕ} {at n : ℕ} {go : Bool} {x : List ℕ} (s : List ℕ) (i : ℕ) where
-  pub name-next : {m : ℕ} {y : List ℕ} → i < length s → Wrote d at go (escaped (take i s)) n x → Wrote x n go (shown (get_or s i 0)) m y
-      → Wrote d at go (escaped (take (i + 1) s)) m y
-  name-next h f g = rw (escaped-next s i h) at (wrote_then f g)
+module _ {a b : Writer} (s : List ℕ) (i : ℕ) where
+  pub name-next : {c : Writer} → i < length s → Added a (escaped (take i s)) b → Added b (shown (get_or s i 0)) c
+      → Added a (escaped (take (i + 1) s)) c
+  name-next h f g = rw (escaped-next s i h) at (added_then f g)
 
-  pub name-all : length s ≤ i → Wrote d at go (escaped (take i s)) n x → Wrote d at go (escaped s) n x
+  pub name-all : length s ≤ i → Added a (escaped (take i s)) b → Added a (escaped s) b
   name-all h f = rw (take_all i s h) at f
 
 -- ---- a byte as it is shown
-module _ {d : List ℕ} {at n : ℕ} {go : Bool} {x : List ℕ} (b : ℕ) where
-  pub shown-plain : true ≡ shown_plain b → Wrote d at go (b ∷ []) n x → Wrote d at go (shown b) n x
+module _ (b : ℕ) where
+  pub shown-plain : true ≡ shown_plain b → b ∷ [] ≡ shown b
   unfolding shown
-  shown-plain e f = rw (← e) f
+  shown-plain e = rw (← e)
 
-  pub shown-coded : {u v : ℕ} → false ≡ shown_plain b → u ≡ hex_of (b / 16) → v ≡ hex_of (b % 16) → Wrote d at go (92 ∷ 120 ∷ u ∷ v ∷ []) n x
-      → Wrote d at go (shown b) n x
+  pub shown-coded : {u v : ℕ} → false ≡ shown_plain b → u ≡ hex_of (b / 16) → v ≡ hex_of (b % 16) → 92 ∷ 120 ∷ u ∷ v ∷ [] ≡ shown b
   unfolding shown
-  shown-coded e p q f = rw (← e, ← p, ← q) f
+  shown-coded e p q = rw (← e, p, q)
 
 -- ---- bytes that are shown as they are
 module _ (b : ℕ) where

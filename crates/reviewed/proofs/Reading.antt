@@ -1,19 +1,19 @@
 -- The report by what was read: a refusal is told, and what was accepted is gone on with. Assumes nothing.
 use Rattle.std.specs.Prelude.{Result, Ok, Err}
 use mathlib.Core.Path.{◌≡◌, refl, sym, ap, ◌∙◌}
-use mathlib.Core.Bool.{Bool, true, false}
+use mathlib.Core.Bool.{Bool}
 use mathlib.Core.List.{List, [], ◌++◌}
 use Prim.Native.Nat.{ℕ, ◌≤◌, ◌<◌}
 use borrow.Author.Tests.{lt-ltb, le-ltb}
 use lib.ListN.{length}
 use Rattle.refusal.specs.Sizes.{text_limit}
-use Rattle.refusal.specs.Said.{Said, accepted, refused, refused_by, said_by, number_of, where_of, follow, Place, spot}
+use Rattle.refusal.specs.Said.{Said, accepted, refused, refused_by, said_by, number_of, where_of, follow, spot}
 use Rattle.refusal.specs.declared.Refusal.{Refusal}
 use Rattle.refusal.proofs.Following.{never, one_value, followed, first-refused}
 use Rattle.table.specs.Table.{laid, cells, capacity_of}
 use Rattle.table.specs.Shape.{capacity_in}
 use Rattle.wasm.specs.Rows.{import_cells, export_cells}
-use Rattle.wasm.specs.Module.{Parsed, Sizes, Lent, tables_of, module_at, module_of, said_module, ModuleIs}
+use Rattle.wasm.specs.Module.{Parsed, Sizes, Lent, tables_of, module_at, module_of, ModuleIs}
 use Rattle.wasm.specs.Module as wasm
 use Rattle.wasm.specs.declared.Module.{Module}
 use Rattle.policy.specs.Reader.{read_policy}
@@ -82,19 +82,21 @@ module _ (b : List ℕ) where
         exports-are = λ m q. absurd (never (sym e ∙ q));
       }
 
-  pub read_short : {z : Sizes} {l : Lent} {a : Said Module} → length b ≤ text_limit → z ≡ lent → ModuleIs (length b) z (module_at b z) l a
-      → BuildRead b l.imports l.exports a
+  pub read_short : {z : Sizes} {l : Lent} {a : Said Module} {imports exports : List ℕ} → length b ≤ text_limit → z ≡ lent
+      → ModuleIs (length b) z (module_at b z) l a → imports ≡ l.imports → exports ≡ l.exports → BuildRead b imports exports a
   unfolding tables_of
-  read_short {z} {l} {a} h f k =
+  read_short {z} {l} {a} h f k i x =
       let p : ModuleIs (length b) lent (module_at b lent) l a = rw f at k in
       let e = build-short h in
       record {
         answer-is = p.answer-is ∙ ap (λ (x : Said Parsed). follow x (λ m. accepted (module_of (length b) m))) e;
         imports-are = λ m q.
-            p.tables-are.imports-are
+            i
+            ∙ p.tables-are.imports-are
             ∙ ap (λ (x : Said Parsed). laid (rows 2) (cells import_cells (tables_of x).imports)) (e ∙ q);
         exports-are = λ m q.
-            p.tables-are.exports-are
+            x
+            ∙ p.tables-are.exports-are
             ∙ ap (λ (x : Said Parsed). laid (rows 3) (cells export_cells (tables_of x).exports)) (e ∙ q);
       }
 

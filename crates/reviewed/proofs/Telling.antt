@@ -2,7 +2,7 @@
 use mathlib.Core.Path.{◌≡◌, refl}
 use mathlib.Core.Bool.{Bool, true, false}
 use mathlib.Core.List.{List, [], ◌++◌}
-use Prim.Native.Nat.{ℕ, ◌≤◌, ◌<◌}
+use Prim.Native.Nat.{ℕ, ◌<◌}
 use native.Mathlib.Omega.{arith}
 use borrow.Author.Tests.{lt-ltb, le-ltb, le-leb, eq-eqb, ne_eqb}
 use lib.ListN.{length}
@@ -16,9 +16,6 @@ use Rattle.table.specs.Table.{range_of}
 use Rattle.table.specs.Shape.{width, cell_in}
 use Rattle.sorting.specs.Keys.{row_name}
 use Rattle.import_rows.specs.Queries.{kind_is}
-use Rattle.domains.specs.Domain.{domain_number}
-use Rattle.domains.specs.declared.Domain.{Domain}
-use Rattle.domains.specs.declared.Domain.TheVariants.{Filesystem, Environment, Clock, Network, Random, Stdio, Unknown}
 use Rattle.policy.specs.Reader.{read_policy}
 use Rattle.policy.specs.View.{no_name, says}
 use Rattle.policy.specs.declared.Policy.{Policy}
@@ -29,20 +26,16 @@ use Rattle.verdicts.specs.declared.Verdict.{Verdict}
 use Rattle.requirements.specs.Requirements.{row_domain}
 use Rattle.differences.specs.View.{export_key_at}
 use Rattle.differences.specs.Differences.{kind_slug}
-use Rattle.output.specs.Bytes.{Puts, Wrote}
-use Rattle.output.proofs.ByteLaws.{wrote-put}
+use Rattle.output.specs.Writing.{Added}
+use Rattle.output.specs.declared.bytes.Writer.{Writer}
 use Rattle.report.specs.Decimal.{decimal_of}
 use Rattle.reviewed.specs.Texts.{nth, beside_text, violation_text, kind_text, removed_text, added_text}
 use Rattle.reviewed.specs.Words.{offset_w}
 use Rattle.reviewed.specs.Review.{violation_row, removed_row, added_row, shown_name}
 
 -- ---- the same bytes
-module _ {d : List ℕ} {at : ℕ} {go : Bool} {w v : List ℕ} {r : ℕ} {x : List ℕ} (e : w ≡ v) where
-  pub wrote-same : Wrote d at go w r x → Wrote d at go v r x
-  wrote-same p = rw e at p
-
-  pub puts-same : Puts d at go w r x → Wrote d at go v r x
-  puts-same p = rw e at (wrote-put d at go w p)
+pub added-same : {a b : Writer} {w v : List ℕ} → w ≡ v → Added a w b → Added a v b
+added-same e p = rw e at p
 
 -- ---- what stands beside a refusal's place
 pub beside-some : {why : Refusal} {kind offset : ℕ} → why ≡ MalformedSection kind offset
@@ -124,9 +117,9 @@ module _ (file exports xd : List ℕ) (i : ℕ) {change : ℕ} (change-is : chan
 
 -- ---- a capability that is new
 module _ (file imports cd : List ℕ) (i : ℕ) {change : ℕ} (change-is : change ≡ cell_in 9 cd i 0) where
-  pub added_none : change ≡ 0 → [] ≡ added_row file imports cd i
+  pub no-added : change ≡ 0 → [] ≡ added_row file imports cd i
   unfolding added_row
-  added_none h = rw (← change-is, eq-eqb change 0 h)
+  no-added h = rw (← change-is, eq-eqb change 0 h)
 
   pub added-some : {domain row : ℕ} → (change ≡ 0 → ⊥) → domain ≡ cell_in 9 cd i 1 → row ≡ cell_in 9 cd i 2
       → added_text domain (row_name file imports (width 2) 0 1 row) ≡ added_row file imports cd i

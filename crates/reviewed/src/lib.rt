@@ -7,8 +7,8 @@ mod rows;
 
 ghost use Rattle.std.specs.Prelude.{◌≡◌, ◌++◌, length};
 ghost use Rattle.wasm.specs.Module.{said_module};
-ghost use Rattle.differences.specs.Compared.{given};
-ghost use Rattle.output.specs.Bytes.{Wrote};
+ghost use Rattle.differences.specs.Compared.{given_of};
+ghost use Rattle.output.specs.Writing.{Added};
 ghost use Rattle.reasons.specs.Reasons.{reason_lines};
 ghost use Rattle.report.specs.Prints.{Prints, whole_in};
 ghost use Rattle.reviewed.specs.Words.{no_room_w};
@@ -22,13 +22,15 @@ use crate::lines::{
 };
 use crate::rows::{put_gone, put_new, put_violations};
 use compat::compare_modules;
-use output::bytes::put;
+use differences::GivenModule;
+use output::bytes::{Writer, put};
 use refusal::{MAX_TEXT, Refusal};
+use table::given::GivenTable;
 use table::shape::{
     EXPORT_DIFF_WIDTH, EXPORT_WIDTH, IMPORT_WIDTH, NAME_WIDTH, NEED_DIFF_WIDTH, SECTION_WIDTH,
 };
 use verdicts::{Evaluation, Verdict, is_compliant};
-use wasm::Module;
+use wasm::{LentTables, Module};
 
 // Every table has so many rows.
 const ROWS: usize = 1024;
@@ -59,65 +61,62 @@ fn read_build(file: &[u8], imports: &mut [usize], exports: &mut [usize]) -> Resu
     if file.len() > MAX_TEXT {
         return Err(Refusal::TooLong);
     }
-    let mut sections = [0usize; SECTIONS];
-    let mut names = [0usize; NAMES];
-    wasm::read_module(file, &mut sections, imports, exports, &mut names)
+    let mut tables = LentTables {
+        sections: &mut [0; SECTIONS],
+        imports,
+        exports,
+        names: &mut [0; NAMES],
+    };
+    wasm::read_module(file, &mut tables)
 }
 
 // Below its path, a policy's name and default, or why it is refused.
-fn put_policy(text: &[u8], out: &mut [u8], at: usize, go: bool) -> usize
-    ensures { Wrote out.old at go (policy_text text.now) result out.new }
+fn put_policy(out: &mut Writer, text: &[u8])
+    ensures same_reference { out.new.out.ghost_name ≡ out.old.out.ghost_name }
+    ensures added { Added out.old (policy_text text.now) out.new }
 {
     match policy::read_policy(text) {
-        Err(why) => put_reason(why, out, at, go),
-        Ok(p) => put_name(text, p, out, at, go),
+        Err(why) => put_reason(out, why),
+        Ok(p) => put_name(out, text, p),
     }
 }
 
 // Below its path, what a module counts, or why it is refused.
-fn put_build(file: &[u8], out: &mut [u8], at: usize, go: bool) -> usize
-    ensures { Wrote out.old at go (build_text file.now) result out.new }
+fn put_build(out: &mut Writer, file: &[u8])
+    ensures same_reference { out.new.out.ghost_name ≡ out.old.out.ghost_name }
+    ensures added { Added out.old (build_text file.now) out.new }
 {
     let mut imports = [0usize; IMPORTS];
     let mut exports = [0usize; EXPORTS];
     match read_build(file, &mut imports, &mut exports) {
-        Err(why) => put_reason(why, out, at, go),
-        Ok(m) => put_counts(m, out, at, go),
+        Err(why) => put_reason(out, why),
+        Ok(m) => put_counts(out, m),
     }
 }
 
 // Whether the candidate can stand in for the baseline, the reasons why not, and the verdict.
-fn put_compared<'a, 'b, 'c, 'd, 'e, 'f>(
-    fine: bool,
-    baseline: &'a [u8],
-    bi: &'b [usize],
-    nbi: usize,
-    be: &'c [usize],
-    nbe: usize,
-    candidate: &'a [u8],
-    ci: &'d [usize],
-    nci: usize,
-    ce: &'e [usize],
-    nce: usize,
-    out: &'f mut [u8],
-    at: usize,
-    go: bool,
-) -> usize
-    ensures { Wrote out.old at go
-        (compared_text fine (given baseline.now bi.now nbi be.now nbe)
-        (given candidate.now ci.now nci ce.now nce)) result out.new }
+fn put_compared(out: &mut Writer, fine: bool, baseline: GivenModule, candidate: GivenModule)
+    ensures same_reference { out.new.out.ghost_name ≡ out.old.out.ghost_name }
+    ensures added { Added out.old
+        (compared_text fine (given_of baseline.entry) (given_of candidate.entry)) out.new }
 {
     let mut xd = [0usize; EXPORT_DIFFS];
     let mut cd = [0usize; NEED_DIFFS];
-    match compare_modules(
-        baseline, bi, nbi, be, nbe, candidate, ci, nci, ce, nce, &mut xd, &mut cd,
-    ) {
-        Err(why) => put_none(b"comparison ", why, out, at, go),
+    match compare_modules(baseline, candidate, &mut xd, &mut cd) {
+        Err(why) => put_none(out, b"comparison ", why),
         Ok(lists) => {
-            let a = put_stand(lists.compatible, out, at, go);
-            let b = put_gone(baseline, be, &xd, lists.exports, out, a, go);
-            let c = put_new(candidate, ci, &cd, lists.capabilities, out, b, go);
-            put_verdict(fine, lists.compatible, out, c, go)
+            put_stand(out, lists.compatible);
+            let gone = GivenTable {
+                cells: &xd,
+                count: lists.exports,
+            };
+            put_gone(out, baseline, gone);
+            let new = GivenTable {
+                cells: &cd,
+                count: lists.capabilities,
+            };
+            put_new(out, candidate, new);
+            put_verdict(out, fine, lists.compatible);
         }
     }
 }
@@ -133,119 +132,104 @@ fn verdicts_of(checked: Result<Evaluation, Refusal>) -> [Verdict; 7]
 }
 
 // The verdicts of a candidate's check: the seven domains, whether it is compliant, and each import that is not allowed.
-fn put_check(
-    fine: bool,
-    verdicts: [Verdict; 7],
-    file: &[u8],
-    imports: &[usize],
-    n: usize,
-    out: &mut [u8],
-    at: usize,
-    go: bool,
-) -> usize
-    ensures { Wrote out.old at go (domains_text verdicts ++ (compliance_text fine verdicts
-        ++ reason_lines (violation_row file.now imports.now verdicts) n)) result out.new }
+fn put_check(out: &mut Writer, fine: bool, verdicts: [Verdict; 7], candidate: GivenModule)
+    ensures same_reference { out.new.out.ghost_name ≡ out.old.out.ghost_name }
+    ensures added { Added out.old (domains_text verdicts ++ (compliance_text fine verdicts
+        ++ reason_lines (violation_row candidate.entry.file.now candidate.entry.imports.cells.now verdicts)
+        candidate.entry.imports.count)) out.new }
 {
-    let a = put_domains(verdicts, out, at, go);
-    let b = put_compliance(fine, verdicts, out, a, go);
-    put_violations(file, imports, verdicts, n, out, b, go)
+    put_domains(out, verdicts);
+    put_compliance(out, fine, verdicts);
+    put_violations(out, candidate, verdicts);
 }
 
 // A baseline that was read against a candidate's file.
-fn put_against<'a, 'b, 'c, 'd, 'e>(
-    text: &'e [u8],
-    baseline: &'a [u8],
-    bi: &'b [usize],
-    nbi: usize,
-    be: &'c [usize],
-    nbe: usize,
-    candidate: &'a [u8],
-    out: &'d mut [u8],
-    at: usize,
-    go: bool,
-) -> usize
-    ensures { Wrote out.old at go
-        (against_text text.now (given baseline.now bi.now nbi be.now nbe)
-        candidate.now) result out.new }
+fn put_against(out: &mut Writer, text: &[u8], baseline: GivenModule, candidate: &[u8])
+    ensures same_reference { out.new.out.ghost_name ≡ out.old.out.ghost_name }
+    ensures added { Added out.old (against_text text.now (given_of baseline.entry) candidate.now) out.new }
 {
     let mut imports = [0usize; IMPORTS];
     let mut exports = [0usize; EXPORTS];
     match read_build(candidate, &mut imports, &mut exports) {
-        Err(why) => put_none(b"", why, out, at, go),
+        Err(why) => put_none(out, b"", why),
         Ok(m) => {
             let checked = checking::check_module(candidate, text);
             let fine = is_compliant(checked);
-            let verdicts = verdicts_of(checked);
-            let a = put_check(fine, verdicts, candidate, &imports, m.imports, out, at, go);
-            put_compared(
-                fine, baseline, bi, nbi, be, nbe, candidate, &imports, m.imports, &exports,
-                m.exports, out, a, go,
-            )
+            let candidate = GivenModule {
+                file: candidate,
+                imports: GivenTable {
+                    cells: &imports,
+                    count: m.imports,
+                },
+                exports: GivenTable {
+                    cells: &exports,
+                    count: m.exports,
+                },
+            };
+            put_check(out, fine, verdicts_of(checked), candidate);
+            put_compared(out, fine, baseline, candidate);
         }
     }
 }
 
 // Two files under a policy that was read.
-fn put_builds<'a, 'b, 'c>(
-    text: &'c [u8],
-    baseline: &'a [u8],
-    candidate: &'a [u8],
-    out: &'b mut [u8],
-    at: usize,
-    go: bool,
-) -> usize
-    ensures { Wrote out.old at go (builds_text text.now baseline.now candidate.now)
-        result out.new }
+fn put_builds(out: &mut Writer, text: &[u8], baseline: &[u8], candidate: &[u8])
+    ensures same_reference { out.new.out.ghost_name ≡ out.old.out.ghost_name }
+    ensures added { Added out.old (builds_text text.now baseline.now candidate.now) out.new }
 {
     let mut imports = [0usize; IMPORTS];
     let mut exports = [0usize; EXPORTS];
     match read_build(baseline, &mut imports, &mut exports) {
-        Err(why) => put_none(b"baseline ", why, out, at, go),
-        Ok(m) => put_against(
-            text, baseline, &imports, m.imports, &exports, m.exports, candidate, out, at, go,
-        ),
+        Err(why) => put_none(out, b"baseline ", why),
+        Ok(m) => {
+            let baseline = GivenModule {
+                file: baseline,
+                imports: GivenTable {
+                    cells: &imports,
+                    count: m.imports,
+                },
+                exports: GivenTable {
+                    cells: &exports,
+                    count: m.exports,
+                },
+            };
+            put_against(out, text, baseline, candidate);
+        }
     }
 }
 
 // All that follows the files.
-fn put_verdicts<'a, 'b, 'c>(
-    text: &'b [u8],
-    baseline: &'a [u8],
-    candidate: &'a [u8],
-    out: &'c mut [u8],
-    at: usize,
-    go: bool,
-) -> usize
-    ensures { Wrote out.old at go (verdict_of text.now baseline.now candidate.now)
-        result out.new }
+fn put_verdicts(out: &mut Writer, text: &[u8], baseline: &[u8], candidate: &[u8])
+    ensures same_reference { out.new.out.ghost_name ≡ out.old.out.ghost_name }
+    ensures added { Added out.old (verdict_of text.now baseline.now candidate.now) out.new }
 {
     match policy::read_policy(text) {
-        Err(why) => put_none(b"policy ", why, out, at, go),
-        Ok(_) => put_builds(text, baseline, candidate, out, at, go),
+        Err(why) => put_none(out, b"policy ", why),
+        Ok(_) => put_builds(out, text, baseline, candidate),
     }
 }
 
-fn put_report<'a, 'b, 'c, 'd, 'e, 'f>(
-    text_path: &'b [u8],
-    text: &'c [u8],
-    baseline_path: &'d [u8],
-    baseline: &'a [u8],
-    candidate_path: &'e [u8],
-    candidate: &'a [u8],
-    out: &'f mut [u8],
-    go: bool,
-) -> usize
-    ensures { Wrote out.old 0 go (review_of (file_at text_path.now text.now)
+fn put_report(
+    out: &mut Writer,
+    text_path: &[u8],
+    text: &[u8],
+    baseline_path: &[u8],
+    baseline: &[u8],
+    candidate_path: &[u8],
+    candidate: &[u8],
+)
+    ensures same_reference { out.new.out.ghost_name ≡ out.old.out.ghost_name }
+    ensures added { Added out.old (review_of (file_at text_path.now text.now)
         (file_at baseline_path.now baseline.now)
-        (file_at candidate_path.now candidate.now)) result out.new }
+        (file_at candidate_path.now candidate.now)) out.new }
 {
-    let a = put_path(b"policy: ", text_path, out, 0, go);
-    let b = put_policy(text, out, a, go);
-    let c = put_path(b"baseline: ", baseline_path, out, b, go);
-    let d = put_build(baseline, out, c, go);
-    let e = put_path(b"candidate: ", candidate_path, out, d, go);
-    let f = put_build(candidate, out, e, go);
-    put_verdicts(text, baseline, candidate, out, f, go)
+    put_path(out, b"policy: ", text_path);
+    put_policy(out, text);
+    put_path(out, b"baseline: ", baseline_path);
+    put_build(out, baseline);
+    put_path(out, b"candidate: ", candidate_path);
+    put_build(out, candidate);
+    put_verdicts(out, text, baseline, candidate);
 }
 
 // Where the report has no room.
@@ -256,6 +240,7 @@ fn put_no_room(out: &mut [u8]) -> usize
     if out.len() < line.len() {
         return 0;
     }
+    // One line, put by one call: a writer would be made for it alone.
     put(out, 0, line, true)
 }
 
@@ -273,38 +258,41 @@ pub fn review_text<'a, 'b, 'c, 'd, 'e, 'f>(
         (file_at baseline_path.now baseline.now)
         (file_at candidate_path.now candidate.now))) out.old result out.new }
 {
-    let n = put_report(
+    let mut counted = Writer::counting(out, 0);
+    put_report(
+        &mut counted,
         text_path,
         text,
         baseline_path,
         baseline,
         candidate_path,
         candidate,
-        out,
-        false,
     );
+    let n = counted.at;
     if out.len() <= n {
         return put_no_room(out);
     }
+    let mut written = Writer::writing(out, 0);
     put_report(
+        &mut written,
         text_path,
         text,
         baseline_path,
         baseline,
         candidate_path,
         candidate,
-        out,
-        true,
-    )
+    );
+    written.at
 }
 
-fn put_unread(whose: &[u8], path: &[u8], out: &mut [u8], go: bool) -> usize
-    ensures { Wrote out.old 0 go (unread_of whose.now path.now) result out.new }
+fn put_unread(out: &mut Writer, whose: &[u8], path: &[u8])
+    ensures same_reference { out.new.out.ghost_name ≡ out.old.out.ghost_name }
+    ensures added { Added out.old (unread_of whose.now path.now) out.new }
 {
-    let a = put_path(b"candidate: ", path, out, 0, go);
-    let b = put(out, a, b"verdict: none, ", go);
-    let c = put(out, b, whose, go);
-    put(out, c, b"not readable\n", go)
+    put_path(out, b"candidate: ", path);
+    out.put(b"verdict: none, ");
+    out.put(whose);
+    out.put(b"not readable\n");
 }
 
 // Of a candidate that cannot be read, or whose policy or baseline cannot: `whose` is `policy `, `baseline ` or nothing.
@@ -312,9 +300,13 @@ pub fn unread_text(whose: &[u8], path: &[u8], out: &mut [u8]) -> usize
     ensures { Prints (or_no_room (length out.old) (unread_of whose.now path.now)) out.old result
         out.new }
 {
-    let n = put_unread(whose, path, out, false);
+    let mut counter = Writer::counting(out, 0);
+    put_unread(&mut counter, whose, path);
+    let n = counter.at;
     if out.len() <= n {
         return put_no_room(out);
     }
-    put_unread(whose, path, out, true)
+    let mut writer = Writer::writing(out, 0);
+    put_unread(&mut writer, whose, path);
+    writer.at
 }

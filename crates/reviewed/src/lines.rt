@@ -2,7 +2,7 @@
 ghost use Rattle.std.specs.Prelude.{◌≡◌};
 ghost use Rattle.refusal.specs.Said.{number_of, beside_of, where_of};
 ghost use Rattle.table.specs.Table.{range_of};
-ghost use Rattle.output.specs.Bytes.{Wrote};
+ghost use Rattle.output.specs.Writing.{Added};
 ghost use Rattle.report.specs.Decimal.{decimal_of};
 ghost use Rattle.reviewed.specs.Texts.{path_text, name_text, counts_text, words_of, beside_text, reason_text, whether, mark_text};
 ghost use Rattle.reviewed.specs.Texts.{domain_text, domains_text, violated_text, violated_texts, compliance_text};
@@ -10,7 +10,7 @@ ghost use Rattle.reviewed.specs.Texts.{stand_text, verdict_text, none_text};
 ghost use Rattle.reviewed.specs.Review.{shown_name};
 
 use crate::escape::put_quoted;
-use output::bytes::{put, put_domain};
+use output::bytes::Writer;
 use policy::Policy;
 use refusal::Refusal;
 use report::line::Line;
@@ -18,62 +18,70 @@ use verdicts::{Verdict, is_violation};
 use wasm::Module;
 
 // The bytes of a text by value.
-fn put_line(l: Line, out: &mut [u8], at: usize, go: bool) -> usize
-    ensures { Wrote out.old at go (range_of l.bytes 0 l.len) result out.new }
+fn put_line(out: &mut Writer, l: Line)
+    ensures same_reference { out.new.out.ghost_name ≡ out.old.out.ghost_name }
+    ensures added { Added out.old (range_of l.bytes 0 l.len) out.new }
 {
     let bytes = l.bytes;
-    put(out, at, table::range(&bytes, 0, l.len), go)
+    out.put(table::range(&bytes, 0, l.len));
 }
 
-fn put_number(n: usize, out: &mut [u8], at: usize, go: bool) -> usize
-    ensures { Wrote out.old at go (decimal_of n) result out.new }
+fn put_number(out: &mut Writer, n: usize)
+    ensures same_reference { out.new.out.ghost_name ≡ out.old.out.ghost_name }
+    ensures added { Added out.old (decimal_of n) out.new }
 {
-    put_line(report::number_text(n), out, at, go)
+    put_line(out, report::number_text(n));
 }
 
 // What a file is, and its path.
-pub(crate) fn put_path(what: &[u8], path: &[u8], out: &mut [u8], at: usize, go: bool) -> usize
-    ensures { Wrote out.old at go (path_text what.now path.now) result out.new }
+pub(crate) fn put_path(out: &mut Writer, what: &[u8], path: &[u8])
+    ensures same_reference { out.new.out.ghost_name ≡ out.old.out.ghost_name }
+    ensures added { Added out.old (path_text what.now path.now) out.new }
 {
-    let a = put(out, at, what, go);
-    let b = put_quoted(out, a, path, go);
-    put(out, b, b"\n", go)
+    out.put(what);
+    put_quoted(out, path);
+    out.put(b"\n");
 }
 
-fn put_named(name: &[u8], permit: bool, out: &mut [u8], at: usize, go: bool) -> usize
-    ensures { Wrote out.old at go (name_text name.now permit) result out.new }
+fn put_named(out: &mut Writer, name: &[u8], permit: bool)
+    ensures same_reference { out.new.out.ghost_name ≡ out.old.out.ghost_name }
+    ensures added { Added out.old (name_text name.now permit) out.new }
 {
-    let a = put(out, at, b"  ", go);
-    let b = put_quoted(out, a, name, go);
+    out.put(b"  ");
+    put_quoted(out, name);
     if permit {
-        return put(out, b, b", default allow\n", go);
+        out.put(b", default allow\n");
+    } else {
+        out.put(b", default deny\n");
     }
-    put(out, b, b", default deny\n", go)
 }
 
 // The name of a policy that was read, and its default.
-pub(crate) fn put_name(text: &[u8], p: Policy, out: &mut [u8], at: usize, go: bool) -> usize
-    ensures { Wrote out.old at go (name_text (shown_name text.now p) p.permit) result out.new }
+pub(crate) fn put_name(out: &mut Writer, text: &[u8], p: Policy)
+    ensures same_reference { out.new.out.ghost_name ≡ out.old.out.ghost_name }
+    ensures added { Added out.old (name_text (shown_name text.now p) p.permit) out.new }
 {
     if p.named {
-        return put_named(table::range(text, p.start, p.size), p.permit, out, at, go);
+        put_named(out, table::range(text, p.start, p.size), p.permit);
+    } else {
+        put_named(out, b"default-deny", p.permit);
     }
-    put_named(b"default-deny", p.permit, out, at, go)
 }
 
 // How long a module is, and how many sections, imports and exports it has.
-pub(crate) fn put_counts(m: Module, out: &mut [u8], at: usize, go: bool) -> usize
-    ensures { Wrote out.old at go (counts_text m.length m.sections m.imports m.exports) result out.new }
+pub(crate) fn put_counts(out: &mut Writer, m: Module)
+    ensures same_reference { out.new.out.ghost_name ≡ out.old.out.ghost_name }
+    ensures added { Added out.old (counts_text m.length m.sections m.imports m.exports) out.new }
 {
-    let a = put(out, at, b"  bytes ", go);
-    let b = put_number(m.length, out, a, go);
-    let c = put(out, b, b", sections ", go);
-    let d = put_number(m.sections, out, c, go);
-    let e = put(out, d, b", imports ", go);
-    let f = put_number(m.imports, out, e, go);
-    let g = put(out, f, b", exports ", go);
-    let h = put_number(m.exports, out, g, go);
-    put(out, h, b"\n", go)
+    out.put(b"  bytes ");
+    put_number(out, m.length);
+    out.put(b", sections ");
+    put_number(out, m.sections);
+    out.put(b", imports ");
+    put_number(out, m.imports);
+    out.put(b", exports ");
+    put_number(out, m.exports);
+    out.put(b"\n");
 }
 
 // What a refusal means; nothing where no file is refused so.
@@ -99,134 +107,123 @@ fn words_of(why: Refusal) -> &'static [u8]
 }
 
 // Of an import of unknown kind, where in the file the kind byte is.
-fn put_beside(why: Refusal, out: &mut [u8], at: usize, go: bool) -> usize
-    ensures { Wrote out.old at go (beside_text (number_of why) (beside_of why)) result out.new }
+fn put_beside(out: &mut Writer, why: Refusal)
+    ensures same_reference { out.new.out.ghost_name ≡ out.old.out.ghost_name }
+    ensures added { Added out.old (beside_text (number_of why) (beside_of why)) out.new }
 {
     match why {
         Refusal::MalformedSection(_, offset) => {
-            let a = put(out, at, b", offset ", go);
-            put_number(offset, out, a, go)
+            out.put(b", offset ");
+            put_number(out, offset);
         }
-        _ => at,
+        _ => {}
     }
 }
 
 // Below its path, why a file is refused.
-pub(crate) fn put_reason(why: Refusal, out: &mut [u8], at: usize, go: bool) -> usize
-    ensures { Wrote out.old at go (reason_text (number_of why) (where_of why)) result out.new }
+pub(crate) fn put_reason(out: &mut Writer, why: Refusal)
+    ensures same_reference { out.new.out.ghost_name ≡ out.old.out.ghost_name }
+    ensures added { Added out.old (reason_text (number_of why) (where_of why)) out.new }
 {
-    let a = put(out, at, b"  refused ", go);
-    let b = put_number(refusal::number(why) as usize, out, a, go);
-    let c = put(out, b, b" at ", go);
-    let d = put_number(refusal::place(why), out, c, go);
-    let e = put_beside(why, out, d, go);
-    let f = put(out, e, words_of(why), go);
-    put(out, f, b"\n", go)
+    out.put(b"  refused ");
+    put_number(out, refusal::number(why) as usize);
+    out.put(b" at ");
+    put_number(out, refusal::place(why));
+    put_beside(out, why);
+    out.put(words_of(why));
+    out.put(b"\n");
 }
 
 // A word, or `not` before it.
-fn put_whether(yes: bool, word: &[u8], out: &mut [u8], at: usize, go: bool) -> usize
-    ensures { Wrote out.old at go (whether yes word.now) result out.new }
+fn put_whether(out: &mut Writer, yes: bool, word: &[u8])
+    ensures same_reference { out.new.out.ghost_name ≡ out.old.out.ghost_name }
+    ensures added { Added out.old (whether yes word.now) out.new }
 {
-    if yes {
-        return put(out, at, word, go);
+    if !yes {
+        out.put(b"not ");
     }
-    let a = put(out, at, b"not ", go);
-    put(out, a, word, go)
+    out.put(word);
 }
 
-fn put_mark(v: Verdict, out: &mut [u8], at: usize, go: bool) -> usize
-    ensures { Wrote out.old at go (mark_text v) result out.new }
+fn put_mark(out: &mut Writer, v: Verdict)
+    ensures same_reference { out.new.out.ghost_name ≡ out.old.out.ghost_name }
+    ensures added { Added out.old (mark_text v) out.new }
 {
     if is_violation(v) {
-        return put(out, at, b", violation", go);
+        out.put(b", violation");
     }
-    at
 }
 
 // A domain: required or not, how many times, allowed or not, and whether that is a violation.
-fn put_verdict_of(d: usize, v: Verdict, out: &mut [u8], at: usize, go: bool) -> usize
-    ensures { Wrote out.old at go (domain_text d v) result out.new }
+fn put_verdict_of(out: &mut Writer, d: usize, v: Verdict)
+    ensures same_reference { out.new.out.ghost_name ≡ out.old.out.ghost_name }
+    ensures added { Added out.old (domain_text d v) out.new }
 {
-    let a = put(out, at, b"  ", go);
-    let b = put_domain(out, a, d, go);
-    let c = put(out, b, b": ", go);
-    let e = put_whether(v.required, b"required", out, c, go);
-    let f = put(out, e, b" (", go);
-    let g = put_number(v.many, out, f, go);
-    let h = put(out, g, b"), ", go);
-    let i = put_whether(v.allowed, b"allowed", out, h, go);
-    let j = put_mark(v, out, i, go);
-    put(out, j, b"\n", go)
+    out.put(b"  ");
+    out.put_domain(d);
+    out.put(b": ");
+    put_whether(out, v.required, b"required");
+    out.put(b" (");
+    put_number(out, v.many);
+    out.put(b"), ");
+    put_whether(out, v.allowed, b"allowed");
+    put_mark(out, v);
+    out.put(b"\n");
 }
 
 // The seven domains.
-pub(crate) fn put_domains(verdicts: [Verdict; 7], out: &mut [u8], at: usize, go: bool) -> usize
-    ensures { Wrote out.old at go (domains_text verdicts) result out.new }
+pub(crate) fn put_domains(out: &mut Writer, verdicts: [Verdict; 7])
+    ensures same_reference { out.new.out.ghost_name ≡ out.old.out.ghost_name }
+    ensures added { Added out.old (domains_text verdicts) out.new }
 {
-    let mut m = at;
     for (d, &v) in verdicts.iter().enumerate() {
-        m = put_verdict_of(d, v, out, m, go);
+        put_verdict_of(out, d, v);
     }
-    m
 }
 
 // A domain's word, where it violates.
-fn put_violated(d: usize, v: Verdict, out: &mut [u8], at: usize, go: bool) -> usize
-    ensures { Wrote out.old at go (violated_text d v) result out.new }
+fn put_violated(out: &mut Writer, d: usize, v: Verdict)
+    ensures same_reference { out.new.out.ghost_name ≡ out.old.out.ghost_name }
+    ensures added { Added out.old (violated_text d v) out.new }
 {
     if is_violation(v) {
-        let a = put(out, at, b" ", go);
-        return put_domain(out, a, d, go);
+        out.put(b" ");
+        out.put_domain(d);
     }
-    at
 }
 
-fn put_all_violated(verdicts: [Verdict; 7], out: &mut [u8], at: usize, go: bool) -> usize
-    ensures { Wrote out.old at go (violated_texts verdicts) result out.new }
+fn put_all_violated(out: &mut Writer, verdicts: [Verdict; 7])
+    ensures same_reference { out.new.out.ghost_name ≡ out.old.out.ghost_name }
+    ensures added { Added out.old (violated_texts verdicts) out.new }
 {
-    let mut m = at;
     for (d, &v) in verdicts.iter().enumerate() {
-        m = put_violated(d, v, out, m, go);
+        put_violated(out, d, v);
     }
-    m
 }
 
 // Compliant; or the domains that violate.
-pub(crate) fn put_compliance(
-    fine: bool,
-    verdicts: [Verdict; 7],
-    out: &mut [u8],
-    at: usize,
-    go: bool,
-) -> usize
-    ensures { Wrote out.old at go (compliance_text fine verdicts) result out.new }
+pub(crate) fn put_compliance(out: &mut Writer, fine: bool, verdicts: [Verdict; 7])
+    ensures same_reference { out.new.out.ghost_name ≡ out.old.out.ghost_name }
+    ensures added { Added out.old (compliance_text fine verdicts) out.new }
 {
     if fine {
-        return put(out, at, b"compliant\n", go);
+        out.put(b"compliant\n");
+    } else {
+        out.put(b"not compliant:");
+        put_all_violated(out, verdicts);
+        out.put(b"\n");
     }
-    let a = put(out, at, b"not compliant:", go);
-    let b = put_all_violated(verdicts, out, a, go);
-    put(out, b, b"\n", go)
 }
 
-pub(crate) fn put_stand(yes: bool, out: &mut [u8], at: usize, go: bool) -> usize
-    ensures { Wrote out.old at go (stand_text yes) result out.new }
+pub(crate) fn put_stand(out: &mut Writer, yes: bool)
+    ensures same_reference { out.new.out.ghost_name ≡ out.old.out.ghost_name }
+    ensures added { Added out.old (stand_text yes) out.new }
 {
     if yes {
-        return put(
-            out,
-            at,
-            b"the candidate can stand in for the baseline\n",
-            go,
-        );
+        out.put(b"the candidate can stand in for the baseline\n");
+    } else {
+        out.put(b"the candidate cannot stand in for the baseline\n");
     }
-    put(
-        out,
-        at,
-        b"the candidate cannot stand in for the baseline\n",
-        go,
-    )
 }
 
 // The last line: whether the candidate is compliant, and can stand in for the baseline.
@@ -242,18 +239,22 @@ fn verdict_line(fine: bool, stands: bool) -> &'static [u8]
     }
 }
 
-pub(crate) fn put_verdict(fine: bool, stands: bool, out: &mut [u8], at: usize, go: bool) -> usize
-    ensures { Wrote out.old at go (verdict_text fine stands) result out.new }
+pub(crate) fn put_verdict(out: &mut Writer, fine: bool, stands: bool)
+    ensures same_reference { out.new.out.ghost_name ≡ out.old.out.ghost_name }
+    ensures added { Added out.old (verdict_text fine stands) out.new }
 {
-    put(out, at, verdict_line(fine, stands), go)
+    out.put(verdict_line(fine, stands));
 }
 
 // The last line where there is no verdict.
-pub(crate) fn put_none(whose: &[u8], why: Refusal, out: &mut [u8], at: usize, go: bool) -> usize
-    ensures { Wrote out.old at go (none_text whose.now (number_of why) (where_of why)) result out.new }
+pub(crate) fn put_none(out: &mut Writer, whose: &[u8], why: Refusal)
+    ensures same_reference { out.new.out.ghost_name ≡ out.old.out.ghost_name }
+    ensures added { Added out.old (none_text whose.now (number_of why) (where_of why)) out.new }
 {
-    let line = report::refused_line(refusal::number(why) as usize, refusal::place(why));
-    let a = put(out, at, b"verdict: none, ", go);
-    let b = put(out, a, whose, go);
-    put_line(line, out, b, go)
+    out.put(b"verdict: none, ");
+    out.put(whose);
+    put_line(
+        out,
+        report::refused_line(refusal::number(why) as usize, refusal::place(why)),
+    );
 }

@@ -5,17 +5,23 @@ ghost use Rattle.sorting.specs.Keys.{row_name};
 ghost use Rattle.domains.specs.Domain.{domain_number};
 ghost use Rattle.verdicts.specs.Evaluate.{violates};
 ghost use Rattle.differences.specs.View.{export_key_at};
-ghost use Rattle.output.specs.Bytes.{Wrote};
+ghost use Rattle.output.specs.Writing.{Added};
 ghost use Rattle.reasons.specs.Reasons.{reason_lines};
 ghost use Rattle.reviewed.specs.Texts.{nth, violation_text, kind_text, removed_text, added_text};
 ghost use Rattle.reviewed.specs.Review.{violation_row, removed_row, added_row};
 
 use crate::escape::put_quoted;
+use differences::GivenModule;
 use domains::classify::classify_import;
 use domains::{Domain, domain_number};
 use kinds::{kind_of, kind_slug};
-use output::bytes::{put, put_domain};
-use table::shape::{EXPORT_DIFF_WIDTH, EXPORT_WIDTH, IMPORT_WIDTH, NEED_DIFF_WIDTH};
+use output::bytes::Writer;
+use table::given::GivenTable;
+use table::shape::{
+    EXPORT_DIFF_CHANGE, EXPORT_DIFF_ROW, EXPORT_DIFF_WIDTH, EXPORT_KIND, EXPORT_NAME, EXPORT_WIDTH,
+    FUNC, IMPORT_FIELD, IMPORT_KIND, IMPORT_MODULE, IMPORT_WIDTH, NEED_DIFF_CHANGE,
+    NEED_DIFF_DOMAIN, NEED_DIFF_ROW, NEED_DIFF_WIDTH, REMOVED,
+};
 use verdicts::{Verdict, is_violation};
 
 fn violated(verdicts: [Verdict; 7], domain: Domain) -> bool
@@ -24,212 +30,142 @@ fn violated(verdicts: [Verdict; 7], domain: Domain) -> bool
     is_violation(verdicts[domain_number(domain)])
 }
 
-fn put_violation(
-    domain: usize,
-    field: &[u8],
-    source: &[u8],
-    out: &mut [u8],
-    at: usize,
-    go: bool,
-) -> usize
-    ensures { Wrote out.old at go (violation_text domain field.now source.now) result out.new }
+fn put_violation(out: &mut Writer, domain: usize, field: &[u8], source: &[u8])
+    ensures same_reference { out.new.out.ghost_name ≡ out.old.out.ghost_name }
+    ensures added { Added out.old (violation_text domain field.now source.now) out.new }
 {
-    let a = put(out, at, b"  ", go);
-    let b = put_domain(out, a, domain, go);
-    let c = put(out, b, b" is not allowed: imports ", go);
-    let d = put_quoted(out, c, field, go);
-    let e = put(out, d, b" from ", go);
-    let f = put_quoted(out, e, source, go);
-    put(out, f, b"\n", go)
+    out.put(b"  ");
+    out.put_domain(domain);
+    out.put(b" is not allowed: imports ");
+    put_quoted(out, field);
+    out.put(b" from ");
+    put_quoted(out, source);
+    out.put(b"\n");
 }
 
 // The line for row i of table 2; none where it is no function, or its domain does not violate.
-fn put_violation_row(
-    file: &[u8],
-    imports: &[usize],
-    verdicts: [Verdict; 7],
-    i: usize,
-    out: &mut [u8],
-    at: usize,
-    go: bool,
-) -> usize
-    ensures { Wrote out.old at go (violation_row file.now imports.now verdicts i)
-        result out.new }
+fn put_violation_row(out: &mut Writer, candidate: GivenModule, verdicts: [Verdict; 7], i: usize)
+    ensures same_reference { out.new.out.ghost_name ≡ out.old.out.ghost_name }
+    ensures added { Added out.old
+        (violation_row candidate.entry.file.now candidate.entry.imports.cells.now verdicts i) out.new }
 {
-    if table::cell(imports, IMPORT_WIDTH, i, 4) != 0 {
-        return at;
+    let file = candidate.file;
+    let imports = candidate.imports.cells;
+    if table::cell(imports, IMPORT_WIDTH, i, IMPORT_KIND) != FUNC {
+        return;
     }
-    let source = table::range(
-        file,
-        table::cell(imports, IMPORT_WIDTH, i, 0),
-        table::cell(imports, IMPORT_WIDTH, i, 1),
-    );
-    let field = table::range(
-        file,
-        table::cell(imports, IMPORT_WIDTH, i, 2),
-        table::cell(imports, IMPORT_WIDTH, i, 3),
-    );
+    let source = table::name(file, imports, IMPORT_WIDTH, i, IMPORT_MODULE);
+    let field = table::name(file, imports, IMPORT_WIDTH, i, IMPORT_FIELD);
     let domain = classify_import(source, field);
     if !violated(verdicts, domain) {
-        return at;
+        return;
     }
-    put_violation(domain_number(domain), field, source, out, at, go)
+    put_violation(out, domain_number(domain), field, source);
 }
 
 // Each import that is not allowed.
-pub(crate) fn put_violations(
-    file: &[u8],
-    imports: &[usize],
-    verdicts: [Verdict; 7],
-    n: usize,
-    out: &mut [u8],
-    at: usize,
-    go: bool,
-) -> usize
-    ensures { Wrote out.old at go (reason_lines (violation_row file.now imports.now verdicts) n)
-        result out.new }
+pub(crate) fn put_violations(out: &mut Writer, candidate: GivenModule, verdicts: [Verdict; 7])
+    ensures same_reference { out.new.out.ghost_name ≡ out.old.out.ghost_name }
+    ensures added { Added out.old
+        (reason_lines (violation_row candidate.entry.file.now candidate.entry.imports.cells.now verdicts)
+        candidate.entry.imports.count) out.new }
 {
-    let mut m = at;
-    for i in 0..n {
-        m = put_violation_row(file, imports, verdicts, i, out, m, go);
+    for i in 0..candidate.imports.count {
+        put_violation_row(out, candidate, verdicts, i);
     }
-    m
 }
 
 // The word of a kind; none for a number that is no byte.
-fn put_kind(kind: usize, out: &mut [u8], at: usize, go: bool) -> usize
-    ensures { Wrote out.old at go (kind_text kind) result out.new }
+fn put_kind(out: &mut Writer, kind: usize)
+    ensures same_reference { out.new.out.ghost_name ≡ out.old.out.ghost_name }
+    ensures added { Added out.old (kind_text kind) out.new }
 {
-    let Ok(kind) = u8::try_from(kind) else {
-        return at;
-    };
-    let word = kind_slug(kind_of(kind));
-    let bytes = word.bytes;
-    let n = word.len;
-    put(out, at, &bytes[..n], go)
+    if let Ok(kind) = u8::try_from(kind) {
+        let word = kind_slug(kind_of(kind));
+        let bytes = word.bytes;
+        out.put(&bytes[..word.len]);
+    }
 }
 
 // The line for row i of table 3, which is no longer there.
-fn put_removed(
-    file: &[u8],
-    exports: &[usize],
-    i: usize,
-    out: &mut [u8],
-    at: usize,
-    go: bool,
-) -> usize
-    ensures { Wrote out.old at go (removed_text (export_key_at file.now exports.now i).name
-        (export_key_at file.now exports.now i).kind) result out.new }
+fn put_removed(out: &mut Writer, baseline: GivenModule, i: usize)
+    ensures same_reference { out.new.out.ghost_name ≡ out.old.out.ghost_name }
+    ensures added { Added out.old
+        (removed_text (export_key_at baseline.entry.file.now baseline.entry.exports.cells.now i).name
+        (export_key_at baseline.entry.file.now baseline.entry.exports.cells.now i).kind) out.new }
 {
-    let from = table::cell(exports, EXPORT_WIDTH, i, 0);
-    let len = table::cell(exports, EXPORT_WIDTH, i, 1);
-    let kind = table::cell(exports, EXPORT_WIDTH, i, 2);
-    let a = put(out, at, b"export removed: ", go);
-    let b = put_quoted(out, a, table::range(file, from, len), go);
-    let c = put(out, b, b" (", go);
-    let d = put_kind(kind, out, c, go);
-    put(out, d, b")\n", go)
+    let exports = baseline.exports.cells;
+    let name = table::name(baseline.file, exports, EXPORT_WIDTH, i, EXPORT_NAME);
+    let kind = table::cell(exports, EXPORT_WIDTH, i, EXPORT_KIND);
+    out.put(b"export removed: ");
+    put_quoted(out, name);
+    out.put(b" (");
+    put_kind(out, kind);
+    out.put(b")\n");
 }
 
 // The line for row i of table 8; none where the export was added.
-fn put_removed_row(
-    file: &[u8],
-    exports: &[usize],
-    xd: &[usize],
-    i: usize,
-    out: &mut [u8],
-    at: usize,
-    go: bool,
-) -> usize
-    ensures { Wrote out.old at go (removed_row file.now exports.now xd.now i)
-        result out.new }
+fn put_removed_row(out: &mut Writer, baseline: GivenModule, xd: &[usize], i: usize)
+    ensures same_reference { out.new.out.ghost_name ≡ out.old.out.ghost_name }
+    ensures added { Added out.old
+        (removed_row baseline.entry.file.now baseline.entry.exports.cells.now xd.now i) out.new }
 {
-    if table::cell(xd, EXPORT_DIFF_WIDTH, i, 0) != 0 {
-        return at;
+    if table::cell(xd, EXPORT_DIFF_WIDTH, i, EXPORT_DIFF_CHANGE) != REMOVED {
+        return;
     }
-    let row = table::cell(xd, EXPORT_DIFF_WIDTH, i, 1);
-    put_removed(file, exports, row, out, at, go)
+    let row = table::cell(xd, EXPORT_DIFF_WIDTH, i, EXPORT_DIFF_ROW);
+    put_removed(out, baseline, row);
 }
 
 // Each export that is gone.
-pub(crate) fn put_gone(
-    file: &[u8],
-    exports: &[usize],
-    xd: &[usize],
-    n: usize,
-    out: &mut [u8],
-    at: usize,
-    go: bool,
-) -> usize
-    ensures { Wrote out.old at go (reason_lines (removed_row file.now exports.now xd.now) n)
-        result out.new }
+pub(crate) fn put_gone(out: &mut Writer, baseline: GivenModule, xd: GivenTable)
+    ensures same_reference { out.new.out.ghost_name ≡ out.old.out.ghost_name }
+    ensures added { Added out.old
+        (reason_lines (removed_row baseline.entry.file.now baseline.entry.exports.cells.now xd.entry.cells.now)
+        xd.entry.count) out.new }
 {
-    let mut m = at;
-    for i in 0..n {
-        m = put_removed_row(file, exports, xd, i, out, m, go);
+    for i in 0..xd.count {
+        put_removed_row(out, baseline, xd.cells, i);
     }
-    m
 }
 
 // The line for a domain, needed by row i of table 2.
-fn put_added(
-    file: &[u8],
-    imports: &[usize],
-    domain: usize,
-    i: usize,
-    out: &mut [u8],
-    at: usize,
-    go: bool,
-) -> usize
-    ensures { Wrote out.old at go (added_text domain (row_name file.now imports.now (width 2) 0 1 i))
-        result out.new }
+fn put_added(out: &mut Writer, candidate: GivenModule, domain: usize, i: usize)
+    ensures same_reference { out.new.out.ghost_name ≡ out.old.out.ghost_name }
+    ensures added { Added out.old
+        (added_text domain (row_name candidate.entry.file.now candidate.entry.imports.cells.now (width 2) 0 1 i)) out.new }
 {
-    let from = table::cell(imports, IMPORT_WIDTH, i, 0);
-    let len = table::cell(imports, IMPORT_WIDTH, i, 1);
-    let a = put(out, at, b"new capability required: ", go);
-    let b = put_domain(out, a, domain, go);
-    let c = put(out, b, b" via ", go);
-    let d = put_quoted(out, c, table::range(file, from, len), go);
-    put(out, d, b"\n", go)
+    let imports = candidate.imports.cells;
+    let source = table::name(candidate.file, imports, IMPORT_WIDTH, i, IMPORT_MODULE);
+    out.put(b"new capability required: ");
+    out.put_domain(domain);
+    out.put(b" via ");
+    put_quoted(out, source);
+    out.put(b"\n");
 }
 
 // The line for row i of table 9; none where the capability was removed.
-fn put_added_row(
-    file: &[u8],
-    imports: &[usize],
-    cd: &[usize],
-    i: usize,
-    out: &mut [u8],
-    at: usize,
-    go: bool,
-) -> usize
-    ensures { Wrote out.old at go (added_row file.now imports.now cd.now i)
-        result out.new }
+fn put_added_row(out: &mut Writer, candidate: GivenModule, cd: &[usize], i: usize)
+    ensures same_reference { out.new.out.ghost_name ≡ out.old.out.ghost_name }
+    ensures added { Added out.old
+        (added_row candidate.entry.file.now candidate.entry.imports.cells.now cd.now i) out.new }
 {
-    if table::cell(cd, NEED_DIFF_WIDTH, i, 0) == 0 {
-        return at;
+    if table::cell(cd, NEED_DIFF_WIDTH, i, NEED_DIFF_CHANGE) == REMOVED {
+        return;
     }
-    let domain = table::cell(cd, NEED_DIFF_WIDTH, i, 1);
-    let row = table::cell(cd, NEED_DIFF_WIDTH, i, 2);
-    put_added(file, imports, domain, row, out, at, go)
+    let domain = table::cell(cd, NEED_DIFF_WIDTH, i, NEED_DIFF_DOMAIN);
+    let row = table::cell(cd, NEED_DIFF_WIDTH, i, NEED_DIFF_ROW);
+    put_added(out, candidate, domain, row);
 }
 
 // Each capability that is new.
-pub(crate) fn put_new(
-    file: &[u8],
-    imports: &[usize],
-    cd: &[usize],
-    n: usize,
-    out: &mut [u8],
-    at: usize,
-    go: bool,
-) -> usize
-    ensures { Wrote out.old at go (reason_lines (added_row file.now imports.now cd.now) n)
-        result out.new }
+pub(crate) fn put_new(out: &mut Writer, candidate: GivenModule, cd: GivenTable)
+    ensures same_reference { out.new.out.ghost_name ≡ out.old.out.ghost_name }
+    ensures added { Added out.old
+        (reason_lines (added_row candidate.entry.file.now candidate.entry.imports.cells.now cd.entry.cells.now)
+        cd.entry.count) out.new }
 {
-    let mut m = at;
-    for i in 0..n {
-        m = put_added_row(file, imports, cd, i, out, m, go);
+    for i in 0..cd.count {
+        put_added_row(out, candidate, cd.cells, i);
     }
-    m
 }

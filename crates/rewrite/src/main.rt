@@ -1,17 +1,13 @@
 // Reads a policy from standard input and prints its text in the one form that the writer gives it, or `refused N at P`.
 #![tactic(auto)]
 
-mod standard_error;
-
-ghost use Rattle.std.specs.Prelude.{◌≡◌, ◌<◌, ◌≤◌, length, take, IfOk};
-ghost use Rattle.std.specs.Io.KnownBytes.{Consumes, IsAtEnd};
+ghost use Rattle.std.specs.Prelude.{◌≡◌};
 ghost use Rattle.rewritten.specs.Printed.{printed_of};
 
 use refusal::MAX_TEXT;
 use rewritten::rewrite_text;
-use standard_error::fail;
-use std::io;
-use std::io::Read;
+use streams::input::read_all;
+use streams::standard_error::fail;
 
 // One byte more than a text may have, so that 14 is seen; and room for all that is printed.
 const BUFFER: usize = MAX_TEXT + 1;
@@ -20,28 +16,10 @@ const ROOM: usize = MAX_TEXT * 2;
 
 fn main(rt: HostRuntime) {
     let mut text = [0u8; BUFFER];
-    match read_input(&mut rt.stdin(), &mut text) {
+    match read_all(&mut rt.stdin(), &mut text) {
         Ok(n) => rewrite(&rt, &text[..n]),
         Err(error) => fail(&rt, "standard input", &error),
     }
-}
-
-// Standard input to its end, or until the buffer is full: of a reader whose bytes are known, these are the next. A read that fails is no
-// end of input.
-fn read_input<I: Read>(input: &mut I, buffer: &mut [u8]) -> io::Result<usize>
-    ensures in_bounds { IfOk result (λ n. n ≤ length buffer.new) }
-    ensures bytes { IfOk result (λ n. Consumes (I.remaining input.old) (I.remaining input.new) (take n buffer.new)) }
-    ensures end { IfOk result (λ n. n < length buffer.new → IsAtEnd (I.remaining input.new)) }
-{
-    let mut n = 0;
-    while n < buffer.len() {
-        let more = input.read(&mut buffer[n..])?;
-        if more == 0 {
-            return Ok(n);
-        }
-        n += more;
-    }
-    Ok(n)
 }
 
 fn rewrite(rt: &(impl Print + Eprint + AllocGlobal), text: &[u8]) {

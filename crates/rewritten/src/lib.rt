@@ -23,6 +23,7 @@ fn put_refusal(why: Refusal, out: &mut [u8]) -> usize
     if out.len() < text.len() {
         return 0;
     }
+    // One line, put by one call: a writer would be made for it alone.
     output::bytes::put(out, 0, text, true)
 }
 

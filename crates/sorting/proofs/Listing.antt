@@ -18,7 +18,7 @@ use Rattle.sorting.specs.Order.{Lawful}
 use Rattle.sorting.specs.Sort.{put_in_order, sort, selected, up_from}
 use Rattle.sorting.specs.Keys.{said_sorted, Sorts}
 use Rattle.sorting.specs.Filling.{Placed, Ordered, Filled, Inserted, inserted}
-use Rattle.sorting.proofs.Sorts.{put-grows, sort-ascends}
+use Rattle.sorting.proofs.Sorts.{put-grows, put-ascends}
 
 -- ---- a row put in, at either kind of place
 module _ (cmp : ℕ → ℕ → Ordering) (x : ℕ) (table : List ℕ) (k p : ℕ) where
@@ -77,17 +77,20 @@ drop_past l before k r e h =
     ∙ drop-drop (r - k) k before
     ∙ ap (λ (m : ℕ). drop m before) b
 
--- ---- a table that is filled with the sorted list of some rows l
-module _ (cmp : ℕ → ℕ → Ordering) (laws : Lawful cmp) (l before table : List ℕ) (k : ℕ) (f : Filled (sort cmp l) before table k) where
-  -- it is in order
-  pub filled-ordered : length table ≡ length before → Ordered cmp table k
-  filled-ordered e =
-      record {
-        room = omega (arith, filled-room (sort cmp l) before table k f e);
-        ascends = rw (filled-take (sort cmp l) before table k f) (sort-ascends cmp laws l);
-      }
+-- ---- a row put into a table whose first k are in order: its first r are in order then
+pub ordered-step : (cmp : ℕ → ℕ → Ordering) (laws : Lawful cmp) (x k : ℕ) (table after : List ℕ) {s : Option ℕ} (r : ℕ) → Ordered cmp table k
+    → s ≡ Some r → Inserted (put_in_order cmp x (take k table)) table after s → length after ≡ length table → Ordered cmp after r
+ordered-step cmp laws x k table after r o q h e =
+    let l = put_in_order cmp x (take k table) in
+    let g : Filled l table after r = subst (Inserted l table after) q h in
+    record {
+      room = omega (arith, filled-room l table after r g e);
+      ascends = rw (filled-take l table after r g) (put-ascends cmp laws x (take k table) o.ascends);
+    }
 
-  -- and with one more row put in, it is filled with that of the row and l
+-- ---- a table that is filled with the sorted list of some rows l
+module _ (cmp : ℕ → ℕ → Ordering) (l before table : List ℕ) (k : ℕ) (f : Filled (sort cmp l) before table k) where
+  -- with one more row put in, it is filled with that of the row and l
   pub filled-step : (x : ℕ) (after : List ℕ) {s : Option ℕ} (r : ℕ) → s ≡ Some r
       → Inserted (put_in_order cmp x (take k table)) table after s → Filled (sort cmp (x ∷ l)) before after r
   filled-step x after r q h =
@@ -179,7 +182,7 @@ sorts-full l before after h e =
       table_is = rw (lt-leb (length l) (length before) h) e;
     }
 
--- the paper's words tell the answer
+-- the rules' words tell the answer
 pub said-known : (r s : Option ℕ) → said_sorted 0 r ≡ said_sorted 0 s → r ≡ s
 said-known (Some m) (Some n) e = let q : m ≡ n = cc in ap Some q
 said-known (Some m) None e = absurd (never (sym e))

@@ -1,16 +1,13 @@
 -- Where an element goes in a sorted list, by index; and a list shifted up by one. Assumes nothing.
-use mathlib.Core.Path.{◌≡◌, refl, ◌∙◌, ap}
+use mathlib.Core.Path.{◌≡◌, refl, sym, ◌∙◌, ap}
 use mathlib.Core.List.{List, [], ◌∷◌, ◌++◌, append_assoc}
-use Prim.Native.Nat.{ℕ, zero, suc, ◌+◌, ◌-◌, ◌≤◌, ◌<◌, zero-le, suc-le-suc}
+use Prim.Native.Nat.{ℕ, zero, suc, ◌≤◌, ◌<◌, zero-le, suc-le-suc}
 use native.Mathlib.Nat.{le_of_suc-le-suc, not-suc-le-zero}
-use native.Mathlib.Numerals.{add-one}
 use native.Mathlib.Omega.{arith}
-use lib.ListN.{length, get_or, take, drop, set}
-use lib.Seq.{slice, take-suc, set_at, length-take-le}
-use Rattle.std.specs.List.{copy_within}
+use lib.ListN.{length, get_or, take, drop, set, get_or-append, take-append-drop}
+use lib.Seq.{slice, slice_empty, slice-cons, take-suc, get_or-take, set_at, length-take-le}
 use Rattle.std.specs.declared.cmp.Ordering.{Ordering}
 use Rattle.std.specs.declared.cmp.Ordering.TheVariants.{Less, Equal, Greater}
-use Rattle.text.proofs.PieceLaws.{drop-take}
 use Rattle.sorting.specs.Order.{Lawful}
 use Rattle.sorting.specs.Sort.{put_in_order, Before, Ascending}
 
@@ -34,25 +31,29 @@ module _ {A : Type 0} (cmp : A → A → Ordering) (x d : A) where
   put-over (y ∷ l) (suc p) h b e =
       rw (b zero (suc-le-suc zero-le)) (ap (◌∷◌ y) (put-over l p (le_of_suc-le-suc h) (λ j i. b (suc j) (suc-le-suc i)) e))
 
--- ---- a table's elements moved up by one
+-- the elements from j on up to k moved up by one, the one at j kept
+abbrev pub shifted : List ℕ → ℕ → ℕ → List ℕ
+shifted l j k = take (suc j) l ++ (slice j k l ++ drop (suc k) l)
+
 module _ (l : List ℕ) (k : ℕ) (room : k < length l) where
-  -- those from j on, the one at j kept
-  shifted : ℕ → List ℕ
-  shifted j = take (suc j) l ++ (slice j k l ++ drop (suc k) l)
+  pub shift-start : l ≡ shifted l k k
+  shift-start = rw (slice_empty k l) (sym (take-append-drop (suc k) l))
 
-  moved : (p : ℕ) → p ≤ k → copy_within l p k (p + 1) ≡ shifted p
-  unfolding shifted
-  moved p h =
-      let n : p + 1 + (k - p) ≡ suc k = omega arith in
-      rw (n, add-one p, ← drop-take p k l) (append_assoc (take (suc p) l) (slice p k l) (drop (suc k) l))
+  -- what stands at j and what follows, set
+  pub shift-set : (j : ℕ) (v : ℕ) → j ≤ k → set (shifted l j k) j v ≡ take j l ++ v ∷ (slice j k l ++ drop (suc k) l)
+  shift-set j v h =
+      rw (take-suc l j 0 (omega arith), append_assoc)
+      (set_at (take j l) (get_or l j 0) (slice j k l ++ drop (suc k) l) v j (length-take-le j l (omega arith)))
 
-  -- and v in the place that is free
-  pub moved-up : (p : ℕ) (v : ℕ) → p ≤ k → set (copy_within l p k (p + 1)) p v ≡ take p l ++ v ∷ (slice p k l ++ drop (suc k) l)
-  unfolding shifted
-  moved-up p v h =
-      ap (λ (t : List ℕ). set t p v) (moved p h)
-      ∙ rw (take-suc l p 0 (omega arith), append_assoc)
-      (set_at (take p l) (get_or l p 0) (slice p k l ++ drop (suc k) l) v p (length-take-le p l (omega arith)))
+  shift-get : (j i : ℕ) → i ≤ j → j ≤ k → get_or (shifted l j k) i 0 ≡ get_or l i 0
+  shift-get j i h g =
+      get_or-append (take (suc j) l) (slice j k l ++ drop (suc k) l) 0 i (rw (length-take-le (suc j) l (omega arith)) (omega arith))
+      ∙ get_or-take (suc j) l i 0 (omega arith)
+
+  pub shift-step : (j : ℕ) → j < k → set (shifted l (suc j) k) (suc j) (get_or (shifted l (suc j) k) j 0) ≡ shifted l j k
+  shift-step j h =
+      rw (shift-get (suc j) j (omega arith) h)
+      (shift-set (suc j) (get_or l j 0) h ∙ rw (slice-cons j k l 0 h (omega arith)))
 
 -- an ascending list, by index
 before-get_d : {A : Type 0} (cmp : A → A → Ordering) (d x : A) (l : List A) → Before cmp x l → (j : ℕ) → j < length l

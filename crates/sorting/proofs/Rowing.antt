@@ -1,7 +1,6 @@
 -- The order of rows: how the code finds it, and that it is lawful. Assumes nothing.
-use mathlib.Core.Path.{◌≡◌, refl, sym, ap, ◌∙◌}
-use mathlib.Core.Bool.{Bool, true, false, beq}
-use lib.Dec.{eqb}
+use mathlib.Core.Path.{◌≡◌, refl, sym, ◌∙◌}
+use mathlib.Core.Bool.{Bool, true, false}
 use mathlib.Core.List.{List}
 use Prim.Native.Nat.{ℕ}
 use native.Mathlib.Nat.{le_refl}
@@ -10,26 +9,16 @@ use Rattle.refusal.specs.Pick.{pick}
 use Rattle.text.specs.Order.{cmp_nat, and_then, cmp_bytes}
 use Rattle.std.specs.declared.cmp.Ordering.{Ordering}
 use Rattle.std.specs.declared.cmp.Ordering.TheVariants.{Less, Equal, Greater}
-use Rattle.std.specs.Ordering.{MatchOrdering}
+use Rattle.std.specs.Prelude.{not}
+use Rattle.std.specs.Ordering.{ordering_then, nat_cmp}
+use Rattle.std.specs.Cmp.Lexicographic.{slice_cmp}
+use Rattle.text.proofs.SliceLaws.{cmp_numbers, then_same, cmp_slices}
 use Rattle.table.specs.Table.{range_of}
 use Rattle.table.proofs.Cells.{cell-beside}
 use Rattle.sorting.specs.Order.{Lawful}
-use Rattle.sorting.specs.Keys.{by_name, row_name, column_at, file_of, name_of, row_order, row_marked, unmarked, wanted}
+use Rattle.sorting.specs.Keys.{by_name, row_name, column_at, file_of, name_of, row_order, row_marked, unmarked}
 use Rattle.sorting.specs.declared.Keys.{Keys}
 use Rattle.sorting.proofs.Orders.{lawful-nat, lawful-bytes, lawful-on, lawful_then, lawful-tie, nat-same}
-
--- an answer, and another where it ties
-chained : (a b : Ordering) {o : Ordering} → MatchOrdering a (o ≡ Less) (o ≡ b) (o ≡ Greater) → o ≡ and_then a b
-chained Less b e = e
-chained Equal b e = e
-chained Greater b e = e
-
--- the case in which the next answer counts
-pub at-tie : (a b o : Ordering) (Q : Type 0) → MatchOrdering a (o ≡ Less) Q (o ≡ Greater) → (Q → o ≡ b)
-    → MatchOrdering a (o ≡ Less) (o ≡ b) (o ≡ Greater)
-at-tie Less b o Q p f = p
-at-tie Equal b o Q p f = f p
-at-tie Greater b o Q p f = p
 
 then_assoc : (a b c : Ordering) → and_then (and_then a b) c ≡ and_then a (and_then b c)
 then_assoc Less b c = refl
@@ -49,44 +38,61 @@ module _ (first second rows : List ℕ) (k : Keys) where
     unfolding name_of file_of
     name-second b z = rw (b, f, l, ne_eqb _ _ (λ q. z (e ∙ q)))
 
-  -- a row is wanted or not, from the cell of its mark
-  pub wanted-is : {x : ℕ} (like : Bool) (i : ℕ) → x ≡ column_at first second rows k k.mark i
-      → beq (eqb x k.value) like ≡ wanted first second rows k like i
-  unfolding wanted unmarked row_marked
-  wanted-is true i e = rw e (as_true _)
+  -- a row that is not marked
+  pub unmarked-is : {t : Bool} (i : ℕ) → t ≡ row_marked first second rows k i → not t ≡ unmarked first second rows k i
+  unfolding unmarked
+  unmarked-is i e = rw e (turned (row_marked first second rows k i))
     where
-      as_true : (t : Bool) → beq t true ≡ t
-      as_true true = refl
-      as_true false = refl
-  wanted-is false i e = rw e (as_false _)
+      turned : (t : Bool) → not t ≡ pick t false true
+      turned true = refl
+      turned false = refl
+
+  -- the order of two rows by what they are sorted by, part by part
+  pub key-order : (i j : ℕ) {a b c d e f : ℕ} {s t : List ℕ}
+      → a ≡ column_at first second rows k k.major i → s ≡ name_of first second rows k i
+      → c ≡ column_at first second rows k k.minor i → e ≡ pick k.every i 0
+      → b ≡ column_at first second rows k k.major j → t ≡ name_of first second rows k j
+      → d ≡ column_at first second rows k k.minor j → f ≡ pick k.every j 0
+      → ordering_then (ordering_then (ordering_then (nat_cmp a b) (slice_cmp nat_cmp s t)) (nat_cmp c d)) (nat_cmp e f)
+      ≡ row_order first second rows k i j
+  unfolding row_order
+  key-order i j {a} {b} {c} {d} {e} {f} {s} {t} pa ps pc pe pb pt pd pf =
+      then_same (ordering_then (ordering_then (nat_cmp a b) (slice_cmp nat_cmp s t)) (nat_cmp c d)) (nat_cmp e f)
+      ∙ rw (
+        then_same (ordering_then (nat_cmp a b) (slice_cmp nat_cmp s t)) (nat_cmp c d),
+        then_same (nat_cmp a b) (slice_cmp nat_cmp s t),
+        cmp_numbers a b,
+        cmp_slices s t,
+        cmp_numbers c d,
+        cmp_numbers e f,
+        pa,
+        ps,
+        pc,
+        pe,
+        pb,
+        pt,
+        pd,
+        pf,
+        last k.every,
+      )
+      (then_assoc (and_then by_major by_bytes) by_minor by_number
+      ∙ then_assoc by_major by_bytes (and_then by_minor by_number))
     where
-      as_false : (t : Bool) → beq t false ≡ pick t false true
-      as_false true = refl
-      as_false false = refl
+      by_major : Ordering
+      by_major = cmp_nat (column_at first second rows k k.major i) (column_at first second rows k k.major j)
 
-  -- the order of two rows, by the first answer that is no tie
-  module _ (i j : ℕ) where
-    abbrev pub by_cell : ℕ → Ordering
-    by_cell column = cmp_nat (column_at first second rows k column i) (column_at first second rows k column j)
+      by_bytes : Ordering
+      by_bytes = cmp_bytes (name_of first second rows k i) (name_of first second rows k j)
 
-    abbrev pub by_bytes : Ordering
-    by_bytes = cmp_bytes (name_of first second rows k i) (name_of first second rows k j)
+      by_minor : Ordering
+      by_minor = cmp_nat (column_at first second rows k k.minor i) (column_at first second rows k k.minor j)
 
-    -- one answer after another, as the code chains them
-    pub order-chained : (a b c : Ordering) {o : Ordering} → a ≡ by_cell k.major
-        → MatchOrdering a (b ≡ Less) (b ≡ by_bytes) (b ≡ Greater)
-        → MatchOrdering b (c ≡ Less) (c ≡ by_cell k.minor) (c ≡ Greater)
-        → MatchOrdering c (o ≡ Less) (o ≡ pick k.every (cmp_nat i j) Equal) (o ≡ Greater)
-        → o ≡ row_order first second rows k i j
-    unfolding row_order
-    order-chained a b c major bytes minor last =
-        let last_of = pick k.every (cmp_nat i j) Equal in
-        chained c last_of last
-        ∙ ap (λ (p : Ordering). and_then p last_of) (chained b (by_cell k.minor) minor)
-        ∙ ap (λ (p : Ordering). and_then (and_then p (by_cell k.minor)) last_of) (chained a by_bytes bytes)
-        ∙ ap (λ (p : Ordering). and_then (and_then (and_then p by_bytes) (by_cell k.minor)) last_of) major
-        ∙ then_assoc (and_then (by_cell k.major) by_bytes) (by_cell k.minor) last_of
-        ∙ then_assoc (by_cell k.major) by_bytes (and_then (by_cell k.minor) last_of)
+      by_number : Ordering
+      by_number = pick k.every (cmp_nat i j) Equal
+
+      last : (q : Bool) → cmp_nat (pick q i 0) (pick q j 0) ≡ pick q (cmp_nat i j) Equal
+      last true = refl
+      last false = nat-same 0 0 refl
 
   pub lawful-rows : Lawful (row_order first second rows k)
   unfolding row_order

@@ -150,7 +150,7 @@ module _ {A : Type 0} (cmp : A → A → Ordering) (laws : Lawful cmp) where
       go Equal ih = (h, b.1)
       go Greater ih = (b.0, ih)
 
-  put-ascends : (x : A) (l : List A) → Ascending cmp l → Ascending cmp (put_in_order cmp x l)
+  pub put-ascends : (x : A) (l : List A) → Ascending cmp l → Ascending cmp (put_in_order cmp x l)
   put-ascends x [] a = (tt, tt)
   put-ascends x (y ∷ l) a = go (cmp x y) refl (put-ascends x l a.1)
     where

@@ -1,8 +1,23 @@
 -- For the code: how a sorted list is made in its table, row by row: what the functions inside the crate promise. Assumes nothing.
-use Rattle.std.specs.Prelude.{◌≡◌, List, ◌∷◌, ◌++◌, ℕ, suc, ◌≤◌, ◌<◌, length, take, drop, Option, Some, None, Result, Ok, Err}
+use Rattle.std.specs.Prelude.{◌≡◌, Bool, List, ◌∷◌, ◌++◌, ℕ, suc, ◌≤◌, ◌<◌, length, take, drop, Option, Some, None, Result, Ok, Err}
 use Rattle.std.proofs.Math.Seq.{slice}
 use Rattle.std.specs.declared.cmp.Ordering.{Ordering}
 use Rattle.sorting.specs.Sort.{put_in_order, Ascending}
+use Rattle.sorting.specs.Keys.{column_at, name_of, row_order, row_marked}
+use Rattle.sorting.specs.declared.Rows.{Rows}
+
+-- rows as the code has them: their order, a cell of one, its name, and whether it is marked
+abbrev pub order_of : Rows → ℕ → ℕ → Ordering
+order_of r = row_order r.first.now r.second.now r.cells.now r.keys
+
+abbrev pub column_of : Rows → ℕ → ℕ → ℕ
+column_of r = column_at r.first.now r.second.now r.cells.now r.keys
+
+abbrev pub name_in : Rows → ℕ → List ℕ
+name_in r = name_of r.first.now r.second.now r.cells.now r.keys
+
+abbrev pub marked_in : Rows → ℕ → Bool
+marked_in r = row_marked r.first.now r.second.now r.cells.now r.keys
 
 -- the first k of the table are in order
 pub record Ordered (cmp : ℕ → ℕ → Ordering) (table : List ℕ) (k : ℕ) : Type 0 where

@@ -64,14 +64,6 @@ module _ (first second rows : List ℕ) (k : Keys) where
   unfoldable pub other_rows : ℕ → List ℕ
   other_rows n = sort row_order (selected unmarked (up_from 0 n))
 
-  -- for the code: the ones or the others
-  unfoldable pub wanted : Bool → ℕ → Bool
-  wanted true i = row_marked i
-  wanted false i = unmarked i
-
-  unfoldable pub wanted_rows : Bool → ℕ → List ℕ
-  wanted_rows like n = sort row_order (selected (wanted like) (up_from 0 n))
-
 -- the answer in the paper's words, for a table with the number tn
 abbrev pub said_sorted : ℕ → Option ℕ → Said ℕ
 said_sorted tn (Some n) = accepted n

@@ -1,14 +1,12 @@
 // An index table: the numbers of a table's rows, in the order of what the rows hold. docs/RULES.md, "Tables".
 #![tactic(auto)]
 
-ghost use Rattle.std.specs.Prelude.{◌≡◌, ℕ, ◌≤◌, ◌<◌, List, length, take};
-ghost use Rattle.text.specs.Order.{cmp_nat};
-ghost use Rattle.table.specs.Table.{cell_of};
-ghost use Rattle.sorting.specs.Sort.{put_in_order};
-ghost use Rattle.sorting.specs.Keys.{by_name, name_of, row_order, wanted, wanted_rows, sorted_rows, other_rows, Sorts};
+ghost use Rattle.std.specs.Prelude.{◌≡◌, Bool, ℕ, ◌≤◌, ◌<◌, length, take};
+ghost use Rattle.refusal.specs.Pick.{pick};
+ghost use Rattle.sorting.specs.Sort.{put_in_order, sort, selected, up_from};
+ghost use Rattle.sorting.specs.Keys.{by_name, sorted_rows, other_rows, Sorts};
+ghost use Rattle.sorting.specs.Filling.{order_of, column_of, name_in, marked_in};
 ghost use Rattle.sorting.specs.Filling.{Placed, Ordered, inserted, Inserted};
-
-use std::cmp::Ordering;
 
 // Which rows are sorted, and by which of their cells. A cell that a row does not have is zero, so a column from `width` on leaves the
 // matter out.
@@ -30,6 +28,15 @@ pub struct Keys {
     pub every: bool,
 }
 
+// A table's rows, the two files that their names are parts of, and how they are sorted.
+#[derive(Clone, Copy)]
+pub struct Rows<'a> {
+    pub first: &'a [u8],
+    pub second: &'a [u8],
+    pub cells: &'a [usize],
+    pub keys: Keys,
+}
+
 // The keys of a list of names without repeats: the range at cells `from` and `len`, of the marked rows.
 pub fn by_name(width: usize, from: usize, len: usize, mark: usize, value: usize) -> Keys
     ensures { result ≡ by_name width from len mark value }
@@ -47,100 +54,125 @@ pub fn by_name(width: usize, from: usize, len: usize, mark: usize, value: usize)
     }
 }
 
-// The numbers below `n` of the marked rows, sorted; then zeros. Says how many there are; none, and zero throughout, where there is no room
-// for them all.
-pub fn sort<'a, 'b, 'c>(
-    first: &'a [u8],
-    second: &'a [u8],
-    rows: &'b [usize],
-    keys: Keys,
-    n: usize,
-    sorted: &'c mut [usize],
-) -> Option<usize>
-    ensures { Sorts (sorted_rows first.now second.now rows.now keys n)
-        sorted.old sorted.new result }
-{
-    sort_wanted(first, second, rows, keys, true, n, sorted)
-}
+impl<'a> Rows<'a> {
+    // The numbers below `n` of the marked rows, sorted; then zeros. Says how many there are; none, and zero throughout, where there is
+    // no room for them all.
+    pub fn sort(self, n: usize, sorted: &mut [usize]) -> Option<usize>
+        ensures { Sorts (sorted_rows self.entry.first.now self.entry.second.now self.entry.cells.now self.entry.keys n)
+            sorted.old sorted.new result }
+    {
+        self.sort_wanted(n, sorted, |i| self.is_marked(i))
+    }
 
-// The same of the rows that are not marked.
-pub fn sort_others<'a, 'b, 'c>(
-    first: &'a [u8],
-    second: &'a [u8],
-    rows: &'b [usize],
-    keys: Keys,
-    n: usize,
-    sorted: &'c mut [usize],
-) -> Option<usize>
-    ensures { Sorts (other_rows first.now second.now rows.now keys n)
-        sorted.old sorted.new result }
-{
-    sort_wanted(first, second, rows, keys, false, n, sorted)
-}
+    // The same of the rows that are not marked.
+    pub fn sort_others(self, n: usize, sorted: &mut [usize]) -> Option<usize>
+        ensures { Sorts (other_rows self.entry.first.now self.entry.second.now self.entry.cells.now self.entry.keys n)
+            sorted.old sorted.new result }
+    {
+        self.sort_wanted(n, sorted, |i| !self.is_marked(i))
+    }
 
-// Row i is marked, or is not, as `like` says.
-fn is_wanted(rows: &[usize], keys: Keys, like: bool, i: usize) -> bool
-    ensures { (first second : List ℕ) → result ≡ wanted first second rows.now keys like i }
-{
-    let marked = table::cell(rows, keys.width, i, keys.mark) == keys.value;
-    marked == like
-}
+    fn sort_wanted<F: Fn(usize) -> bool>(
+        self,
+        n: usize,
+        sorted: &mut [usize],
+        is_wanted: F,
+    ) -> Option<usize>
+        requires { F.IsAlwaysCallable is_wanted }
+        ensures { (wanted : ℕ → Bool) → ((i : ℕ) (r : Bool) → i < n → F.post is_wanted i r → r ≡ wanted i)
+            → Sorts (sort (order_of self.entry) (selected wanted (up_from 0 n)))
+            sorted.old sorted.new result }
+    {
+        table::clear(sorted);
+        let mut k = 0;
+        // from the last row to the first, so that of rows that tie the lowest stays
+        for i in (0..n).rev() {
+            if is_wanted(i) {
+                let Some(more) = self.insert(sorted, k, i) else {
+                    // the list only grows: once it has no room it has none in the end
+                    table::clear(sorted);
+                    return None;
+                };
+                k = more;
+            }
+        }
+        Some(k)
+    }
 
-fn sort_wanted<'a, 'b, 'c>(
-    first: &'a [u8],
-    second: &'a [u8],
-    rows: &'b [usize],
-    keys: Keys,
-    like: bool,
-    n: usize,
-    sorted: &'c mut [usize],
-) -> Option<usize>
-    ensures { Sorts (wanted_rows first.now second.now rows.now keys like n)
-        sorted.old sorted.new result }
-{
-    table::clear(sorted);
-    let mut k = 0;
-    // from the last row to the first, so that of rows that tie the lowest stays
-    for i in (0..n).rev() {
-        if is_wanted(rows, keys, like, i) {
-            let Some(more) = insert(first, second, rows, keys, sorted, k, i) else {
-                // the list only grows: once it has no room it has none in the end
-                table::clear(sorted);
-                return None;
-            };
-            k = more;
+    // Row x put into the first k of the list: how many there are then, or that there is no room.
+    fn insert(self, sorted: &mut [usize], k: usize, x: usize) -> Option<usize>
+        requires { Ordered (order_of self) sorted.old k }
+        ensures { Inserted
+            (put_in_order (order_of self.entry) x (take k sorted.old))
+            sorted.old sorted.new result }
+    {
+        match self.find_place(sorted, k, x) {
+            Ok(p) => {
+                sorted[p] = x;
+                Some(k)
+            }
+            Err(p) => {
+                if sorted.len() <= k {
+                    return None;
+                }
+                insert_at(sorted, p, k, x);
+                Some(k + 1)
+            }
         }
     }
-    Some(k)
-}
 
-// Row x put into the first k of the list: how many there are then, or that there is no room.
-fn insert<'a, 'b, 'c>(
-    first: &'a [u8],
-    second: &'a [u8],
-    rows: &'b [usize],
-    keys: Keys,
-    sorted: &'c mut [usize],
-    k: usize,
-    x: usize,
-) -> Option<usize>
-    requires { Ordered (row_order first.now second.now rows.now keys) sorted.old k }
-    ensures { Inserted
-        (put_in_order (row_order first.now second.now rows.now keys) x (take k sorted.old))
-        sorted.old sorted.new result }
-{
-    match find_place(first, second, rows, keys, sorted, k, x) {
-        Ok(p) => {
-            sorted[p] = x;
-            Some(k)
-        }
-        Err(p) => {
-            if sorted.len() <= k {
-                return None;
-            }
-            insert_at(sorted, p, k, x);
-            Some(k + 1)
-        }
+    // Where row x goes among the first k of the list: over the row that it ties with, or in before a row.
+    fn find_place(self, sorted: &[usize], k: usize, x: usize) -> Result<usize, usize>
+        requires { Ordered (order_of self) sorted.now k }
+        ensures { Placed (order_of self.entry)
+            x (take k sorted.now) result }
+    {
+        let key = self.key(x);
+        sorted[..k].binary_search_by(|y| self.key(*y).cmp(&key))
+    }
+
+    // What row i is sorted by, in this order.
+    fn key(self, i: usize) -> (usize, &'a [u8], usize, usize)
+        ensures { (result.0 ≡ column_of self.entry self.entry.keys.major i)
+            × (result.1.now ≡ name_in self.entry i)
+            × (result.2 ≡ column_of self.entry self.entry.keys.minor i)
+            × (result.3 ≡ pick self.entry.keys.every i 0) }
+    {
+        let number = if self.keys.every { i } else { 0 };
+        (
+            self.cell(i, self.keys.major),
+            self.name(i),
+            self.cell(i, self.keys.minor),
+            number,
+        )
+    }
+
+    // The bytes of row i, a part of the file that it names.
+    fn name(self, i: usize) -> &'a [u8]
+        ensures { result.now ≡ name_in self.entry i }
+    {
+        let file = if self.cell(i, self.keys.file) == 0 {
+            self.first
+        } else {
+            self.second
+        };
+        table::range(
+            file,
+            self.cell(i, self.keys.from),
+            self.cell(i, self.keys.len),
+        )
+    }
+
+    fn is_marked(self, i: usize) -> bool
+        ensures { result ≡ marked_in self.entry i }
+    {
+        self.cell(i, self.keys.mark) == self.keys.value
+    }
+
+    fn cell(self, i: usize, column: usize) -> usize
+        ensures { result ≡ column_of self.entry column i }
+    {
+        table::cell(self.cells, self.keys.width, i, column)
     }
 }
 
@@ -149,76 +181,9 @@ fn insert_at(sorted: &mut [usize], p: usize, k: usize, v: usize)
     requires { (p ≤ k) × (k < length sorted.old) }
     ensures { sorted.new ≡ inserted sorted.old p k v }
 {
-    sorted.copy_within(p..k, p + 1);
+    // not `copy_within`: an archive for C would call `memmove` for it
+    for j in (p..k).rev() {
+        sorted[j + 1] = sorted[j];
+    }
     sorted[p] = v;
-}
-
-// Where row x goes among the first k of the list: over the row that it ties with, or in before a row.
-fn find_place<'a, 'b, 'c>(
-    first: &'a [u8],
-    second: &'a [u8],
-    rows: &'b [usize],
-    keys: Keys,
-    sorted: &'c [usize],
-    k: usize,
-    x: usize,
-) -> Result<usize, usize>
-    requires { Ordered (row_order first.now second.now rows.now keys) sorted.now k }
-    ensures { Placed (row_order first.now second.now rows.now keys)
-        x (take k sorted.now) result }
-{
-    sorted[..k].binary_search_by(|y| compare_rows(first, second, rows, keys, *y, x))
-}
-
-// The order of rows i and j.
-fn compare_rows<'a, 'b>(
-    first: &'a [u8],
-    second: &'a [u8],
-    rows: &'b [usize],
-    keys: Keys,
-    i: usize,
-    j: usize,
-) -> Ordering
-    ensures { result ≡ row_order first.now second.now rows.now keys i j }
-{
-    compare_cells(rows, keys.width, keys.major, i, j)
-        .then_with(|| {
-            text::order::compare(
-                name_of(first, second, rows, keys, i),
-                name_of(first, second, rows, keys, j),
-            )
-        })
-        .then_with(|| compare_cells(rows, keys.width, keys.minor, i, j))
-        .then_with(|| if keys.every {
-            i.cmp(&j)
-        } else {
-            Ordering::Equal
-        })
-}
-
-// The bytes of row i, a part of the file that it names.
-fn name_of<'a, 'b>(
-    first: &'a [u8],
-    second: &'a [u8],
-    rows: &'b [usize],
-    keys: Keys,
-    i: usize,
-) -> &'a [u8]
-    ensures { result.now ≡ name_of first.now second.now rows.now keys i }
-{
-    let from = table::cell(rows, keys.width, i, keys.from);
-    let len = table::cell(rows, keys.width, i, keys.len);
-    let file = if table::cell(rows, keys.width, i, keys.file) == 0 {
-        first
-    } else {
-        second
-    };
-    table::range(file, from, len)
-}
-
-// The order of rows i and j by one cell.
-fn compare_cells(rows: &[usize], width: usize, column: usize, i: usize, j: usize) -> Ordering
-    ensures { result ≡ cmp_nat (cell_of rows.now width i column) (cell_of rows.now width j column) }
-{
-    table::cell(rows, width, i, column).cmp(&table::cell(rows, width, j, column))
 }

@@ -5,15 +5,13 @@ use Prim.Native.Nat.{ℕ}
 use mathlib.Core.Path.{◌≡◌, refl, sym, ◌∙◌, ap}
 use mathlib.Core.List.{List}
 use lib.ListN.{length, replicate, length-replicate}
-use Rattle.refusal.specs.Said.{Said, accepted, refused, refused_by, number_of, follow, said_by, Place}
+use Rattle.refusal.specs.Said.{Said, accepted, refused, refused_by, follow, said_by, Place}
 use Rattle.refusal.specs.declared.Refusal.{Refusal}
-use Rattle.refusal.specs.declared.Refusal.TheVariants.{UnexpectedEof, BadMagic, BadUtf8, MalformedSection, Directive, BadDefault}
-use Rattle.refusal.specs.declared.Refusal.TheVariants.{BadDomain, PackageInWorld, NoName, Unmatched, Outside, Full, TooLong, BadTable}
-use Rattle.refusal.specs.declared.Refusal.TheVariants.{NoRoom, TooManyBytes, TenthByte, AboveU32, NotStrict}
 use Rattle.refusal.specs.contracts.Refusal.{the_row, the_type as refusals}
 use Rattle.std.specs.contracts.result.Result.{the_type as results}
 use denote.Builtin.{unit}
 use denote.Enum.Declared.{tag_of}
+use Rattle.refusal.proofs.Known.{full-tagged}
 use Rattle.refusal.proofs.Following.{never, followed, first-refused}
 use native.Mathlib.Omega.{arith}
 use Rattle.table.proofs.Larger as larger
@@ -70,28 +68,6 @@ module _ (b : List ℕ) (z : Sizes) (l : Lent) where
   tested-bad w (Err e) h q =
       let f = first-refused (strict_at b z) (module_of (length b)) (sym h.answer-is) in
       rw (q, f)
-
--- 13 is what `Full` says
-full-tagged : (w : Refusal) → number_of w ≡ 13 → tag_of refusals w ≡ 11
-full-tagged (Full p) e = refl
-full-tagged (UnexpectedEof p) e = absurd (omega (arith, e))
-full-tagged (BadMagic p) e = absurd (omega (arith, e))
-full-tagged (BadUtf8 p) e = absurd (omega (arith, e))
-full-tagged (MalformedSection p o) e = absurd (omega (arith, e))
-full-tagged (Directive p) e = absurd (omega (arith, e))
-full-tagged (BadDefault p) e = absurd (omega (arith, e))
-full-tagged (BadDomain p) e = absurd (omega (arith, e))
-full-tagged (PackageInWorld p) e = absurd (omega (arith, e))
-full-tagged (NoName p) e = absurd (omega (arith, e))
-full-tagged (Unmatched p) e = absurd (omega (arith, e))
-full-tagged (Outside p) e = absurd (omega (arith, e))
-full-tagged TooLong e = absurd (omega (arith, e))
-full-tagged (BadTable p) e = absurd (omega (arith, e))
-full-tagged (NoRoom p) e = absurd (omega (arith, e))
-full-tagged (TooManyBytes p) e = absurd (omega (arith, e))
-full-tagged (TenthByte p) e = absurd (omega (arith, e))
-full-tagged (AboveU32 p) e = absurd (omega (arith, e))
-full-tagged (NotStrict p) e = absurd (omega (arith, e))
 
 -- tables for few rows: what is not refused for want of room is the answer
 module _ (b : List ℕ) where

@@ -8,7 +8,8 @@ mod rules;
 ghost use Rattle.std.specs.Prelude.{◌≡◌, ◌≤◌, length};
 ghost use Rattle.refusal.specs.Said.{said_by};
 ghost use Rattle.table.specs.Shape.{limit};
-ghost use Rattle.wasm.specs.Module.{sizes, lend, Holds, no_tables, said_module, ModuleIs};
+ghost use Rattle.wasm.specs.Module.{said_module, ModuleIs};
+ghost use Rattle.wasm.specs.Lending.{lent, sizes_of, SameTables};
 ghost use Rattle.conform.specs.Sound.{limits};
 ghost use Rattle.strict.specs.Rules.{strict_at, rule_told, Judged, sized, tested_at};
 
@@ -19,63 +20,40 @@ use table::shape::{
     EXPORT_CELLS, FEW_EXPORT_CELLS, FEW_IMPORT_CELLS, FEW_NAME_CELLS, FEW_SECTION_CELLS,
     IMPORT_CELLS, NAME_CELLS, SECTION_CELLS,
 };
-use wasm::Module;
+use wasm::{LentTables, Module};
 
-fn clear(sections: &mut [usize], imports: &mut [usize], exports: &mut [usize], names: &mut [usize])
-    ensures { Holds (lend sections.new imports.new exports.new names.new)
-        (sizes sections.old imports.old exports.old names.old) no_tables }
-{
-    table::clear(sections);
-    table::clear(imports);
-    table::clear(exports);
-    table::clear(names);
-}
-
-// The second walk, and the rules: n rows of table 1 and k of table 3 are what a plain read left. The lowest rule that is broken. The walk
-// is refused nowhere where a plain read is not: what is told then is of no account.
-fn judge<'a, 'b>(
-    file: &'a [u8],
-    version: u32,
-    sections: &'b [usize],
-    n: usize,
-    exports: &'b [usize],
-    k: usize,
-) -> Option<Rule>
-    requires { k ≤ limit 3 }
-    ensures { Judged file.now version sections.now n exports.now k (rule_told result) }
+// The second walk, and the rules, of the rows that a plain read left in tables 1 and 3. The lowest rule that is broken. The walk is
+// refused nowhere where a plain read is not: what is told then is of no account.
+fn judge(file: &[u8], m: Module, tables: &LentTables) -> Option<Rule>
+    requires { m.exports ≤ limit 3 }
+    ensures { Judged file.now m.version tables.now.sections.now m.sections
+        tables.now.exports.now m.exports (rule_told result) }
 {
     let Ok((marks, _)) = mark_sections(file) else {
         return None;
     };
-    lowest(file, version, sections, n, exports, k, marks)
+    lowest(
+        file,
+        m.version,
+        tables.sections,
+        m.sections,
+        tables.exports,
+        m.exports,
+        marks,
+    )
 }
 
 // As `wasm::read_module`; what it accepts and a rule refuses is 20, and every table is zero again.
-pub fn read_strict(
-    file: &[u8],
-    sections: &mut [usize],
-    imports: &mut [usize],
-    exports: &mut [usize],
-    names: &mut [usize],
-) -> Result<Module, Refusal>
-    ensures { ModuleIs (length file.now)
-        (sizes sections.old imports.old exports.old names.old)
-        (strict_at file.now (sizes sections.old imports.old exports.old names.old))
-        (lend sections.new imports.new exports.new names.new) (said_module result) }
+pub fn read_strict(file: &[u8], tables: &mut LentTables) -> Result<Module, Refusal>
+    ensures same_tables { SameTables tables.old tables.new }
+    ensures read { ModuleIs (length file.now) (sizes_of tables.old)
+        (strict_at file.now (sizes_of tables.old)) (lent tables.new) (said_module result) }
 {
-    let module = wasm::read_module(file, sections, imports, exports, names)?;
-    let broken = judge(
-        file,
-        module.version,
-        sections,
-        module.sections,
-        exports,
-        module.exports,
-    );
-    let Some(rule) = broken else {
+    let module = wasm::read_module(file, tables)?;
+    let Some(rule) = judge(file, module, tables) else {
         return Ok(module);
     };
-    clear(sections, imports, exports, names);
+    tables.clear();
     Err(Refusal::NotStrict(rule.number()))
 }
 
@@ -99,10 +77,12 @@ fn test_in<const S: usize, const I: usize, const E: usize, const N: usize>(
     requires fits { (S ≤ 65536) × (I ≤ 65536) × (E ≤ 65536) × (N ≤ 65536) }
     ensures { said_by result ≡ tested_at file.now (sized S I E N) }
 {
-    let mut sections = [0usize; S];
-    let mut imports = [0usize; I];
-    let mut exports = [0usize; E];
-    let mut names = [0usize; N];
-    read_strict(file, &mut sections, &mut imports, &mut exports, &mut names)?;
+    let mut tables = LentTables {
+        sections: &mut [0; S],
+        imports: &mut [0; I],
+        exports: &mut [0; E],
+        names: &mut [0; N],
+    };
+    read_strict(file, &mut tables)?;
     Ok(())
 }

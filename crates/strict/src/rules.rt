@@ -18,33 +18,24 @@ const CUSTOM: usize = 0;
 
 const LAST_KIND: usize = 3;
 
-// The rules that a file can break, by their numbers.
+// The rules that a file can break, with their numbers.
 #[derive(Clone, Copy)]
 pub(crate) enum Rule {
-    Version,
-    ShortNumbers,
-    KnownSections,
-    SectionOrder,
-    UsedSections,
-    DifferentNames,
-    KnownExports,
-    PlainFlags,
+    Version = 1,
+    ShortNumbers = 2,
+    KnownSections = 3,
+    SectionOrder = 4,
+    UsedSections = 5,
+    DifferentNames = 6,
+    KnownExports = 7,
+    PlainFlags = 8,
 }
 
 impl Rule {
     pub(crate) fn number(self) -> usize
         ensures { result ≡ number_of_rule self }
     {
-        match self {
-            Rule::Version => 1,
-            Rule::ShortNumbers => 2,
-            Rule::KnownSections => 3,
-            Rule::SectionOrder => 4,
-            Rule::UsedSections => 5,
-            Rule::DifferentNames => 6,
-            Rule::KnownExports => 7,
-            Rule::PlainFlags => 8,
-        }
+        self as usize
     }
 }
 
@@ -91,8 +82,13 @@ fn sorted_differ(file: &[u8], exports: &[usize], n: usize) -> bool
     ensures { result ≡ different (names_of file.now exports.now n) }
 {
     let mut sorted = [0usize; MAX_EXPORTS];
-    let by_name = sorting::by_name(EXPORT_WIDTH, 0, 1, EXPORT_WIDTH, 0);
-    let left = sorting::sort(file, file, exports, by_name, n, &mut sorted);
+    let names = sorting::Rows {
+        first: file,
+        second: file,
+        cells: exports,
+        keys: sorting::by_name(EXPORT_WIDTH, 0, 1, EXPORT_WIDTH, 0),
+    };
+    let left = names.sort(n, &mut sorted);
     left == Some(n)
 }
 
@@ -111,8 +107,8 @@ fn looked_differ(file: &[u8], exports: &[usize], n: usize) -> bool
     sorted_differ(file, exports, n)
 }
 
-// The same by a first look at few names, and by more where that does not tell. A function that calls itself and has more than 1,024 bytes
-// of its own is not merged with others: so the pages of more marks and of the sort are not touched where they are not used.
+// The same by a first look at few names, and by more where that does not tell. It calls itself for more, so that the pages of more marks
+// and of the sort are not touched where they are not used (docs/DECISIONS.md).
 fn names_differ(file: &[u8], more: bool, exports: &[usize], n: usize) -> bool
     requires { n ≤ limit 3 }
     ensures { result ≡ different (names_of file.now exports.now n) }

@@ -12,12 +12,39 @@ pub const SECTION_CELLS: usize = MAX_SECTIONS * SECTION_WIDTH;
 // mutability; and which of these six are given.
 pub const IMPORT_WIDTH: usize = 12;
 
+// Its columns: where the ranges of the two names begin, the kind, the first of the six, the flag, and the mark of which are given.
+pub const IMPORT_MODULE: usize = 0;
+
+pub const IMPORT_FIELD: usize = 2;
+
+pub const IMPORT_KIND: usize = 4;
+
+pub const IMPORT_TYPE: usize = 5;
+
+pub const IMPORT_FLAG: usize = 7;
+
+pub const IMPORT_GIVEN: usize = 11;
+
+// The kinds of what is imported or exported.
+pub const FUNC: usize = 0;
+
+pub const TABLE: usize = 1;
+
+pub const MEMORY: usize = 2;
+
+pub const GLOBAL: usize = 3;
+
 pub const MAX_IMPORTS: usize = 1024;
 
 pub const IMPORT_CELLS: usize = MAX_IMPORTS * IMPORT_WIDTH;
 
 // 3, exports: name: from, length; kind; index.
 pub const EXPORT_WIDTH: usize = 4;
+
+// Its columns: where the name's range begins, and the kind.
+pub const EXPORT_NAME: usize = 0;
+
+pub const EXPORT_KIND: usize = 2;
 
 pub const MAX_EXPORTS: usize = 1024;
 
@@ -33,12 +60,21 @@ pub const NAME_CELLS: usize = MAX_NAMES * NAME_WIDTH;
 // 5, worlds: name: from, length.
 pub const WORLD_WIDTH: usize = 2;
 
+pub const WORLD_NAME: usize = 0;
+
 pub const MAX_WORLDS: usize = 64;
 
 pub const WORLD_CELLS: usize = MAX_WORLDS * WORLD_WIDTH;
 
 // 6, references: world's row; direction; path: from, length; whether there is a signature; it: from, length.
 pub const REFERENCE_WIDTH: usize = 7;
+
+// Its columns: the world's row, and where the ranges of the path and of the signature begin.
+pub const REFERENCE_WORLD: usize = 0;
+
+pub const REFERENCE_PATH: usize = 2;
+
+pub const REFERENCE_SIGNATURE: usize = 5;
 
 pub const MAX_REFERENCES: usize = 1024;
 
@@ -52,12 +88,25 @@ pub const MAX_REQUIREMENTS: usize = 1024;
 // 8, export differences: removed or added; row of table 3.
 pub const EXPORT_DIFF_WIDTH: usize = 2;
 
+// Its columns; and a change that is removed, in table 9 too.
+pub const EXPORT_DIFF_CHANGE: usize = 0;
+
+pub const EXPORT_DIFF_ROW: usize = 1;
+
+pub const REMOVED: usize = 0;
+
 pub const MAX_EXPORT_DIFFS: usize = 2048;
 
 pub const EXPORT_DIFF_CELLS: usize = MAX_EXPORT_DIFFS * EXPORT_DIFF_WIDTH;
 
 // 9, capability differences: removed or added; domain; row of table 2.
 pub const NEED_DIFF_WIDTH: usize = 3;
+
+pub const NEED_DIFF_CHANGE: usize = 0;
+
+pub const NEED_DIFF_DOMAIN: usize = 1;
+
+pub const NEED_DIFF_ROW: usize = 2;
 
 pub const MAX_NEED_DIFFS: usize = 2048;
 

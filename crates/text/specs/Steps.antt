@@ -3,7 +3,7 @@ use Rattle.std.specs.Prelude.{◌≡◌, List, ℕ, zero, suc, ◌+◌, ◌≤�
 use Rattle.text.specs.Scan.{scan}
 use Rattle.text.specs.Utf8.{seq_len}
 
--- the step at `at`: past the sequence there, or Bad
+-- the step at `at`: past the sequence there, or none
 unfoldable pub sequence_of : ℕ → ℕ → Option ℕ
 sequence_of at zero = None
 sequence_of at (suc k) = Some (at + suc k)

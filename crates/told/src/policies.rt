@@ -29,6 +29,7 @@ pub struct WrittenTold {
     pub bytes: usize,
 }
 
+// By name and no `From`: of one answer the number, the place and the offset are told apart, each by a call of its own.
 pub fn number_of(a: Result<(), Refusal>) -> u32
     ensures { result ≡ number_in (said_by a) }
 {

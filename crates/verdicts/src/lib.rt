@@ -10,7 +10,7 @@ ghost use Rattle.domains.specs.Domain.{domain_number};
 ghost use Rattle.verdicts.specs.Evaluate.{effective_of, verdict_for, violates, compliant, seven_of, bits, members, firsts};
 ghost use Rattle.verdicts.specs.Evaluate.{outcome_in, outcome_by, tallied, evaluated, said_evaluation};
 
-use domains::{Domain, domain_number};
+use domains::{Domain, LAST_DOMAIN, domain_number};
 use policy::{Policy, Slot, Stance};
 use refusal::Refusal;
 use table::shape::{MAX_REQUIREMENTS, REQUIREMENT_WIDTH};
@@ -46,6 +46,7 @@ pub fn effective(p: Policy, d: Domain) -> Rule
     rule_at(p, domain_number(d))
 }
 
+#[tactic(auto, unfolding(crate::specs::Evaluate::effective_of))]
 fn rule_at(p: Policy, d: usize) -> Rule
     requires { d < 7 }
     ensures { result ≡ effective_of p d }
@@ -109,7 +110,7 @@ fn tally<R: Asking>(rows: &[R]) -> Result<[usize; 7], Refusal>
     let mut many = [0; 7];
     for (i, row) in rows.iter().enumerate() {
         let d = row.domain();
-        if 6 < d {
+        if LAST_DOMAIN < d {
             return Err(Refusal::BadTable(i));
         }
         many[d] += 1;

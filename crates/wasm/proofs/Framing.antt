@@ -28,8 +28,8 @@ use Rattle.wasm.specs.declared.custom.Custom.{Custom}
 use Rattle.wasm.specs.declared.custom.Named.{Named}
 use Rattle.wasm.specs.Rows.{import_cells, export_cells, symbol_cells, imports_of, exports_of}
 use Rattle.wasm.specs.Custom.{Names, named_of, custom_of, custom_at, NamesHeld, CustomHeld}
-use Rattle.wasm.specs.Module.{section_cells, Tables, with_section, counts_of, Sizes, Lent, lend, Holds, Inner, contents_of, SectionsLie}
-use Rattle.wasm.specs.Module.{Inside, InsideOf, nameless, contents_at, add_section, section_at}
+use Rattle.wasm.specs.Module.{section_cells, Tables, counts_of, Sizes, Lent, lend, Holds, Inner, contents_of, Inside}
+use Rattle.wasm.specs.Module.{nameless, contents_at, add_section, section_at}
 
 -- ---- contents
 abbrev import_count : Counts → ℕ → Counts
@@ -41,77 +41,76 @@ export_count n k = record { sections = n.sections; imports = n.imports; exports 
 abbrev name_count : Counts → Named → Counts
 name_count n u = record { sections = n.sections; imports = n.imports; exports = n.exports; named = u }
 
-module _ (id : ℕ) (s : List ℕ) (base : ℕ) (z : Sizes) (t : Tables) where
-  module _ (is : id ≡ 0) (m : ℕ) (same : z.names ≡ m) (table : List ℕ) {a : Said (Got Custom)}
-      (told : ReaderTells custom_of (CustomHeld table m) (custom_at s base m t.names) a) where
-    zero-here : ReaderTells custom_of (CustomHeld table z.names) (custom_at s base z.names t.names) a
-    zero-here = subst (λ (y : ℕ). ReaderTells custom_of (CustomHeld table y) (custom_at s base y t.names) a) (sym same) told
-
+module _ (id : ℕ) (s : List ℕ) (base : ℕ) {l : Lent} {z : Sizes} (t : Tables) (h : Holds l z t) where
+  module _ (is : id ≡ 0) (table : List ℕ) {a : Said (Got Custom)}
+      (told : ReaderTells custom_of (CustomHeld table z.names) (custom_at s base z.names t.names) a) where
     pub zero-stop : {P : Inner → Type 0} {n : ℕ} {p : Place} → a ≡ refused n p
         → ReaderTells contents_of P (contents_at id s base z t) (refused n p)
     unfolding contents_at
-    zero-stop e = rw is (tell-after-stop _ zero-here e)
+    zero-stop e = rw is (tell-after-stop _ told e)
 
-    pub zero-got : (i e : List ℕ) (n : Counts) {m : Counts} {u : Custom} {d : ℕ} → m ≡ name_count n u.inner → n ≡ counts_of t → i ≡ laid
-        z.imports
-        (cells import_cells t.imports)
-        → e ≡ laid z.exports (cells export_cells t.exports) → a ≡ accepted (got u d)
-        → ReaderTells contents_of (InsideOf i e table z) (contents_at id s base z t)
+    pub zero-got : (n : Counts) {m : Counts} {u : Custom} {d : ℕ} → m ≡ name_count n u.inner → n ≡ counts_of t → a ≡ accepted (got u d)
+        → ReaderTells contents_of (Inside (lend l.sections l.imports l.exports table) z) (contents_at id s base z t)
         (accepted (got (record { name = u.name; counts = m }) d))
-    unfolding contents_at contents_of counts_of custom_of InsideOf CustomHeld
-    zero-got i e n {d = d} g c hi he q =
+    unfolding contents_at contents_of counts_of custom_of Inside CustomHeld
+    zero-got n {d = d} g c q =
         rw is
-        (tell-after _ zero-here q (λ w x v h.
-        tell-got _ d refl (rw (g, c, v)) (record { imports-are = hi; exports-are = he; names-are = h })))
+        (tell-after _ told q (λ w x v k.
+        tell-got _ d refl (rw (g, c, v)) (record {
+          sections-are = h.sections-are;
+          imports-are = h.imports-are;
+          exports-are = h.exports-are;
+          names-are = k;
+        })))
 
-  module _ (is : id ≡ 2) (m : ℕ) (same : z.imports ≡ m) (table : List ℕ) {a : Said (Got ℕ)}
-      (told : ReaderTells length (Lies import_cells m table) (imports_of s base m) a) where
-    two_here : ReaderTells length (Lies import_cells z.imports table) (imports_of s base z.imports) a
-    two_here = subst (λ (y : ℕ). ReaderTells length (Lies import_cells y table) (imports_of s base y) a) (sym same) told
-
+  module _ (is : id ≡ 2) (table : List ℕ) {a : Said (Got ℕ)}
+      (told : ReaderTells length (Lies import_cells z.imports table) (imports_of s base z.imports) a) where
     pub two-stop : {P : Inner → Type 0} {n : ℕ} {p : Place} → a ≡ refused n p
         → ReaderTells contents_of P (contents_at id s base z t) (refused n p)
     unfolding contents_at
-    two-stop e = rw is (tell-after-stop _ two_here e)
+    two-stop e = rw is (tell-after-stop _ told e)
 
-    pub two-got : (e f : List ℕ) (n : Counts) {m : Counts} {k d : ℕ} → m ≡ import_count n k → n ≡ counts_of t → e ≡ laid z.exports
-        (cells export_cells t.exports)
-        → f ≡ laid z.names (cells symbol_cells t.names.symbols) → a ≡ accepted (got k d)
-        → ReaderTells contents_of (InsideOf table e f z) (contents_at id s base z t)
+    pub two-got : (n : Counts) {m : Counts} {k d : ℕ} → m ≡ import_count n k → n ≡ counts_of t → a ≡ accepted (got k d)
+        → ReaderTells contents_of (Inside (lend l.sections table l.exports l.names) z) (contents_at id s base z t)
         (accepted (got (record { name = part 0 0; counts = m }) d))
-    unfolding contents_at contents_of counts_of InsideOf Lies
-    two-got e f n {d = d} g c he hf q =
+    unfolding contents_at contents_of counts_of Inside Lies
+    two-got n {d = d} g c q =
         rw is
-        (tell-after _ two_here q (λ w x v h.
-        tell-got _ d refl (rw (g, c, v)) (record { imports-are = h; exports-are = he; names-are = hf })))
+        (tell-after _ told q (λ w x v k.
+        tell-got _ d refl (rw (g, c, v)) (record {
+          sections-are = h.sections-are;
+          imports-are = k;
+          exports-are = h.exports-are;
+          names-are = h.names-are;
+        })))
 
-  module _ (is : id ≡ 7) (m : ℕ) (same : z.exports ≡ m) (table : List ℕ) {a : Said (Got ℕ)}
-      (told : ReaderTells length (Lies export_cells m table) (exports_of s base m) a) where
-    seven-here : ReaderTells length (Lies export_cells z.exports table) (exports_of s base z.exports) a
-    seven-here = subst (λ (y : ℕ). ReaderTells length (Lies export_cells y table) (exports_of s base y) a) (sym same) told
-
+  module _ (is : id ≡ 7) (table : List ℕ) {a : Said (Got ℕ)}
+      (told : ReaderTells length (Lies export_cells z.exports table) (exports_of s base z.exports) a) where
     pub seven-stop : {P : Inner → Type 0} {n : ℕ} {p : Place} → a ≡ refused n p
         → ReaderTells contents_of P (contents_at id s base z t) (refused n p)
     unfolding contents_at
-    seven-stop e = rw is (tell-after-stop _ seven-here e)
+    seven-stop e = rw is (tell-after-stop _ told e)
 
-    pub seven-got : (i f : List ℕ) (n : Counts) {m : Counts} {k d : ℕ} → m ≡ export_count n k → n ≡ counts_of t → i ≡ laid z.imports
-        (cells import_cells t.imports)
-        → f ≡ laid z.names (cells symbol_cells t.names.symbols) → a ≡ accepted (got k d)
-        → ReaderTells contents_of (InsideOf i table f z) (contents_at id s base z t)
+    pub seven-got : (n : Counts) {m : Counts} {k d : ℕ} → m ≡ export_count n k → n ≡ counts_of t → a ≡ accepted (got k d)
+        → ReaderTells contents_of (Inside (lend l.sections l.imports table l.names) z) (contents_at id s base z t)
         (accepted (got (record { name = part 0 0; counts = m }) d))
-    unfolding contents_at contents_of counts_of InsideOf Lies
-    seven-got i f n {d = d} g c hi hf q =
+    unfolding contents_at contents_of counts_of Inside Lies
+    seven-got n {d = d} g c q =
         rw is
-        (tell-after _ seven-here q (λ w x v h.
-        tell-got _ d refl (rw (g, c, v)) (record { imports-are = hi; exports-are = h; names-are = hf })))
+        (tell-after _ told q (λ w x v k.
+        tell-got _ d refl (rw (g, c, v)) (record {
+          sections-are = h.sections-are;
+          imports-are = h.imports-are;
+          exports-are = k;
+          names-are = h.names-are;
+        })))
 
-  pub other-got : (i e f : List ℕ) (n : Counts) → eqb id 0 ≡ false → eqb id 2 ≡ false → eqb id 7 ≡ false → n ≡ counts_of t
-      → Inside i e f z t
-      → ReaderTells contents_of (InsideOf i e f z) (contents_at id s base z t) (accepted (got (record { name = part 0 0; counts = n }) 0))
-  unfolding contents_at contents_of InsideOf
-  other-got i e f n a b d c h = rw (a, b, d) (tell-got _ 0 refl (rw c) h)
+  pub other-got : (n : Counts) → eqb id 0 ≡ false → eqb id 2 ≡ false → eqb id 7 ≡ false → n ≡ counts_of t
+      → ReaderTells contents_of (Inside l z) (contents_at id s base z t) (accepted (got (record { name = part 0 0; counts = n }) 0))
+  unfolding contents_at contents_of Inside
+  other-got n a b d c = rw (a, b, d) (tell-got _ 0 refl (rw c) h)
 
+module _ (id : ℕ) (s : List ℕ) (base : ℕ) (z : Sizes) (t : Tables) where
   -- contents leave the sections as they were
   abbrev pub Kept : Said (Got Inner) → Type 0
   Kept x = (u : Inner) (d : ℕ) → x ≡ accepted (got u d) → u.tables.sections ≡ t.sections
@@ -139,65 +138,40 @@ section-wide : (r : Section) → length (section_cells r) ≡ width 1
 unfolding section_cells
 section-wide r = refl
 
-module _ (n : ℕ) (row : Section) (next : ℕ) (t : Tables) (k : ℕ) (m : Counts) (c : m ≡ counts_of t) (e : k ≡ m.sections) where
+module _ (z : Sizes) (row : Section) (next : ℕ) (t : Tables) (k : ℕ) (m : Counts) (c : m ≡ counts_of t)
+    (e : k ≡ m.sections) where
   count : k ≡ length t.sections
   unfolding counts_of
   count = e ∙ ap (λ (x : Counts). x.sections) c
 
-  pub take-full : {P : Tables → Type 0} → capacity_in 1 n ≤ k → ReaderTells counts_of P (add_section n row next t) (refused 13 (spot 1))
+  pub take-full : {P : Tables → Type 0} → capacity_in 1 z.sections ≤ k
+      → ReaderTells counts_of P (add_section z.sections row next t) (refused 13 (spot 1))
   unfolding add_section
-  take-full h = let f : capacity_in 1 n ≤ length t.sections = omega (arith, count) in tell-stop (rw (le-ltb _ _ f))
+  take-full h = let f : capacity_in 1 z.sections ≤ length t.sections = omega (arith, count) in tell-stop (rw (le-ltb _ _ f))
 
-  pub take_more : (table after : List ℕ) → k < capacity_in 1 n → table ≡ laid n (cells section_cells t.sections)
-      → after ≡ put_row table k (section_cells row)
-      → ReaderTells counts_of (SectionsLie n after) (add_section n row next t)
+  pub take_more : {l : Lent} → Holds l z t → {after : List ℕ} → k < capacity_in 1 z.sections
+      → after ≡ put_row l.sections k (section_cells row)
+      → ReaderTells counts_of (Holds (lend after l.imports l.exports l.names) z) (add_section z.sections row next t)
       (accepted (got (record { sections = k + 1; imports = m.imports; exports = m.exports; named = m.named }) next))
-  unfolding add_section counts_of SectionsLie
-  take_more table after h q p =
-      let f : length t.sections < capacity_in 1 n = omega (arith, count) in
+  unfolding add_section counts_of
+  take_more q h p =
+      let f : length t.sections < capacity_in 1 z.sections = omega (arith, count) in
       let s : k + 1 ≡ length (t.sections ++ (row ∷ [])) = omega (arith, count, length-append t.sections (row ∷ [])) in
-      rw (lt-ltb _ _ f) (tell-got _ next refl (rw (s, c)) (
-      p ∙ ap (λ (l : List ℕ). put_row l k (section_cells row)) q
-      ∙ ap (λ (i : ℕ). put_row (laid n (cells section_cells t.sections)) i (section_cells row)) count
-      ∙ put-row-laid section_cells (width 1) section-wide n t.sections row (room_row n (width 1) (limit 1) (length t.sections) f)))
-
--- the row leaves the other tables as they were
-add-keeps : (n : ℕ) (row : Section) (next : ℕ) (t u : Tables) (d : ℕ) → add_section n row next t ≡ accepted (got u d)
-    → (u.imports ≡ t.imports) × (u.exports ≡ t.exports) × (u.names ≡ t.names)
-unfolding add_section
-add-keeps n row next t u d e = by (ltb (length t.sections) (capacity_in 1 n)) e where
-  t1 : Tables
-  t1 = with_section t row
-
-  by : (b : Bool) → pick b (accepted (got t1 next)) (refused 13 (spot 1)) ≡ accepted (got u d)
-      → (u.imports ≡ t.imports) × (u.exports ≡ t.exports) × (u.names ≡ t.names)
-  by true q =
-      let k : t1 ≡ u = cc in
-      (sym (ap (λ (x : Tables). x.imports) k), sym (ap (λ (x : Tables). x.exports) k), sym (ap (λ (x : Tables). x.names) k))
-  by false q = absurd (never q)
-
-held-taken : (z : Sizes) (row : Section) (next : ℕ) (t : Tables) (s i e f : List ℕ) {r : Said (Got Counts)} → Inside i e f z t
-    → ReaderTells counts_of (SectionsLie z.sections s) (add_section z.sections row next t) r
-    → ReaderTells counts_of (Holds (lend s i e f) z) (add_section z.sections row next t) r
-unfolding SectionsLie
-held-taken z row next t s i e f h told =
-    record {
-      answer-is = told.answer-is;
-      holds = λ u d q. let k = add-keeps z.sections row next t u d q in
-          record {
-            sections-are = told.holds u d q;
-            imports-are = h.imports-are ∙ ap (λ (x : List Import). laid z.imports (cells import_cells x)) (sym k.0);
-            exports-are = h.exports-are ∙ ap (λ (x : List Export). laid z.exports (cells export_cells x)) (sym k.1);
-            names-are = h.names-are ∙ ap (λ (x : Names). laid z.names (cells symbol_cells x.symbols)) (sym k.2);
-          };
-    }
+      rw (lt-ltb _ _ f) (tell-got _ next refl (rw (s, c)) (record {
+        sections-are = p ∙ ap (λ (x : List ℕ). put_row x k (section_cells row)) q.sections-are
+            ∙ ap (λ (i : ℕ). put_row (laid z.sections (cells section_cells t.sections)) i (section_cells row)) count
+            ∙ put-row-laid section_cells (width 1) section-wide z.sections t.sections row
+            (room_row z.sections (width 1) (limit 1) (length t.sections) f);
+        imports-are = q.imports-are;
+        exports-are = q.exports-are;
+        names-are = q.names-are;
+      }))
 
 -- ---- a section whose id and payload were read
 module _ (b : List ℕ) (z : Sizes) (t : Tables) (at id a next : ℕ) (p : Part) (one : byte_at b at ≡ accepted (got id a))
     (two : counted_at b a ≡ accepted (got p next)) (payload : List ℕ) (cut : payload ≡ part_bytes b p)
-    (i e f : List ℕ) {r : Said (Got Contents)}
-    (told : ReaderTells contents_of (InsideOf i e f z) (contents_at id payload p.from z t) r) where
-  here : ReaderTells contents_of (InsideOf i e f z) (contents_at id (part_bytes b p) p.from z t) r
+    (l : Lent) {r : Said (Got Contents)} (told : ReaderTells contents_of (Inside l z) (contents_at id payload p.from z t) r) where
+  here : ReaderTells contents_of (Inside l z) (contents_at id (part_bytes b p) p.from z t) r
   here = rw cut at told
 
   pub section-stop : {P : Tables → Type 0} {v : Refusal} (w : Refusal) → r ≡ refused_by w → v ≡ moved_on p.from w
@@ -205,39 +179,27 @@ module _ (b : List ℕ) (z : Sizes) (t : Tables) (at id a next : ℕ) (p : Part)
   unfolding section_at
   section-stop w q m = tell-next _ one (tell-next _ two (tell-moved-stop p.from here _ w q m))
 
-  pub section-got : (s s1 : List ℕ) (u : Contents) (d : ℕ) {y : Said (Got Counts)} → r ≡ accepted (got u d)
-      → s ≡ laid z.sections (cells section_cells t.sections)
-      → ((t1 : Tables) → u.counts ≡ counts_of t1 → s ≡ laid z.sections (cells section_cells t1.sections)
-      → ReaderTells counts_of (SectionsLie z.sections s1) (add_section z.sections
+  pub section-got : (u : Contents) (d : ℕ) {z1 : Sizes} (same : z1 ≡ z) {l1 : Lent} {y : Said (Got Counts)} → r ≡ accepted (got u d)
+      → ((t1 : Tables) → u.counts ≡ counts_of t1 → Holds l z1 t1
+      → ReaderTells counts_of (Holds l1 z1) (add_section z1.sections
       (record { id = id; from = p.from; size = p.len; name = u.name }) next t1) y)
-      → ReaderTells counts_of (Holds (lend s1 i e f) z) (section_at b z at t) y
-  unfolding section_at contents_of InsideOf
-  section-got s s1 u d {y} q h taken =
+      → ReaderTells counts_of (Holds l1 z) (section_at b z at t) y
+  unfolding section_at contents_of Inside
+  section-got u d same q taken =
       tell-next _ one (tell-next _ two (tell-moved-on p.from here _ q (λ w x v k.
-      let keep = contents-keep id (part_bytes b p) p.from z t w d x in
       let n : w.name ≡ u.name = sym (ap (λ (c : Contents). c.name) v) in
-      let g = taken w.tables (ap (λ (c : Contents). c.counts) v)
-      (h ∙ ap (λ (l : List Section). laid z.sections (cells section_cells l)) (sym keep)) in
-      rw n (held-taken z _ next w.tables s1 i e f k g))))
-
--- the parts of what is held
-pub inner : {l : Lent} {z : Sizes} {t : Tables} → Holds l z t → Inside l.imports l.exports l.names z t
-inner h = record { imports-are = h.imports-are; exports-are = h.exports-are; names-are = h.names-are }
+      let g = rw same at taken in
+      rw n (g w.tables (ap (λ (c : Contents). c.counts) v) k))))
 
 pub names_of : (n : Counts) (t : Tables) → n ≡ counts_of t → n.named ≡ named_of t.names
 unfolding counts_of
 names_of n t e = ap (λ (x : Counts). x.named) e
 
-pub listed : {f : List ℕ} (t : Names) {m k : ℕ} → m ≡ k → f ≡ laid m (cells symbol_cells t.symbols) → NamesHeld f k t
+pub listed : {l : Lent} {z : Sizes} {t : Tables} → Holds l z t → NamesHeld l.names z.names t.names
 unfolding NamesHeld
-listed t e h = rw e at h
+listed h = h.names-are
 
 pub ends-passed : (n at next : ℕ) (a : Said (Got Counts)) → at < next → next ≤ n → Ends next a → Passed n at a
 unfolding Ends Passed
 ends-passed n at next (accepted (got v d)) h k e = (omega (arith, e), omega (arith, e))
 ends-passed n at next (refused m p) h k e = tt
-
-pub sizes-same : {a b c d a1 b1 c1 d1 : ℕ} → a1 ≡ a → b1 ≡ b → c1 ≡ c → d1 ≡ d
-    → ◌≡◌ {A = Sizes} (record { sections = a1; imports = b1; exports = c1; names = d1 })
-    (record { sections = a; imports = b; exports = c; names = d })
-sizes-same p q r s = cc

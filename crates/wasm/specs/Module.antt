@@ -179,15 +179,6 @@ pub record ModuleIs (n : ℕ) (z : Sizes) (x : Said Parsed) (l : Lent) (a : Said
 unfoldable pub contents_of : Inner → Contents
 contents_of u = record { name = u.name; counts = counts_of u.tables }
 
--- table 1, of n cells, holds the sections
-unfoldable pub SectionsLie : ℕ → List ℕ → Tables → Type 0
-SectionsLie n table t = table ≡ laid n (cells section_cells t.sections)
-
--- the three tables that contents go into
-pub record Inside (i e f : List ℕ) (z : Sizes) (t : Tables) : Type 0 where
-  pub imports-are : i ≡ laid z.imports (cells import_cells t.imports)
-  pub exports-are : e ≡ laid z.exports (cells export_cells t.exports)
-  pub names-are : f ≡ laid z.names (cells symbol_cells t.names.symbols)
-
-unfoldable pub InsideOf : List ℕ → List ℕ → List ℕ → Sizes → Inner → Type 0
-InsideOf i e f z u = Inside i e f z u.tables
+-- the lent tables hold what a section's contents came to
+unfoldable pub Inside : Lent → Sizes → Inner → Type 0
+Inside l z u = Holds l z u.tables

@@ -1,13 +1,15 @@
 // Sections: an id, a size, a payload that must be whole before it is looked into.
 ghost use Rattle.std.specs.Prelude.{◌≡◌, ◌+◌, ◌≤◌, length};
 ghost use Rattle.refusal.specs.Sizes.{file_limit};
-ghost use Rattle.table.specs.Table.{laid, cells, put_row};
+ghost use Rattle.table.specs.Table.{put_row};
 ghost use Rattle.table.specs.Told.{ReaderTells, Passed, Ends};
 ghost use Rattle.table.specs.Walking.{walk_from};
-ghost use Rattle.wasm.specs.Module.{section_cells, Tables, counts_of, Sizes, lend, sizes, Holds, Inside, InsideOf, SectionsLie};
+ghost use Rattle.wasm.specs.Module.{section_cells, Tables, counts_of, Holds, Inside};
+ghost use Rattle.wasm.specs.Lending.{lent, sizes_of, SameTables};
 ghost use Rattle.wasm.specs.Module.{contents_of, contents_at, add_section, section_at, no_tables};
 ghost use Rattle.wasm.specs.Answers.{said_got};
 
+use crate::LentTables;
 use crate::custom::{Named, read_custom};
 use crate::entry::Got;
 use crate::rows::{read_exports, read_imports};
@@ -45,21 +47,18 @@ fn read_contents(
     payload: &[u8],
     base: usize,
     n: Counts,
-    imports: &mut [usize],
-    exports: &mut [usize],
-    names: &mut [usize],
+    tables: &mut LentTables,
 ) -> Got<Contents>
     requires { base + length payload.now ≤ file_limit }
-    ensures { (z : Sizes) (t : Tables) → z.imports ≡ length imports.old → z.exports ≡ length exports.old
-        → z.names ≡ length names.old → n ≡ counts_of t
-        → Inside imports.old exports.old names.old z t
-        → ReaderTells contents_of (InsideOf imports.new exports.new names.new z)
-        (contents_at id payload.now base z t) (said_got result) }
+    ensures same_tables { SameTables tables.old tables.new }
+    ensures read { (t : Tables) → n ≡ counts_of t → Holds (lent tables.old) (sizes_of tables.old) t
+        → ReaderTells contents_of (Inside (lent tables.new) (sizes_of tables.old))
+        (contents_at id payload.now base (sizes_of tables.old) t) (said_got result) }
 {
     let name = Part { from: 0, len: 0 };
     match id {
         0 => {
-            let (custom, next) = read_custom(payload, base, n.named, names)?;
+            let (custom, next) = read_custom(payload, base, n.named, tables.names)?;
             let counts = Counts {
                 named: custom.inner,
                 ..n
@@ -68,12 +67,12 @@ fn read_contents(
             Ok((Contents { name, counts }, next))
         }
         2 => {
-            let (rows, next) = read_imports(payload, base, imports)?;
+            let (rows, next) = read_imports(payload, base, tables.imports)?;
             let counts = Counts { imports: rows, ..n };
             Ok((Contents { name, counts }, next))
         }
         7 => {
-            let (rows, next) = read_exports(payload, base, exports)?;
+            let (rows, next) = read_exports(payload, base, tables.exports)?;
             let counts = Counts { exports: rows, ..n };
             Ok((Contents { name, counts }, next))
         }
@@ -91,18 +90,19 @@ fn put_section(table: &mut [usize], count: usize, row: Section)
 }
 
 // A section's row is taken after its contents are read.
-fn take_section(table: &mut [usize], n: Counts, row: Section, next: Cursor) -> Got<Counts>
-    ensures { Ends next.at (said_got result) × ((t : Tables) → n ≡ counts_of t
-        → table.old ≡ laid (length table.old) (cells section_cells t.sections)
-        → ReaderTells counts_of (SectionsLie (length table.old) table.new)
-        (add_section (length table.old) row next.at t) (said_got result)) }
+fn take_section(tables: &mut LentTables, n: Counts, row: Section, next: Cursor) -> Got<Counts>
+    ensures same_tables { SameTables tables.old tables.new }
+    ensures ends { Ends next.at (said_got result) }
+    ensures taken { (t : Tables) → n ≡ counts_of t → Holds (lent tables.old) (sizes_of tables.old) t
+        → ReaderTells counts_of (Holds (lent tables.new) (sizes_of tables.old))
+        (add_section (length tables.old.sections.now) row next.at t) (said_got result) }
 {
-    let room = table::capacity(table.len(), SECTION_WIDTH, MAX_SECTIONS);
+    let room = table::capacity(tables.sections.len(), SECTION_WIDTH, MAX_SECTIONS);
     let k = n.sections;
     if k >= room {
         return Err(Refusal::Full(1));
     }
-    put_section(table, k, row);
+    put_section(tables.sections, k, row);
     Ok((
         Counts {
             sections: k + 1,
@@ -113,30 +113,20 @@ fn take_section(table: &mut [usize], n: Counts, row: Section, next: Cursor) -> G
 }
 
 #[tactic(auto, using(crate::proofs::Reading::counted_inside))]
-fn read_section(
-    file: &[u8],
-    c: Cursor,
-    n: Counts,
-    sections: &mut [usize],
-    imports: &mut [usize],
-    exports: &mut [usize],
-    names: &mut [usize],
-) -> Got<Counts>
+fn read_section(file: &[u8], c: Cursor, n: Counts, tables: &mut LentTables) -> Got<Counts>
     requires { length file.now ≤ file_limit }
-    ensures { Passed (length file.now) c.at (said_got result) × ((t : Tables) → n ≡ counts_of t
-        → Holds (lend sections.old imports.old exports.old names.old)
-        (sizes sections.old imports.old exports.old names.old) t
-        → ReaderTells counts_of (Holds (lend sections.new imports.new exports.new names.new)
-        (sizes sections.old imports.old exports.old names.old))
-        (section_at file.now (sizes sections.old imports.old exports.old names.old)
-        c.at t) (said_got result)) }
+    ensures same_tables { SameTables tables.old tables.new }
+    ensures passed { Passed (length file.now) c.at (said_got result) }
+    ensures read { (t : Tables) → n ≡ counts_of t → Holds (lent tables.old) (sizes_of tables.old) t
+        → ReaderTells counts_of (Holds (lent tables.new) (sizes_of tables.old))
+        (section_at file.now (sizes_of tables.old) c.at t) (said_got result) }
 {
     let (id, after_id) = c.u8(file)?;
     let (p, next) = after_id.counted(file)?;
     let from = p.from;
     let size = p.len;
     let end = from + size;
-    match read_contents(id, &file[from..end], from, n, imports, exports, names) {
+    match read_contents(id, &file[from..end], from, n, tables) {
         Ok((inner, _)) => {
             let name = inner.name;
             let row = Section {
@@ -145,30 +135,19 @@ fn read_section(
                 size,
                 name,
             };
-            take_section(sections, inner.counts, row, next)
+            take_section(tables, inner.counts, row, next)
         }
         Err(why) => Err(refusal::moved(from, why)),
     }
 }
 
 // The loop alone: section after section, to the end of the file, into empty tables.
-pub(crate) fn read_sections(
-    file: &[u8],
-    first: Cursor,
-    sections: &mut [usize],
-    imports: &mut [usize],
-    exports: &mut [usize],
-    names: &mut [usize],
-) -> Got<Counts>
+pub(crate) fn read_sections(file: &[u8], first: Cursor, tables: &mut LentTables) -> Got<Counts>
     requires file_len_bound { length file.now ≤ file_limit }
-    requires holds { Holds (lend sections.old imports.old exports.old names.old)
-        (sizes sections.old imports.old exports.old names.old) no_tables }
-    ensures { ReaderTells counts_of (Holds (lend sections.new imports.new exports.new
-        names.new)
-        (sizes sections.old imports.old exports.old names.old))
-        (walk_from (section_at file.now
-        (sizes sections.old imports.old exports.old names.old))
-        file.now first.at no_tables) (said_got result) }
+    requires holds { Holds (lent tables.old) (sizes_of tables.old) no_tables }
+    ensures same_tables { SameTables tables.old tables.new }
+    ensures read { ReaderTells counts_of (Holds (lent tables.new) (sizes_of tables.old))
+        (walk_from (section_at file.now (sizes_of tables.old)) file.now first.at no_tables) (said_got result) }
 {
     let mut c = first;
     let mut n = Counts {
@@ -181,7 +160,7 @@ pub(crate) fn read_sections(
         },
     };
     while c.at < file.len() {
-        let (read, next) = read_section(file, c, n, sections, imports, exports, names)?;
+        let (read, next) = read_section(file, c, n, tables)?;
         n = read;
         c = next;
     }

@@ -30,7 +30,7 @@ pub mod stack {
     pub const STRICT: usize = 311296;
     pub const MODULE: usize = 241664;
     pub const MANIFEST: usize = 77824;
-    pub const COMPARE: usize = 561152;
+    pub const COMPARE: usize = 512000;
 }
 
 as_in_c! {

@@ -1,6 +1,7 @@
 -- `compat::compare_tables` meets its contract. Assumes nothing.
 use native.Mathlib.Omega.{arith}
 use lib.Seq.{length-take-le}
+use Rattle.differences.specs.Compared.{given_of}
 use Rattle.differences.proofs.Tests.{exports-good, imports-good}
 use Rattle.keyed.proofs.Filling.{zeros-length}
 use Rattle.compat.proofs.Listed.{rows_fit, compares-full8, compares-full9, compares-lists}
@@ -18,8 +19,8 @@ list_rows-m-requires-clause-room c =
 pub returns-then-capacity-m : goal.returns-then-capacity-m
 returns-then-capacity-m c =
     let a = c.args in
-    compares-full8 a.baseline.now a.bi.now a.be.now a.candidate.now a.ci.now a.ce.now a.nbi a.nbe a.nci
-    a.nce _ _ c.list_rows-m.ensures (omega (arith, c.capacity.ensures, c.if-capacity-m.true)) c.requires.xd_value.0 c.requires.xd_value.1
+    compares-full8 (given_of a.baseline) (given_of a.candidate) _ _ c.list_rows-m.ensures
+    (omega (arith, c.capacity.ensures, c.if-capacity-m.true)) c.requires.xd_value.0 c.requires.xd_value.1
 
 pub list_rows-n-requires-clause-room : goal.list_rows-n-requires-clause-room
 list_rows-n-requires-clause-room c =
@@ -30,7 +31,7 @@ list_rows-n-requires-clause-room c =
 
 pub returns-then-capacity-n : goal.returns-then-capacity-n
 returns-then-capacity-n c =
-    compares-full9 _ _ _ _ _ _ _ _ _ _ _ _ c.list_rows-m.ensures
+    compares-full9 _ _ _ _ c.list_rows-m.ensures
     (omega (arith, c.capacity.ensures, c.if-capacity-m.false)) c.list_rows-n.ensures
     (omega (arith, c.capacity-2.ensures, c.if-capacity-n.true)) c.requires.xd_value.0 c.requires.xd_value.1
 
@@ -51,7 +52,7 @@ lay_needs-requires c = (
 
 pub returns : goal.returns
 returns c =
-    compares-lists _ _ _ _ _ _ _ _ _ _ _ _ c.list_rows-m.ensures
+    compares-lists _ _ _ _ c.list_rows-m.ensures
     (omega (arith, c.capacity.ensures, c.if-capacity-m.false)) c.list_rows-n.ensures
     (omega (arith, c.capacity-2.ensures, c.if-capacity-n.false)) c.breaks_nothing.ensures
     c.lay_exports.ensures c.lay_needs.ensures

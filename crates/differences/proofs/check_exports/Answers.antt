@@ -1,22 +1,8 @@
 -- `differences::check_exports` meets its contract: a walk over rows. Assumes nothing.
-use Rattle.table.proofs.Testing.{walk-over, walk-starts, walk-stops, walk-goes, walk_ends}
+use Rattle.std.proofs.Common.{rules}
 use Rattle.differences.specs.Compared.{export_fits, exports_tested}
 use Rattle.differences.proofs.check_exports.Goals as goal
 
-pub returns-then-room-n : goal.returns-then-room-n
-unfolding exports_tested
-returns-then-room-n c = walk-over _ _ (export_fits _ _) c.capacity-room.ensures c.if-room-n.true
-
-pub loop-i-init : goal.loop-i-init
-loop-i-init c = walk-starts c.capacity-room.ensures c.if-room-n.false
-
-pub returns-then-not-export_fits : goal.returns-then-not-export_fits
-unfolding exports_tested
-returns-then-not-export_fits c = walk-stops c.loop-i.invariant c.loop-i-test.true c.export_fits.ensures c.if-not-export_fits.true
-
-pub loop-i-preserved : goal.loop-i-preserved
-loop-i-preserved c = walk-goes c.loop-i.invariant c.loop-i-test.true c.export_fits.ensures c.if-not-export_fits.false
-
 pub returns : goal.returns
 unfolding exports_tested
-returns c = walk_ends c.loop-i.invariant c.loop-i-test.false
+returns c = c.check_rows.ensures (export_fits _ _) (λ i r h p. search rules)

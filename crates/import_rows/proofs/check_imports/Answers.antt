@@ -5,4 +5,4 @@ use Rattle.import_rows.proofs.check_imports.Goals as goal
 
 pub returns : goal.returns
 unfolding imports_tested
-returns c = rw (← c.room_in.ensures) (c.check_rows.ensures (import_fits _ _) (λ i r h p. search rules))
+returns c = c.check_rows.ensures (import_fits _ _) (λ i r h p. search rules)

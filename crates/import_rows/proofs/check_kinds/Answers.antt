@@ -5,4 +5,4 @@ use Rattle.import_rows.proofs.check_kinds.Goals as goal
 
 pub returns : goal.returns
 unfolding kinds_tested
-returns c = rw (← c.room_in.ensures) (c.check_rows.ensures (kind_fits _) (λ i r h p. search rules))
+returns c = c.check_rows.ensures (kind_fits _) (λ i r h p. search rules)

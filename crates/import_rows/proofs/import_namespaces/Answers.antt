@@ -21,5 +21,5 @@ unfolding namespaces_of
 returns c =
     let a = c.args in
     listed-as
-    (asked-good a.file.now a.imports.now a.n _ c.if-file-gt-MAX_FILE.false (sym c.check_imports.ensures ∙ ap said_by c.in_default.is))
+    (asked-good a.file.now a.imports.cells.now a.imports.count _ c.if-file-gt-MAX_FILE.false (sym c.check_imports.ensures ∙ ap said_by c.in_default.is))
     (sorts-listed 15 _ _ _ c.ok_or.ensures.value (rw c.by_name-keys.ensures at c.sort.ensures))

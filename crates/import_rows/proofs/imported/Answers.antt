@@ -17,4 +17,4 @@ pub returns : goal.returns
 unfolding imported_of
 returns c =
     follow-goes _ (sym c.check_kinds.ensures ∙ ap said_by c.in_ok-check_kinds.was)
-    (ap accepted (c.count_kind.ensures ∙ count-range c.args.imports.now c.args.kind 0 c.args.n))
+    (ap accepted (c.count_kind.ensures ∙ count-range c.args.imports.cells.now c.args.kind 0 c.args.imports.count))

@@ -15,21 +15,21 @@ overflow_add-n c =
     let short : length c.args.ranks.now < 18446744073709551616 = omega arith in
     omega (arith, short, room-ranks _ _ _ _ c.has_room.ensures c.if-not-has_room.false)
 
-pub try_quick-requires : goal.try_quick-requires
-try_quick-requires c =
+pub try_quick-found-requires : goal.try_quick-found-requires
+try_quick-found-requires c =
     let y = c.if-not-has_room.false in
     (omega arith, room-ranks _ _ _ _ c.has_room.ensures y, room-lost _ _ _ _ c.has_room.ensures y)
 
-pub returns-then-try_quick : goal.returns-then-try_quick
-returns-then-try_quick c =
+pub returns-then-found : goal.returns-then-found
+returns-then-found c =
     let a = c.args in
     let y = c.if-not-has_room.false in
     whole-quick a.first.now a.second.now a.keys.now _ a.nb (a.nb + a.nc) a.every
-    (c.try_quick.ensures.done c.if-try_quick.true) (omega arith) c.columns.ensures c.sort.ensures
+    (c.try_quick-found.ensures.done c.if-found.true) (omega arith) c.columns.ensures (rw c.by.ensures at c.sort.ensures)
     (room-list _ _ _ _ c.has_room.ensures y) (sym c.has_room.ensures ∙ y)
 
 pub returns : goal.returns
 returns c =
     let a = c.args in
-    whole-slow a.first.now a.second.now a.nb (a.nb + a.nc) a.every (c.try_quick.ensures.kept c.if-try_quick.false)
-    (room_as _ refl c.try_quick.auto.prints c.try_quick.auto.found refl) c.list_by_rank.ensures
+    whole-slow a.first.now a.second.now a.nb (a.nb + a.nc) a.every (c.try_quick-found.ensures.kept c.if-found.false)
+    (room_as _ refl c.try_quick-found.auto.prints c.try_quick-found.auto.found refl) c.list_by_rank.ensures

@@ -1,10 +1,10 @@
 -- `put_line` meets its contract. Assumes nothing.
-use Rattle.output.proofs.ByteLaws.{wrote-put, wrote_then}
+use Rattle.output.proofs.Writing.{added_then}
 use Rattle.policy_text.proofs.put_line.Goals as goal
 
-pub returns : goal.returns
-returns c =
-    wrote_then c.put_stance-a.ensures
-    (wrote_then (wrote-put _ _ _ _ c.put-b.ensures)
-    (wrote_then (wrote-put _ _ _ _ c.put_domain-c.ensures)
-    (wrote_then c.put_list-e.ensures (wrote-put _ _ _ _ c.put.ensures))))
+pub returns-clause-added : goal.returns-clause-added
+returns-clause-added c =
+    added_then c.put_stance.ensures.added
+    (added_then c.put.ensures.added
+    (added_then c.put_domain.ensures.added
+    (added_then c.put_list.ensures.added c.put-2.ensures.added)))

@@ -1,5 +1,5 @@
 -- `put_list` meets its contract. Assumes nothing.
-use Rattle.std.proofs.Common.{◌+◌, ◌≤◌, length, arith}
+use Rattle.std.proofs.Common.{◌+◌, ◌≤◌, length, arith, refl, ◌∙◌}
 use Rattle.policy_text.proofs.WriteLaws.{going-first, going_next, going-last, comma-near, TokenAt, token-at, whole-list}
 use Rattle.policy_text.proofs.put_list.Goals.{After-find, After-trim-t}
 use Rattle.policy_text.proofs.put_list.Goals as goal
@@ -8,7 +8,7 @@ pub loop-i-init : goal.loop-i-init
 loop-i-init c =
     let z = c.args in
     let list = z.list.now in
-    (omega arith, going-first list 0 (length list) z.out.now z.at z.go (omega arith) (omega arith))
+    (omega arith, going-first list 0 (length list) z.out.now (omega arith), refl)
 
 -- the next comma, or the end
 near : (c : After-find) → c.loop-i.i + c.find.result ≤ length c.args.list.now
@@ -48,12 +48,14 @@ loop-i-smaller c = let t = part (goal.at.loop-i-smaller c).After-trim-t in omega
 pub loop-i-preserved : goal.loop-i-preserved
 loop-i-preserved c =
     let t = part (goal.at.loop-i-preserved c).After-trim-t in
-    let f = c.loop-i.i + c.trim-t.result.from in (
+    let f = c.loop-i.i + c.trim-t.result.from in
+    let i = c.loop-i.invariant in (
       omega (arith, t.near),
       rw c.mark-some.ensures
-          (going_next c.find.result f (f + c.trim-t.result.len) _ _ c.loop-i.invariant.1 (omega arith) (omega arith)
-          c.find.ensures t.part c.put_token-n.ensures),
+          (going_next c.find.result f (f + c.trim-t.result.len) i.1 (omega arith) (omega arith)
+          c.find.ensures t.part c.put_token.ensures.added),
+      c.put_token.ensures.same_reference ∙ i.2,
     )
 
-pub returns : goal.returns
-returns c = rw (whole-list c.args.list.now) at (going-last c.loop-i.invariant.1 (omega arith))
+pub returns-clause-added : goal.returns-clause-added
+returns-clause-added c = rw (whole-list c.args.list.now) at (going-last c.loop-i.invariant.1 (omega arith))

@@ -5,4 +5,4 @@ use Rattle.reasons.proofs.check_export_diffs.Goals as goal
 
 pub returns : goal.returns
 unfolding export_diffs_tested
-returns c = rw (← c.capacity-room.ensures) (c.check_rows.ensures (export_diff_fits _ _ _) (λ i r h p. search rules))
+returns c = c.check_rows.ensures (export_diff_fits _ _ _) (λ i r h p. search rules)

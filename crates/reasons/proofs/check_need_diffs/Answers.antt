@@ -5,4 +5,4 @@ use Rattle.reasons.proofs.check_need_diffs.Goals as goal
 
 pub returns : goal.returns
 unfolding need_diffs_tested
-returns c = rw (← c.capacity-room.ensures) (c.check_rows.ensures (need_diff_fits _ _ _) (λ i r h p. search rules))
+returns c = c.check_rows.ensures (need_diff_fits _ _ _) (λ i r h p. search rules)

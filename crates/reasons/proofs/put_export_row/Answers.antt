@@ -1,20 +1,22 @@
 -- `reasons::put_export_row` meets its contract. Assumes nothing.
-use native.Mathlib.Omega.{arith}
-use Rattle.output.proofs.ByteLaws.{wrote_none}
+use Rattle.output.proofs.Writing.{added_none}
 use Rattle.reasons.proofs.Lines.{export-none, export-some, row-kind}
 use Rattle.reasons.proofs.put_export_row.Goals as goal
 
-pub returns-then-cell-ne0 : goal.returns-then-cell-ne0
-returns-then-cell-ne0 c =
+pub returns-then-cell-ne-REMOVED-clause-added : goal.returns-then-cell-ne-REMOVED-clause-added
+returns-then-cell-ne-REMOVED-clause-added c =
     let a = c.args in
-    rw (export-none a.file.now a.exports.now a.xd.now a.i c.cell.ensures c.if-cell-ne0.true)
-    (wrote_none a.out.now a.at a.go (omega arith))
+    rw (export-none a.baseline.file.now a.baseline.exports.cells.now a.xd.now a.i c.cell.ensures c.if-cell-ne-REMOVED.true)
+    (added_none a.out.now)
 
 pub put_export-requires : goal.put_export-requires
-put_export-requires c = row-kind c.args.exports.now c.args.xd.now c.args.i c.requires c.cell.ensures c.if-cell-ne0.false c.cell-2.ensures
-
-pub returns : goal.returns
-returns c =
+put_export-requires c =
     let a = c.args in
-    rw (export-some a.file.now a.exports.now a.xd.now a.i c.cell.ensures c.if-cell-ne0.false c.cell-2.ensures)
-    c.put_export.ensures
+    row-kind a.baseline.exports.cells.now a.xd.now a.i c.requires c.cell.ensures c.if-cell-ne-REMOVED.false c.cell-row.ensures
+
+pub returns-clause-added : goal.returns-clause-added
+returns-clause-added c =
+    let a = c.args in
+    rw (export-some a.baseline.file.now a.baseline.exports.cells.now a.xd.now a.i c.cell.ensures c.if-cell-ne-REMOVED.false
+    c.cell-row.ensures)
+    c.put_export.ensures.added

@@ -1,18 +1,17 @@
 -- `reasons::put_need_row` meets its contract. Assumes nothing.
-use native.Mathlib.Omega.{arith}
-use Rattle.output.proofs.ByteLaws.{wrote_none}
+use Rattle.output.proofs.Writing.{added_none}
 use Rattle.reasons.proofs.Lines.{need-none, need-some}
 use Rattle.reasons.proofs.put_need_row.Goals as goal
 
-pub returns-then-cell-eq0 : goal.returns-then-cell-eq0
-returns-then-cell-eq0 c =
+pub returns-then-cell-eq-REMOVED-clause-added : goal.returns-then-cell-eq-REMOVED-clause-added
+returns-then-cell-eq-REMOVED-clause-added c =
     let a = c.args in
-    rw (need-none a.file.now a.imports.now a.cd.now a.i c.cell.ensures c.if-cell-eq0.true)
-    (wrote_none a.out.now a.at a.go (omega arith))
+    rw (need-none a.candidate.file.now a.candidate.imports.cells.now a.cd.now a.i c.cell.ensures c.if-cell-eq-REMOVED.true)
+    (added_none a.out.now)
 
-pub returns : goal.returns
-returns c =
+pub returns-clause-added : goal.returns-clause-added
+returns-clause-added c =
     let a = c.args in
-    rw (need-some a.file.now a.imports.now a.cd.now a.i c.cell.ensures c.if-cell-eq0.false c.cell-domain.ensures
-    c.cell-2.ensures)
-    c.put_need.ensures
+    rw (need-some a.candidate.file.now a.candidate.imports.cells.now a.cd.now a.i c.cell.ensures c.if-cell-eq-REMOVED.false
+    c.cell-domain.ensures c.cell-row.ensures)
+    c.put_need.ensures.added

@@ -3,7 +3,6 @@ use Rattle.std.specs.Prelude.{Err}
 use mathlib.Core.Path.{◌≡◌}
 use borrow.Author.Rules.{rules}
 use Rattle.output.proofs.ByteLaws.{formed-long}
-use Rattle.reasons.specs.Reasons.{reasons_of}
 use Rattle.reasons.proofs.Fine.{fine, reasons-refused, reasons-formed}
 use Rattle.reasons.proofs.reasons_from.Goals as goal
 
@@ -21,5 +20,4 @@ pub shape_of-out : goal.shape_of-out
 shape_of-out c = formed-long _ _ _ c.write_reasons.ensures
 
 pub returns : goal.returns
-unfolding reasons_of
 returns c = reasons-formed _ _ _ c.check_reasons.ensures _ _ c.in_ok-check_reasons.was c.write_reasons.ensures

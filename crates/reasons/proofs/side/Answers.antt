@@ -2,8 +2,8 @@
 use borrow.Author.Tests.{eq-eqb, ne_eqb}
 use Rattle.reasons.proofs.side.Goals as goal
 
-pub returns-then-change-eq0 : goal.returns-then-change-eq0
-returns-then-change-eq0 c = rw (eq-eqb _ _ c.if-change-eq0.true)
+pub returns-then-change-eq-REMOVED : goal.returns-then-change-eq-REMOVED
+returns-then-change-eq-REMOVED c = rw (eq-eqb _ _ c.if-change-eq-REMOVED.true)
 
-pub returns-else-change-eq0 : goal.returns-else-change-eq0
-returns-else-change-eq0 c = rw (ne_eqb _ _ c.if-change-eq0.false)
+pub returns-else-change-eq-REMOVED : goal.returns-else-change-eq-REMOVED
+returns-else-change-eq-REMOVED c = rw (ne_eqb _ _ c.if-change-eq-REMOVED.false)

@@ -5,4 +5,4 @@ use Rattle.reference_rows.proofs.check_references.Goals as goal
 
 pub returns : goal.returns
 unfolding references_tested
-returns c = rw (← c.capacity-room.ensures) (c.check_rows.ensures (reference_fits _ _ _) (λ i r h p. search rules))
+returns c = c.check_rows.ensures (reference_fits _ _ _) (λ i r h p. search rules)

@@ -5,4 +5,4 @@ use Rattle.reference_rows.proofs.check_worlds.Goals as goal
 
 pub returns : goal.returns
 unfolding worlds_tested
-returns c = rw (← c.capacity-room.ensures) (c.check_rows.ensures (world_fits _ _) (λ i r h p. search rules))
+returns c = c.check_rows.ensures (world_fits _ _) (λ i r h p. search rules)

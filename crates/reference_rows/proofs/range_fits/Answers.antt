@@ -4,4 +4,4 @@ use Rattle.reference_rows.proofs.range_fits.Goals as goal
 
 pub returns : goal.returns
 unfolding range_fits
-returns c = rw (c.fits.ensures, c.cell-start.ensures, c.cell-size.ensures)
+returns c = rw (c.fits.ensures, c.cell-from.ensures, c.cell-len.ensures)

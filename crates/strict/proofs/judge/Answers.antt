@@ -5,5 +5,6 @@ use Rattle.strict.proofs.judge.Goals as goal
 
 pub returns : goal.returns
 returns c =
-    let a = c.args in
-    judged-got a.file.now a.version a.sections.now a.n a.exports.now a.k (sym c.in-Ok.ensures) c.lowest.ensures
+    let m = c.args.m in
+    let l = c.args.tables.now in
+    judged-got c.args.file.now m.version l.sections.now m.sections l.exports.now m.exports (sym c.in-Ok.ensures) c.lowest.ensures

@@ -6,7 +6,7 @@ use Rattle.strict.proofs.test_in.Goals as goal
 
 pub returns-in_err-read_strict : goal.returns-in_err-read_strict
 returns-in_err-read_strict g c =
-    tested-bad _ _ _ _ _ c.in_err-read_strict.ensures c.from_residual.ensures.1 ∙ ap (tested_at _) (sized-is _ _ _ _)
+    tested-bad _ _ _ _ _ c.in_err-read_strict.ensures.read c.from_residual.ensures.1 ∙ ap (tested_at _) (sized-is _ _ _ _)
 
 pub returns : goal.returns
-returns g c = tested-good _ _ _ _ c.in_ok-read_strict.ensures ∙ ap (tested_at _) (sized-is _ _ _ _)
+returns g c = tested-good _ _ _ _ c.in_ok-read_strict.ensures.read ∙ ap (tested_at _) (sized-is _ _ _ _)

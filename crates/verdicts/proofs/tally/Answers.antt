@@ -6,8 +6,8 @@ use Rattle.verdicts.proofs.tally.Goals as goal
 pub loop-i-init : goal.loop-i-init
 loop-i-init g c = (counts-none (map g.R.Asking.number c.args.rows.now), omega arith)
 
-pub returns-then-d-gt6 : goal.returns-then-d-gt6
-returns-then-d-gt6 g c =
+pub returns-then-d-gt-LAST_DOMAIN : goal.returns-then-d-gt-LAST_DOMAIN
+returns-then-d-gt-LAST_DOMAIN g c =
     tally-bad g.R.Asking.number c.args.rows.now c.loop-i.i c.loop-i-test.true c.index-rows-i.is c.domain-d.ensures
     (omega arith) c.loop-i.invariant.1
 

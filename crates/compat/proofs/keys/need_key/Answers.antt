@@ -5,5 +5,5 @@ use Rattle.compat.proofs.keys.need_key.Goals as goal
 
 pub returns : goal.returns
 returns c =
-    need-key-is _ _ _ _ c.cell-from.ensures c.cell-len.ensures c.range-source.ensures.0 c.cell-field_from.ensures
-    c.cell-field_len.ensures c.range-field.ensures.0 (c.domain_number.ensures ∙ c.classify_import.ensures) c.cell.ensures
+    need-key-is _ _ _ _ c.name-source.ensures.0 c.name-field.ensures.0 c.cell.ensures c.cell-2.ensures
+    (c.domain_number.ensures ∙ c.classify_import.ensures) c.cell-3.ensures

@@ -6,12 +6,18 @@ use Rattle.compat.proofs.Instances.{rows-listed}
 use Rattle.compat.proofs.listing.list_within.Goals as goal
 
 pub fill_keys-requires : goal.fill_keys-requires
-fill_keys-requires g c = (zeros-laid g.row.CELLS, omega (arith, zeros-length g.row.CELLS, c.requires.room.1))
+fill_keys-requires g c = (
+  zeros-laid g.row.CELLS,
+  omega (arith, zeros-length g.row.CELLS, c.requires.room.1, c.row_count-first.ensures, c.row_count-second.ensures),
+)
 
 pub returns : goal.returns
 returns g c =
     let p = c.requires.room in
-    rows-listed c.args.rows _ _ _ _ _ _ _ c.requires.passed.0 c.requires.passed.1 c.fill_keys.ensures c.every.ensures
+    let m = c.row_count-first.ensures in
+    let n = c.row_count-second.ensures in
+    rows-listed c.args.rows _ _ _ m n c.requires.passed.0 c.requires.passed.1 c.fill_keys.ensures c.every.ensures
     c.list_missing-listed.ensures.0
-    (room-yes _ _ _ _ (omega (arith, zeros-length g.row.ROWS, p.0)) (omega (arith, zeros-length g.row.ROWS, p.0)) p.2)
-    p.2 c.unwrap_or.ensures
+    (room-yes _ _ _ _ (omega (arith, m, n, zeros-length g.row.ROWS, p.0)) (omega (arith, m, n, zeros-length g.row.ROWS, p.0))
+    (omega (arith, m, n, p.2)))
+    (omega (arith, m, n, p.2)) c.unwrap_or.ensures

@@ -1,87 +1,10 @@
--- `head_of` meets its contract: a name that fails the first k tests is judged by those after them. Assumes nothing.
-use mathlib.Core.Path.{◌≡◌, sym, ◌∙◌}
-use mathlib.Core.List.{List}
-use Prim.Native.Nat.{ℕ}
-use lib.ListN.{drop}
-use Rattle.domains.specs.Classify.{classed_by, passes, heads}
-use Rattle.domains.proofs.DomainLaws.{picked, passed}
+-- `head_of` meets its contract. Assumes nothing.
+use mathlib.Core.Path.{ap, ◌∙◌}
+use Rattle.domains.specs.Domain.{domain_number}
+use Rattle.domains.specs.Classify.{heads}
+use Rattle.domains.proofs.Tables.{classed_by_words}
 use Rattle.domains.proofs.classify.head_of.Goals as goal
 
-abbrev Left : ℕ → List ℕ → Type 0
-Left k s = classed_by heads s ≡ classed_by (drop k heads) s
-
-pub returns-then-equal : goal.returns-then-equal
-unfolding classed_by passes heads
-returns-then-equal c = picked _ _ c.equal.ensures c.if-equal.true
-
-pub returns-then-equal-2 : goal.returns-then-equal-2
-unfolding classed_by passes heads
-returns-then-equal-2 c =
-    let s1 : List ℕ = c.args.s.now in
-    let left1 : Left 1 (s1) = passed _ _ c.equal.ensures c.if-equal.false in
-    picked _ _ c.equal-2.ensures c.if-equal-2.true ∙ sym (left1)
-
-pub returns-then-equal-3 : goal.returns-then-equal-3
-unfolding classed_by passes heads
-returns-then-equal-3 c =
-    let s1 : List ℕ = c.args.s.now in
-    let s2 : List ℕ = s1 in
-    let left1 : Left 1 (s1) = passed _ _ c.equal.ensures c.if-equal.false in
-    let left2 : Left 2 (s2) = left1 ∙ passed _ _ c.equal-2.ensures c.if-equal-2.false in
-    picked _ _ c.equal-3.ensures c.if-equal-3.true ∙ sym (left2)
-
-pub returns-then-equal-4 : goal.returns-then-equal-4
-unfolding classed_by passes heads
-returns-then-equal-4 c =
-    let s1 : List ℕ = c.args.s.now in
-    let s2 : List ℕ = s1 in
-    let s3 : List ℕ = s2 in
-    let left1 : Left 1 (s1) = passed _ _ c.equal.ensures c.if-equal.false in
-    let left2 : Left 2 (s2) = left1 ∙ passed _ _ c.equal-2.ensures c.if-equal-2.false in
-    let left3 : Left 3 (s3) = left2 ∙ passed _ _ c.equal-3.ensures c.if-equal-3.false in
-    picked _ _ c.equal-4.ensures c.if-equal-4.true ∙ sym (left3)
-
-pub returns-then-equal-5 : goal.returns-then-equal-5
-unfolding classed_by passes heads
-returns-then-equal-5 c =
-    let s1 : List ℕ = c.args.s.now in
-    let s2 : List ℕ = s1 in
-    let s3 : List ℕ = s2 in
-    let s4 : List ℕ = s3 in
-    let left1 : Left 1 (s1) = passed _ _ c.equal.ensures c.if-equal.false in
-    let left2 : Left 2 (s2) = left1 ∙ passed _ _ c.equal-2.ensures c.if-equal-2.false in
-    let left3 : Left 3 (s3) = left2 ∙ passed _ _ c.equal-3.ensures c.if-equal-3.false in
-    let left4 : Left 4 (s4) = left3 ∙ passed _ _ c.equal-4.ensures c.if-equal-4.false in
-    picked _ _ c.equal-5.ensures c.if-equal-5.true ∙ sym (left4)
-
-pub returns-then-equal-6 : goal.returns-then-equal-6
-unfolding classed_by passes heads
-returns-then-equal-6 c =
-    let s1 : List ℕ = c.args.s.now in
-    let s2 : List ℕ = s1 in
-    let s3 : List ℕ = s2 in
-    let s4 : List ℕ = s3 in
-    let s5 : List ℕ = s4 in
-    let left1 : Left 1 (s1) = passed _ _ c.equal.ensures c.if-equal.false in
-    let left2 : Left 2 (s2) = left1 ∙ passed _ _ c.equal-2.ensures c.if-equal-2.false in
-    let left3 : Left 3 (s3) = left2 ∙ passed _ _ c.equal-3.ensures c.if-equal-3.false in
-    let left4 : Left 4 (s4) = left3 ∙ passed _ _ c.equal-4.ensures c.if-equal-4.false in
-    let left5 : Left 5 (s5) = left4 ∙ passed _ _ c.equal-5.ensures c.if-equal-5.false in
-    picked _ _ c.equal-6.ensures c.if-equal-6.true ∙ sym (left5)
-
 pub returns : goal.returns
-unfolding classed_by passes heads
-returns c =
-    let s1 : List ℕ = c.args.s.now in
-    let s2 : List ℕ = s1 in
-    let s3 : List ℕ = s2 in
-    let s4 : List ℕ = s3 in
-    let s5 : List ℕ = s4 in
-    let s6 : List ℕ = s5 in
-    let left1 : Left 1 (s1) = passed _ _ c.equal.ensures c.if-equal.false in
-    let left2 : Left 2 (s2) = left1 ∙ passed _ _ c.equal-2.ensures c.if-equal-2.false in
-    let left3 : Left 3 (s3) = left2 ∙ passed _ _ c.equal-3.ensures c.if-equal-3.false in
-    let left4 : Left 4 (s4) = left3 ∙ passed _ _ c.equal-4.ensures c.if-equal-4.false in
-    let left5 : Left 5 (s5) = left4 ∙ passed _ _ c.equal-5.ensures c.if-equal-5.false in
-    let left6 : Left 6 (s6) = left5 ∙ passed _ _ c.equal-6.ensures c.if-equal-6.false in
-    sym (left6)
+unfolding heads
+returns c = ap domain_number c.unwrap_or.ensures ∙ classed_by_words _ _ c.lookup.result c.lookup.ensures

@@ -4,9 +4,6 @@ use Rattle.policy.specs.Eight.{eight, slot_of}
 use Rattle.policy.proofs.EightLaws.{bad-on, bad-here, bad-seven, bad-eight, eight-next, row-here, row-none}
 use Rattle.policy.proofs.ranges.first_bad.Goals as goal
 
-pub loop-i-init : goal.loop-i-init
-loop-i-init c = omega arith
-
 pub returns-then-not-fits : goal.returns-then-not-fits
 returns-then-not-fits c =
     let p = c.args.p in

@@ -4,6 +4,4 @@ use Rattle.requirements.proofs.Asking.{row-domain}
 use Rattle.requirements.proofs.manifest.domain_at.Goals as goal
 
 pub returns : goal.returns
-returns c =
-    c.domain_number.ensures ∙ c.classify_path.ensures
-    ∙ row-domain _ _ _ c.cell.ensures c.cell-2.ensures c.range-path.ensures.0
+returns c = c.domain_number.ensures ∙ c.classify_path.ensures ∙ row-domain _ _ _ c.name-path.ensures.0

@@ -6,5 +6,4 @@ use Rattle.requirements.proofs.module.domain_at.Goals as goal
 pub returns : goal.returns
 returns c =
     c.domain_number.ensures ∙ c.classify_import.ensures
-    ∙ row-domain _ _ _ c.cell.ensures c.cell-2.ensures c.cell-3.ensures c.cell-4.ensures
-    c.range-source.ensures.0 c.range-field.ensures.0
+    ∙ row-domain _ _ _ c.name-source.ensures.0 c.name-field.ensures.0

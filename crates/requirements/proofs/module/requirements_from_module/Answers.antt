@@ -20,7 +20,7 @@ unfolding module_rows
 returns-then-room-found c =
     let a = c.args in
     let good = sym c.check_imports.ensures ∙ ap said_by c.in_default.is in
-    let listed = asked-good a.file.now a.imports.now a.n _ c.if-file-gt-MAX_FILE.false good in
+    let listed = asked-good a.file.now a.imports.cells.now a.imports.count _ c.if-file-gt-MAX_FILE.false good in
     let f = c.list_functions-found.ensures in
     let e = c.refuse-then-room-found.ensures in
     requires-stop (listed ∙ fills-full f (room-is _ _ c.capacity-most.ensures c.capacity-room.ensures) c.if-room-found.true) e.0
@@ -38,4 +38,4 @@ unfolding module_rows
 returns c =
     let a = c.args in
     fills-good c.list_functions-found.ensures (room-is _ _ c.capacity-most.ensures c.capacity-room.ensures) c.if-room-found.false
-    (asked-good a.file.now a.imports.now a.n _ c.if-file-gt-MAX_FILE.false (sym c.check_imports.ensures ∙ ap said_by c.in_default.is))
+    (asked-good a.file.now a.imports.cells.now a.imports.count _ c.if-file-gt-MAX_FILE.false (sym c.check_imports.ensures ∙ ap said_by c.in_default.is))

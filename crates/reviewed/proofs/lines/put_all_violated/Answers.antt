@@ -1,16 +1,17 @@
 -- `lines::put_all_violated` meets its contract. Assumes nothing.
+use mathlib.Core.Path.{refl, ◌∙◌}
 use native.Mathlib.Omega.{arith}
 use Rattle.reasons.proofs.Lines.{lines-first, lines_next, lines-all}
 use Rattle.reviewed.proofs.lines.put_all_violated.Goals as goal
 
 pub loop-d-init : goal.loop-d-init
-loop-d-init c = lines-first _ _ _ _ (omega arith)
+loop-d-init c = (refl, lines-first _ _)
 
 pub loop-d-preserved : goal.loop-d-preserved
-loop-d-preserved c = lines_next _ _ c.loop-d.invariant c.put_violated-m.ensures
+loop-d-preserved c = (
+  c.put_violated.ensures.same_reference ∙ c.loop-d.invariant.0,
+  lines_next _ _ c.loop-d.invariant.1 c.put_violated.ensures.added,
+)
 
-pub shape_of-out : goal.shape_of-out
-shape_of-out c = c.loop-d.invariant.long
-
-pub returns : goal.returns
-returns c = lines-all _ c.loop-d.invariant (omega arith)
+pub returns-clause-added : goal.returns-clause-added
+returns-clause-added c = lines-all _ c.loop-d.invariant.1 (omega arith)

@@ -1,7 +1,10 @@
-use Rattle.output.specs.Bytes.{Wrote}
+use mathlib.Core.Path.{◌≡◌}
+use Rattle.output.specs.Writing.{Added}
 use Rattle.reasons.specs.Reasons.{reason_lines}
 use Rattle.reviewed.specs.Texts.{nth, violated_text}
 use Rattle.reviewed.proofs.lines.put_all_violated.Given as goal
 
 abbrev pub invariant-loop-d : goal.invariant-loop-d
-invariant-loop-d l = Wrote l.initial.out l.at l.go (reason_lines (λ k. violated_text k (nth l.v-items k)) l.d) l.m l.out
+invariant-loop-d l =
+    (l.out.out.ghost_name ≡ l.initial.out.out.ghost_name)
+    × Added l.initial.out (reason_lines (λ k. violated_text k (nth l.v-items k)) l.d) l.out

@@ -1,15 +1,14 @@
 -- `lines::put_compliance` meets its contract. Assumes nothing.
-use Rattle.output.proofs.ByteLaws.{wrote-put, wrote_then}
+use Rattle.output.proofs.Writing.{added_then}
 use Rattle.reviewed.specs.Texts.{compliance_text}
 use Rattle.reviewed.proofs.lines.put_compliance.Goals as goal
 
-pub returns-then-fine : goal.returns-then-fine
+pub returns-then-fine-clause-added : goal.returns-then-fine-clause-added
 unfolding compliance_text
-returns-then-fine c = rw c.if-fine.true (wrote-put _ _ _ _ c.put.ensures)
+returns-then-fine-clause-added c = rw c.if-fine.true c.put.ensures.added
 
-pub returns : goal.returns
+pub returns-else-fine-clause-added : goal.returns-else-fine-clause-added
 unfolding compliance_text
-returns c =
-    rw c.if-fine.false (wrote_then (wrote-put _ _ _ _ c.put-a.ensures)
-    (wrote_then c.put_all_violated-b.ensures
-    (wrote-put _ _ _ _ c.put-2.ensures)))
+returns-else-fine-clause-added c =
+    rw c.if-fine.false (added_then c.put-else-fine.ensures.added
+    (added_then c.put_all_violated.ensures.added c.put-else-fine-2.ensures.added))

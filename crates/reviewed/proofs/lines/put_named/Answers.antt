@@ -1,18 +1,16 @@
 -- `lines::put_named` meets its contract. Assumes nothing.
-use Rattle.output.proofs.ByteLaws.{wrote-put, wrote_then}
+use Rattle.output.proofs.Writing.{added_then}
 use Rattle.reviewed.specs.Texts.{name_text}
 use Rattle.reviewed.proofs.lines.put_named.Goals as goal
 
-pub returns-then-permit : goal.returns-then-permit
+pub returns-then-permit-clause-added : goal.returns-then-permit-clause-added
 unfolding name_text
-returns-then-permit c =
-    rw c.if-permit.true (wrote_then (wrote-put _ _ _ _ c.put-a.ensures)
-    (wrote_then c.put_quoted-b.ensures
-    (wrote-put _ _ _ _ c.put.ensures)))
+returns-then-permit-clause-added c =
+    rw c.if-permit.true
+    (added_then c.put.ensures.added (added_then c.put_quoted.ensures.added c.put-then-permit.ensures.added))
 
-pub returns : goal.returns
+pub returns-else-permit-clause-added : goal.returns-else-permit-clause-added
 unfolding name_text
-returns c =
-    rw c.if-permit.false (wrote_then (wrote-put _ _ _ _ c.put-a.ensures)
-    (wrote_then c.put_quoted-b.ensures
-    (wrote-put _ _ _ _ c.put-2.ensures)))
+returns-else-permit-clause-added c =
+    rw c.if-permit.false
+    (added_then c.put.ensures.added (added_then c.put_quoted.ensures.added c.put-else-permit.ensures.added))

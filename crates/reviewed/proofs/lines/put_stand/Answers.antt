@@ -1,12 +1,11 @@
 -- `lines::put_stand` meets its contract. Assumes nothing.
-use Rattle.output.proofs.ByteLaws.{wrote-put}
 use Rattle.reviewed.specs.Texts.{stand_text}
 use Rattle.reviewed.proofs.lines.put_stand.Goals as goal
 
-pub returns-then-yes : goal.returns-then-yes
+pub returns-then-yes-clause-added : goal.returns-then-yes-clause-added
 unfolding stand_text
-returns-then-yes c = rw c.if-yes.true (wrote-put _ _ _ _ c.put.ensures)
+returns-then-yes-clause-added c = rw c.if-yes.true c.put.ensures.added
 
-pub returns : goal.returns
+pub returns-else-yes-clause-added : goal.returns-else-yes-clause-added
 unfolding stand_text
-returns c = rw c.if-yes.false (wrote-put _ _ _ _ c.put-2.ensures)
+returns-else-yes-clause-added c = rw c.if-yes.false c.put-else-yes.ensures.added

@@ -1,18 +1,18 @@
 -- `lines::put_verdict_of` meets its contract. Assumes nothing.
-use Rattle.output.proofs.ByteLaws.{wrote-put, wrote_then}
+use Rattle.output.proofs.Writing.{added_then}
 use Rattle.reviewed.specs.Texts.{domain_text}
 use Rattle.reviewed.proofs.lines.put_verdict_of.Goals as goal
 
-pub returns : goal.returns
+pub returns-clause-added : goal.returns-clause-added
 unfolding domain_text
-returns c =
-    wrote_then (wrote-put _ _ _ _ c.put-a.ensures)
-    (wrote_then (wrote-put _ _ _ _ c.put_domain-b.ensures)
-    (wrote_then (wrote-put _ _ _ _ c.put-c.ensures)
-    (wrote_then c.put_whether-e.ensures
-    (wrote_then (wrote-put _ _ _ _ c.put-f.ensures)
-    (wrote_then c.put_number-g.ensures
-    (wrote_then (wrote-put _ _ _ _ c.put-h.ensures)
-    (wrote_then c.put_whether-i.ensures
-    (wrote_then c.put_mark-j.ensures
-    (wrote-put _ _ _ _ c.put.ensures)))))))))
+returns-clause-added c =
+    added_then c.put.ensures.added
+    (added_then c.put_domain.ensures.added
+    (added_then c.put-2.ensures.added
+    (added_then c.put_whether.ensures.added
+    (added_then c.put-3.ensures.added
+    (added_then c.put_number.ensures.added
+    (added_then c.put-4.ensures.added
+    (added_then c.put_whether-2.ensures.added
+    (added_then c.put_mark.ensures.added
+    c.put-5.ensures.added))))))))

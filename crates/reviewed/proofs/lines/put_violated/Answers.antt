@@ -1,19 +1,15 @@
 -- `lines::put_violated` meets its contract. Assumes nothing.
 use mathlib.Core.Path.{sym, ◌∙◌}
-use native.Mathlib.Omega.{arith}
-use Rattle.output.proofs.ByteLaws.{wrote-put, wrote_none, wrote_then}
+use Rattle.output.proofs.Writing.{added_none, added_then}
 use Rattle.reviewed.specs.Texts.{violated_text}
 use Rattle.reviewed.proofs.lines.put_violated.Goals as goal
 
-pub returns-then-is_violation : goal.returns-then-is_violation
+pub returns-then-is_violation-clause-added : goal.returns-then-is_violation-clause-added
 unfolding violated_text
-returns-then-is_violation c =
-    rw (sym c.is_violation.ensures ∙ c.if-is_violation.true)
-    (wrote_then (wrote-put _ _ _ _ c.put-a.ensures)
-    (wrote-put _ _ _ _ c.put_domain.ensures))
+returns-then-is_violation-clause-added c =
+    let told = added_then c.put.ensures.added c.put_domain.ensures.added in
+    rw (sym c.is_violation.ensures ∙ c.if-is_violation.true) told
 
-pub returns : goal.returns
+pub returns-else-is_violation-clause-added : goal.returns-else-is_violation-clause-added
 unfolding violated_text
-returns c =
-    let a = c.args in
-    rw (sym c.is_violation.ensures ∙ c.if-is_violation.false) (wrote_none a.out.now a.at a.go (omega arith))
+returns-else-is_violation-clause-added c = rw (sym c.is_violation.ensures ∙ c.if-is_violation.false) (added_none c.args.out.now)

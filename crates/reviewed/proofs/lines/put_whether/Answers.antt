@@ -1,14 +1,13 @@
 -- `lines::put_whether` meets its contract. Assumes nothing.
-use Rattle.output.proofs.ByteLaws.{wrote-put, wrote_then}
+use Rattle.output.proofs.Writing.{added_then}
 use Rattle.reviewed.specs.Texts.{whether}
+use Rattle.reviewed.proofs.lines.put_whether.Goals.{then-not-yes, else-not-yes}
 use Rattle.reviewed.proofs.lines.put_whether.Goals as goal
 
-pub returns-then-yes : goal.returns-then-yes
+pub returns-clause-added : goal.returns-clause-added
 unfolding whether
-returns-then-yes c = rw c.if-yes.true (wrote-put _ _ _ _ c.put.ensures)
-
-pub returns : goal.returns
-unfolding whether
-returns c =
-    rw c.if-yes.false (wrote_then (wrote-put _ _ _ _ c.put-a.ensures)
-    (wrote-put _ _ _ _ c.put-2.ensures))
+returns-clause-added c =
+    elim c.if-not-yes.branch [
+      | then-not-yes w ↦ rw w.if-not-yes.true (added_then w.put.ensures.added (rw w.out-is at c.put-2.ensures.added))
+      | else-not-yes w ↦ rw w.if-not-yes.false (rw w.out-is at c.put-2.ensures.added)
+    ]

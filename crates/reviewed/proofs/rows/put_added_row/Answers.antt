@@ -1,18 +1,18 @@
 -- `rows::put_added_row` meets its contract. Assumes nothing.
-use native.Mathlib.Omega.{arith}
-use Rattle.output.proofs.ByteLaws.{wrote_none}
-use Rattle.reviewed.proofs.Telling.{wrote-same, added_none, added-some}
+use Rattle.output.proofs.Writing.{added_none}
+use Rattle.reviewed.proofs.Telling.{added-same, no-added, added-some}
 use Rattle.reviewed.proofs.rows.put_added_row.Goals as goal
 
-pub returns-then-cell-eq0 : goal.returns-then-cell-eq0
-returns-then-cell-eq0 c =
+pub returns-then-cell-eq-REMOVED-clause-added : goal.returns-then-cell-eq-REMOVED-clause-added
+returns-then-cell-eq-REMOVED-clause-added c =
     let a = c.args in
-    wrote-same (added_none a.file.now a.imports.now a.cd.now a.i c.cell.ensures c.if-cell-eq0.true)
-    (wrote_none a.out.now a.at a.go (omega arith))
+    added-same (no-added a.candidate.file.now a.candidate.imports.cells.now a.cd.now a.i c.cell.ensures c.if-cell-eq-REMOVED.true)
+    (added_none a.out.now)
 
-pub returns : goal.returns
-returns c =
+pub returns-clause-added : goal.returns-clause-added
+returns-clause-added c =
     let a = c.args in
-    wrote-same
-    (added-some a.file.now a.imports.now a.cd.now a.i c.cell.ensures c.if-cell-eq0.false c.cell-domain.ensures c.cell-row.ensures)
-    c.put_added.ensures
+    added-same
+    (added-some a.candidate.file.now a.candidate.imports.cells.now a.cd.now a.i c.cell.ensures c.if-cell-eq-REMOVED.false
+    c.cell-domain.ensures c.cell-row.ensures)
+    c.put_added.ensures.added

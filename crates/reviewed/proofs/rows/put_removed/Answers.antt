@@ -1,20 +1,21 @@
 -- `rows::put_removed` meets its contract. Assumes nothing.
 use mathlib.Core.Path.{◌≡◌}
 use Rattle.table.specs.Shape.{width}
-use Rattle.output.proofs.ByteLaws.{wrote-put, wrote_then}
+use Rattle.output.proofs.Writing.{added_then}
 use Rattle.reviewed.specs.Texts.{removed_text}
 use Rattle.differences.specs.View.{export_key_at}
 use Rattle.sorting.specs.Keys.{row_name}
 use Rattle.reviewed.proofs.rows.put_removed.Goals as goal
 
-pub returns : goal.returns
+pub returns-clause-added : goal.returns-clause-added
 unfolding removed_text export_key_at
-returns c =
+returns-clause-added c =
     let a = c.args in
-    let name : c.range.result.now ≡ row_name a.file.now a.exports.now (width 3) 0 1 a.i =
-    rw (← c.cell-from.ensures, ← c.cell-len.ensures) c.range.ensures.0 in
+    let name : c.name-name.result.now ≡ row_name a.baseline.file.now a.baseline.exports.cells.now (width 3) 0 1 a.i =
+    c.name-name.ensures.0 in
     rw (← name, ← c.cell-kind.ensures)
-    (wrote_then (wrote-put _ _ _ _ c.put-a.ensures)
-    (wrote_then c.put_quoted-b.ensures
-    (wrote_then (wrote-put _ _ _ _ c.put-c.ensures)
-    (wrote_then c.put_kind-d.ensures (wrote-put _ _ _ _ c.put.ensures)))))
+    (added_then c.put.ensures.added
+    (added_then c.put_quoted.ensures.added
+    (added_then c.put-2.ensures.added
+    (added_then c.put_kind.ensures.added
+    c.put-3.ensures.added))))

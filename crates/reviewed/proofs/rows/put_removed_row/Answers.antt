@@ -1,17 +1,17 @@
 -- `rows::put_removed_row` meets its contract. Assumes nothing.
-use native.Mathlib.Omega.{arith}
-use Rattle.output.proofs.ByteLaws.{wrote_none}
-use Rattle.reviewed.proofs.Telling.{wrote-same, removed-none, removed-some}
+use Rattle.output.proofs.Writing.{added_none}
+use Rattle.reviewed.proofs.Telling.{added-same, removed-none, removed-some}
 use Rattle.reviewed.proofs.rows.put_removed_row.Goals as goal
 
-pub returns-then-cell-ne0 : goal.returns-then-cell-ne0
-returns-then-cell-ne0 c =
+pub returns-then-cell-ne-REMOVED-clause-added : goal.returns-then-cell-ne-REMOVED-clause-added
+returns-then-cell-ne-REMOVED-clause-added c =
     let a = c.args in
-    wrote-same (removed-none a.file.now a.exports.now a.xd.now a.i c.cell.ensures c.if-cell-ne0.true)
-    (wrote_none a.out.now a.at a.go (omega arith))
+    added-same (removed-none a.baseline.file.now a.baseline.exports.cells.now a.xd.now a.i c.cell.ensures c.if-cell-ne-REMOVED.true)
+    (added_none a.out.now)
 
-pub returns : goal.returns
-returns c =
+pub returns-clause-added : goal.returns-clause-added
+returns-clause-added c =
     let a = c.args in
-    wrote-same (removed-some a.file.now a.exports.now a.xd.now a.i c.cell.ensures c.if-cell-ne0.false c.cell-row.ensures)
-    c.put_removed.ensures
+    added-same
+    (removed-some a.baseline.file.now a.baseline.exports.cells.now a.xd.now a.i c.cell.ensures c.if-cell-ne-REMOVED.false c.cell-row.ensures)
+    c.put_removed.ensures.added

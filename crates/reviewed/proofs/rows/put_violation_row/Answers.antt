@@ -1,40 +1,33 @@
 -- `rows::put_violation_row` meets its contract. Assumes nothing.
-use mathlib.Core.Path.{◌≡◌, ◌∙◌}
-use native.Mathlib.Omega.{arith}
-use Rattle.table.specs.Shape.{width}
-use Rattle.output.proofs.ByteLaws.{wrote_none}
-use Rattle.reviewed.proofs.Telling.{wrote-same, no-function, no-violation, a-violation}
-use Rattle.sorting.specs.Keys.{row_name}
+use mathlib.Core.Path.{◌∙◌}
+use Rattle.output.proofs.Writing.{added_none}
+use Rattle.reviewed.proofs.Telling.{added-same, no-function, no-violation, a-violation}
 use Rattle.reviewed.proofs.rows.put_violation_row.Goals as goal
 
-pub returns-then-cell-ne0 : goal.returns-then-cell-ne0
-returns-then-cell-ne0 c =
+pub returns-then-cell-ne-FUNC-clause-added : goal.returns-then-cell-ne-FUNC-clause-added
+returns-then-cell-ne-FUNC-clause-added c =
     let a = c.args in
-    wrote-same (no-function a.file.now a.imports.now a.verdicts a.i c.cell.ensures c.if-cell-ne0.true)
-    (wrote_none a.out.now a.at a.go (omega arith))
+    added-same (no-function a.candidate.file.now a.candidate.imports.cells.now a.verdicts a.i c.cell.ensures c.if-cell-ne-FUNC.true)
+    (added_none a.out.now)
 
-pub returns-then-not-violated : goal.returns-then-not-violated
-returns-then-not-violated c =
+pub returns-then-not-violated-clause-added : goal.returns-then-not-violated-clause-added
+returns-then-not-violated-clause-added c =
     let a = c.args in
-    let s : c.range-source.result.now ≡ row_name a.file.now a.imports.now (width 2) 0 1 a.i =
-    rw (← c.cell-2.ensures, ← c.cell-3.ensures) c.range-source.ensures.0 in
-    let f : c.range-field.result.now ≡ row_name a.file.now a.imports.now (width 2) 2 3 a.i =
-    rw (← c.cell-4.ensures, ← c.cell-5.ensures) c.range-field.ensures.0 in
+    let s = c.name-source.ensures.0 in
+    let f = c.name-field.ensures.0 in
     let d = rw (s, f) at c.classify_import-domain.ensures in
-    wrote-same
-    (no-violation a.file.now a.imports.now a.verdicts a.i c.cell.ensures c.if-cell-ne0.false s f d c.violated.ensures
-    c.if-not-violated.true)
-    (wrote_none a.out.now a.at a.go (omega arith))
+    added-same
+    (no-violation a.candidate.file.now a.candidate.imports.cells.now a.verdicts a.i c.cell.ensures c.if-cell-ne-FUNC.false s f d
+    c.violated.ensures c.if-not-violated.true)
+    (added_none a.out.now)
 
-pub returns : goal.returns
-returns c =
+pub returns-clause-added : goal.returns-clause-added
+returns-clause-added c =
     let a = c.args in
-    let s : c.range-source.result.now ≡ row_name a.file.now a.imports.now (width 2) 0 1 a.i =
-    rw (← c.cell-2.ensures, ← c.cell-3.ensures) c.range-source.ensures.0 in
-    let f : c.range-field.result.now ≡ row_name a.file.now a.imports.now (width 2) 2 3 a.i =
-    rw (← c.cell-4.ensures, ← c.cell-5.ensures) c.range-field.ensures.0 in
+    let s = c.name-source.ensures.0 in
+    let f = c.name-field.ensures.0 in
     let d = rw (s, f) at c.classify_import-domain.ensures in
-    wrote-same
-    (a-violation a.file.now a.imports.now a.verdicts a.i c.cell.ensures c.if-cell-ne0.false s f (c.domain_number.ensures ∙ d)
-    (rw c.domain_number.ensures c.violated.ensures) c.if-not-violated.false)
-    c.put_violation.ensures
+    added-same
+    (a-violation a.candidate.file.now a.candidate.imports.cells.now a.verdicts a.i c.cell.ensures c.if-cell-ne-FUNC.false s f
+    (c.domain_number.ensures ∙ d) (rw c.domain_number.ensures c.violated.ensures) c.if-not-violated.false)
+    c.put_violation.ensures.added

@@ -1,16 +1,17 @@
 -- `rows::put_violations` meets its contract. Assumes nothing.
+use mathlib.Core.Path.{refl, ◌∙◌}
 use native.Mathlib.Omega.{arith}
 use Rattle.reasons.proofs.Lines.{lines-first, lines_next, lines-all}
 use Rattle.reviewed.proofs.rows.put_violations.Goals as goal
 
 pub loop-i-init : goal.loop-i-init
-loop-i-init c = lines-first _ _ _ _ (omega arith)
+loop-i-init c = (refl, lines-first _ _)
 
 pub loop-i-preserved : goal.loop-i-preserved
-loop-i-preserved c = lines_next _ _ c.loop-i.invariant c.put_violation_row-m.ensures
+loop-i-preserved c = (
+  c.put_violation_row.ensures.same_reference ∙ c.loop-i.invariant.0,
+  lines_next _ _ c.loop-i.invariant.1 c.put_violation_row.ensures.added,
+)
 
-pub shape_of-out : goal.shape_of-out
-shape_of-out c = c.loop-i.invariant.long
-
-pub returns : goal.returns
-returns c = lines-all _ c.loop-i.invariant (omega arith)
+pub returns-clause-added : goal.returns-clause-added
+returns-clause-added c = lines-all _ c.loop-i.invariant.1 (omega arith)

@@ -4,4 +4,4 @@ use Rattle.strict.proofs.Differing.{differ-sorted}
 use Rattle.strict.proofs.rules.sorted_differ.Goals as goal
 
 pub returns : goal.returns
-returns c = c.eq.ensures ∙ differ-sorted _ _ _ _ _ _ refl c.requires (rw c.by_name-by_name.ensures at c.sort-left.ensures)
+returns c = c.eq.ensures ∙ differ-sorted _ _ _ _ _ _ refl c.requires (rw c.by_name.ensures at c.sort-left.ensures)
