@@ -164,9 +164,8 @@ uint32_t viscrombal_interface(void);
  * depends on the file: viscrombal_module needs some 2 KB for eight sections, some 4 KB for sixteen, and all that is stated for seventeen.
  * On a smaller stack it ends in the guard page, by a signal, and overwrites nothing: large frames are touched page by page. Each number is
  * the deepest chain of frames of the proved archive, which the worst files are measured to reach, with 512 bytes for the caller, rounded up
- * to pages of 4,096 bytes (include/stack). memcpy, memmove and memset of the C library are called besides: a program that binds them at
- * their first call, and not when it starts (-z now), needs what that takes, some KB, on top. NUMBER is for the interface's number, numbers
- * and names. */
+ * to pages of 4,096 bytes (include/stack). memcpy and memset of the C library are called besides: a program that binds them at their first
+ * call, and not when it starts (-z now), needs what that takes, some KB, on top. NUMBER is for the interface's number, numbers and names. */
 #define VISCROMBAL_STACK_NUMBER 4096
 #define VISCROMBAL_STACK_POLICY 4096
 #define VISCROMBAL_STACK_TOKEN 4096

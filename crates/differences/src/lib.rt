@@ -76,9 +76,8 @@ fn export_fits(length: usize, exports: &[usize], i: usize) -> bool
 pub fn check_exports(length: usize, exports: GivenTable) -> Result<(), Refusal>
     ensures { said_by result ≡ exports_tested length exports.entry.cells.now exports.entry.count }
 {
-    exports.check_rows(EXPORT_WIDTH, MAX_EXPORTS, |i| {
-        export_fits(length, exports.cells, i)
-    })
+    exports.check_count(EXPORT_WIDTH, MAX_EXPORTS)?;
+    table::refuse_row((0..exports.count).position(|i| !export_fits(length, exports.cells, i)))
 }
 
 // 15 for tables 2 and 3 of a build.

@@ -92,18 +92,16 @@ fn import_fits(length: usize, imports: &[usize], i: usize) -> bool
 pub fn check_imports(length: usize, imports: GivenTable) -> Result<(), Refusal>
     ensures { said_by result ≡ imports_tested length imports.entry.cells.now imports.entry.count }
 {
-    imports.check_rows(
-        IMPORT_WIDTH,
-        MAX_IMPORTS,
-        |i| import_fits(length, imports.cells, i),
-    )
+    imports.check_count(IMPORT_WIDTH, MAX_IMPORTS)?;
+    table::refuse_row((0..imports.count).position(|i| !import_fits(length, imports.cells, i)))
 }
 
 // Table 2, handed in without a file: each row's kind and descriptor.
 fn check_kinds(imports: GivenTable) -> Result<(), Refusal>
     ensures { said_by result ≡ kinds_tested imports.entry.cells.now imports.entry.count }
 {
-    imports.check_rows(IMPORT_WIDTH, MAX_IMPORTS, |i| kind_fits(imports.cells, i))
+    imports.check_count(IMPORT_WIDTH, MAX_IMPORTS)?;
+    table::refuse_row((0..imports.count).position(|i| !kind_fits(imports.cells, i)))
 }
 
 fn count_kind(imports: GivenTable, kind: usize) -> usize

@@ -3,14 +3,14 @@ use Prim.Native.Nat.{ℕ}
 use native.Mathlib.Omega.{arith}
 use mathlib.Core.Path.{◌≡◌, refl, sym, ap, ◌∙◌, subst}
 use mathlib.Core.List.{List}
-use lib.ListN.{length}
+use lib.ListN.{length, replicate, length-replicate}
 use Rattle.refusal.specs.Said.{Said, accepted, refused_by, number_of, where_of}
 use Rattle.refusal.specs.declared.Refusal.{Refusal}
 use Rattle.refusal.specs.contracts.Refusal.{the_type as refusals}
 use denote.Enum.Declared.{tag_of}
 use Rattle.refusal.proofs.Known.{full-tagged}
 use Rattle.table.specs.Shape.{full_cells}
-use Rattle.wasm.specs.Module.{Sizes, Parsed, module_at, Lent, ModuleIs}
+use Rattle.wasm.specs.Module.{Sizes, Parsed, module_at, Lent, ModuleIs, sizes}
 use Rattle.wasm.specs.Lending.{lent, SameTables}
 use Rattle.wasm.specs.declared.LentTables.{LentTables}
 use Rattle.wasm.specs.declared.Module.{Module}
@@ -21,7 +21,7 @@ use Rattle.conform.proofs.Larger.{limits-largest, limits-decide, refused-same}
 use Rattle.output.specs.Bytes.{room_for}
 use Rattle.listed.specs.declared.modules.ModuleTold.{ModuleTold}
 use Rattle.listed.specs.Delivered.{Lays, Delivers}
-use Rattle.listed.specs.Modules.{no_module, module_by, module_bytes, module_told, taken_bytes, TablesWithin, ModuleCounted}
+use Rattle.listed.specs.Modules.{no_module, module_by, module_bytes, module_told, sized, taken_bytes, TablesWithin, ModuleCounted}
 use Rattle.listed.specs.Comparisons.{RowsRead}
 use Rattle.listed.proofs.Laying.{delivers, delivers-none}
 
@@ -76,3 +76,10 @@ pub refusal-settled : (file : List ℕ) (z : Sizes) (w : Refusal) {d : List ℕ}
 refusal-settled file z w e other k =
     delivers-none module_bytes (module_told (length file))
     (refused-same file z limits (number_of w) (where_of w) (limits-largest z) (λ n. other (full-tagged w n)) e) k
+
+-- what is said with tables of zeros is said with tables of so many cells
+pub read-in : (file : List ℕ) (s i e n : ℕ) {a : Said Parsed}
+    → module_at file (sizes (replicate s 0) (replicate i 0) (replicate e 0) (replicate n 0)) ≡ a → module_at file (sized s i e n) ≡ a
+read-in file s i e n h = ap (module_at file) (sym same_sizes) ∙ h where
+  same_sizes : sizes (replicate s 0) (replicate i 0) (replicate e 0) (replicate n 0) ≡ sized s i e n
+  same_sizes = simp length-replicate refl

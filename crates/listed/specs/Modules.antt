@@ -1,12 +1,12 @@
 -- docs/RULES.md, "The module": a module's file, told in a struct of numbers, and its rows as bytes. Assumes nothing.
 use Rattle.std.specs.Prelude.{ℕ, ◌*◌, ◌≤◌, ◌≡◌, false, Option, Some, None, is_some, List, ◌++◌, length, take}
 use Rattle.std.specs.Option.{unwrap_or}
-use Rattle.refusal.specs.Said.{Said, accepted, refused, Place, number_at, beside_at}
+use Rattle.refusal.specs.Said.{Said, accepted, refused, Place, spot, number_at, beside_at}
 use Rattle.table.specs.Table.{cells}
 use Rattle.table.specs.Shape.{width, full_cells}
 use Rattle.output.specs.Cells.{cell_bytes}
 use Rattle.wasm.specs.Rows.{import_cells, export_cells, symbol_cells}
-use Rattle.wasm.specs.Module.{Parsed, module_at, module_of, section_cells, Lent}
+use Rattle.wasm.specs.Module.{Sizes, Parsed, module_at, module_of, section_cells, Lent}
 use Rattle.wasm.specs.declared.Module.{Module}
 use Rattle.conform.specs.Sound.{limits}
 use Rattle.listed.specs.Delivered.{no_part, Delivers}
@@ -90,7 +90,11 @@ taken_bytes m l =
     ++ take (m.exports * width 3) l.exports
     ++ take (m.symbols * width 4) l.names)
 
--- a file that was read with some tables: it is told as with tables at the limits; or a table was full, and the buffer is as it was
-abbrev pub Tried : List ℕ → List ℕ → Option ModuleTold → List ℕ → Type 0
-Tried file d (Some r) y = Delivers module_bytes (module_told (length file)) (module_at file limits) d r y
-Tried file d None y = y ≡ d
+-- tables of so many cells
+abbrev pub sized : ℕ → ℕ → ℕ → ℕ → Sizes
+sized s i e n = record { sections = s; imports = i; exports = e; names = n }
+
+-- a file that was read with tables of such sizes: it is told as with tables at the limits; or the buffer is as it was, and a table was full
+abbrev pub Tried : Sizes → List ℕ → List ℕ → Option ModuleTold → List ℕ → Type 0
+Tried z file d (Some r) y = Delivers module_bytes (module_told (length file)) (module_at file limits) d r y
+Tried z file d None y = (y ≡ d) × (k : ℕ) × (module_at file z ≡ refused 13 (spot k))

@@ -7,7 +7,7 @@ ghost use Rattle.wasm.specs.Lending.{lent};
 ghost use Rattle.conform.specs.Sound.{limits};
 ghost use Rattle.output.specs.Bytes.{room_for};
 ghost use Rattle.listed.specs.Delivered.{Lays, Delivers};
-ghost use Rattle.listed.specs.Modules.{no_module, module_by, module_bytes, module_told, Tried, ModuleCounted, taken_bytes};
+ghost use Rattle.listed.specs.Modules.{no_module, module_by, module_bytes, module_told, sized, Tried, ModuleCounted, taken_bytes};
 
 use crate::lists::lay_four;
 use refusal::{Part, Refusal};
@@ -117,7 +117,7 @@ fn list_in<const S: usize, const I: usize, const E: usize, const N: usize>(
     out: &mut [u8],
 ) -> Option<ModuleTold>
     requires { (S ≤ full_cells 1) × (I ≤ full_cells 2) × (E ≤ full_cells 3) × (N ≤ full_cells 4) }
-    ensures { Tried file.now out.old result out.new }
+    ensures { Tried (sized S I E N) file.now out.old result out.new }
 {
     let mut tables = LentTables {
         sections: &mut [0; S],

@@ -3,15 +3,13 @@ use Rattle.std.specs.Prelude.{Result, Ok, Err}
 use mathlib.Core.Path.{◌≡◌, refl, sym, ap, ◌∙◌}
 use mathlib.Core.Bool.{Bool, true, false}
 use mathlib.Core.List.{List, [], ◌++◌, append-nil, append_assoc}
-use Prim.Native.Nat.{ℕ, ◌+◌, ◌-◌, ◌≤◌, ◌<◌}
+use Prim.Native.Nat.{ℕ, ◌+◌, ◌≤◌, ◌<◌}
 use native.Mathlib.Omega.{arith}
 use native.Mathlib.Nat.{add-zero, zero-add}
 use lib.ListN.{length, take, drop, length-append, length-drop, take-append-drop}
-use lib.Seq.{length-take-le, take-length, take_at, drop_at, drop-drop}
+use lib.Seq.{length-take-le, take-length, take_at, drop_at, drop-drop, paste}
 use lib.Dec.{ltb, leb}
 use borrow.Author.Tests.{ltb-false, leb-true, le-leb, lt-leb, lt-ltb, le-ltb}
-use borrow.Rule.Slice.PartMut.{put_mid}
-use Rattle.std.proofs.lemmas.Slice.{put_mid-paste}
 use Rattle.refusal.specs.Pick.{pick, both}
 use Rattle.refusal.specs.declared.Refusal.{Refusal}
 use Rattle.refusal.specs.Said.{refused, accepted, spot}
@@ -86,13 +84,12 @@ module _ (d : List ℕ) (at : ℕ) (go : Bool) (w : List ℕ) where
   unfolding place_after
   puts-full k m n = record { next-is = omega arith; output-is = put-stays (omega arith) }
 
-  pub puts-all : {r : ℕ} {x : List ℕ} → go ≡ true → r ≤ length d → r < most + 1 → r ≡ at + length w → x ≡ w
-      → Puts d at go w r (put_mid at (r - at) d x)
+  pub puts-all : {r : ℕ} {x : List ℕ} → go ≡ true → r ≤ length d → r < most + 1 → r ≡ at + length w → x ≡ paste d at w (length w)
+      → Puts d at go w r x
   unfolding place_after put_at
-  puts-all {r} e k m n q =
-      let p = put_mid-paste at (r - at) d w w (length w) refl (omega arith) refl in
+  puts-all e k m n p =
       let t = le-leb (at + length w) (length d) (omega arith) in
-      record { next-is = omega arith; output-is = rw q (p ∙ rw (take-length w) (rw (e, t))) }
+      record { next-is = omega arith; output-is = p ∙ rw (take-length w) (rw (e, t)) }
 
   pub puts-long : {r : ℕ} {x : List ℕ} → Puts d at go w r x → length x ≡ length d
   unfolding put_at

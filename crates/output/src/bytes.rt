@@ -13,7 +13,10 @@ pub fn put(out: &mut [u8], at: usize, bytes: &[u8], go: bool) -> usize
         return usize::MAX;
     };
     if go && end <= out.len() {
-        out[at..end].copy_from_slice(bytes);
+        // not `copy_from_slice`: an archive for C would call `memmove` for it
+        for j in 0..bytes.len() {
+            out[at + j] = bytes[j];
+        }
     }
     end
 }

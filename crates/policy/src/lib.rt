@@ -63,23 +63,21 @@ pub fn default_policy() -> Policy
     }
 }
 
-// The policy after what a line says.
-fn obeyed_by(p: Policy, heard: Heard) -> Policy
+// The policy becomes what it is after what a line says.
+fn obey(policy: &mut Policy, heard: Heard)
     requires { Small heard }
-    ensures { result ≡ obeyed heard p }
+    ensures { policy.new ≡ obeyed heard policy.old }
 {
-    let mut v = p;
     match heard {
         Heard::Blank => {}
         Heard::Called(name) => {
-            v.named = true;
-            v.start = name.from;
-            v.size = name.len;
+            policy.named = true;
+            policy.start = name.from;
+            policy.size = name.len;
         }
-        Heard::Preset(allow) => v.permit = allow,
-        Heard::Ruled(d, rule) => v.rules[d] = rule,
+        Heard::Preset(allow) => policy.permit = allow,
+        Heard::Ruled(d, rule) => policy.rules[d] = rule,
     }
-    v
 }
 
 // No `for` over the lines: where one ends is read, and each has its number.
@@ -92,7 +90,7 @@ fn read_lines(s: &[u8]) -> Result<Policy, Refusal>
     while at < s.len() {
         let l = line_at(s, at);
         let heard = reader::heard_at(s, at, l.end, line)?;
-        policy = obeyed_by(policy, heard);
+        obey(&mut policy, heard);
         line += 1;
         at = l.next;
     }

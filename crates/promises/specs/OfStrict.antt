@@ -19,18 +19,22 @@ read-strict-decides κs a x y s t p q = module-known x y (p.1.answer-is ∙ sym 
 pub test-strict-decides : Decides test-strict-kinds.ps test-strict-kinds.r test-strict.Post
 test-strict-decides κs a x y s t p q = result-known x y (p ∙ sym q)
 
--- every cell of the tables
+-- every cell of the tables, and that each is still the slice that was lent
 module _ (κs : Lfts 3) (a : Dens κs read-strict-kinds.ps) (x y : (res_t read-strict-kinds.r κs).Denot)
     (s t : AtExit (ended_of 3 read-strict-kinds.ps read-strict-kinds.r) κs)
     (p : read-strict.Post κs a x s) (q : read-strict.Post κs a y t) where
-  pub strict-sections-left : s.1.0.now.sections.now ≡ t.1.0.now.sections.now
-  strict-sections-left = p.1.tables-are.sections-are ∙ sym q.1.tables-are.sections-are
+  pub strict-sections-left : (s.1.0.now.sections.now ≡ t.1.0.now.sections.now)
+      × (s.1.0.now.sections.ghost_name ≡ t.1.0.now.sections.ghost_name)
+  strict-sections-left = (p.1.tables-are.sections-are ∙ sym q.1.tables-are.sections-are, p.0.sections-same ∙ sym q.0.sections-same)
 
-  pub strict-imports-left : s.1.0.now.imports.now ≡ t.1.0.now.imports.now
-  strict-imports-left = p.1.tables-are.imports-are ∙ sym q.1.tables-are.imports-are
+  pub strict-imports-left : (s.1.0.now.imports.now ≡ t.1.0.now.imports.now)
+      × (s.1.0.now.imports.ghost_name ≡ t.1.0.now.imports.ghost_name)
+  strict-imports-left = (p.1.tables-are.imports-are ∙ sym q.1.tables-are.imports-are, p.0.imports-same ∙ sym q.0.imports-same)
 
-  pub strict-exports-left : s.1.0.now.exports.now ≡ t.1.0.now.exports.now
-  strict-exports-left = p.1.tables-are.exports-are ∙ sym q.1.tables-are.exports-are
+  pub strict-exports-left : (s.1.0.now.exports.now ≡ t.1.0.now.exports.now)
+      × (s.1.0.now.exports.ghost_name ≡ t.1.0.now.exports.ghost_name)
+  strict-exports-left = (p.1.tables-are.exports-are ∙ sym q.1.tables-are.exports-are, p.0.exports-same ∙ sym q.0.exports-same)
 
-  pub strict-names-left : s.1.0.now.names.now ≡ t.1.0.now.names.now
-  strict-names-left = p.1.tables-are.names-are ∙ sym q.1.tables-are.names-are
+  pub strict-names-left : (s.1.0.now.names.now ≡ t.1.0.now.names.now)
+      × (s.1.0.now.names.ghost_name ≡ t.1.0.now.names.ghost_name)
+  strict-names-left = (p.1.tables-are.names-are ∙ sym q.1.tables-are.names-are, p.0.names-same ∙ sym q.0.names-same)

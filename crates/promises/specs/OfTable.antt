@@ -1,12 +1,9 @@
 -- No two answers, and no two final contents of a lent table, satisfy the promise of any function of table. Assumes nothing.
-use Rattle.std.specs.Prelude.{◌≡◌, ◌<◌, ℕ, Bool}
+use Rattle.std.specs.Prelude.{◌≡◌}
 use Rattle.std.proofs.Common.{sym, ◌∙◌}
 use contract.Lifetimes.{Lfts}
 use borrow.Fn.Kinds.{Dens, res_t, ended_of}
 use denote.Triple.Clauses.{AtExit}
-use denote.RattleType.{RattleType}
-use denote.Param.Laws.{Laws}
-use mir.Syntax.{Dict}
 use Rattle.refusal.proofs.Known.{result-known}
 use Rattle.promises.specs.Decides.{Decides}
 use Rattle.table.proofs.clear.Kinds as clear-kinds
@@ -21,15 +18,22 @@ use Rattle.table.proofs.range.Kinds as range-kinds
 use Rattle.table.proofs.range.Reads as range
 use Rattle.table.proofs.name.Kinds as name-kinds
 use Rattle.table.proofs.name.Reads as name
-use Rattle.table.proofs.given.GivenTable.check_rows.Kinds as check-rows-kinds
-use Rattle.table.proofs.given.GivenTable.check_rows.Reads as check-rows
-use Rattle.table.specs.contracts.given.GivenTable.check_rows.F-Fn as check-rows-test
+use Rattle.table.proofs.refuse_row.Kinds as refuse-row-kinds
+use Rattle.table.proofs.refuse_row.Reads as refuse-row
+use Rattle.table.proofs.given.GivenTable.check_count.Kinds as check-count-kinds
+use Rattle.table.proofs.given.GivenTable.check_count.Reads as check-count
 
 pub capacity-decides : Decides capacity-kinds.ps capacity-kinds.r capacity.Post
 capacity-decides κs a x y s t p q = p ∙ sym q
 
 pub cell-decides : Decides cell-kinds.ps cell-kinds.r cell.Post
 cell-decides κs a x y s t p q = p ∙ sym q
+
+pub refuse-row-decides : Decides refuse-row-kinds.ps refuse-row-kinds.r refuse-row.Post
+refuse-row-decides κs a x y s t p q = result-known x y (p ∙ sym q)
+
+pub check-count-decides : Decides check-count-kinds.ps check-count-kinds.r check-count.Post
+check-count-decides κs a x y s t p q = result-known x y (p ∙ sym q)
 
 -- what the part holds, and where it starts
 pub range-decides : (κs : Lfts 1) (a : Dens κs range-kinds.ps) (x y : (res_t range-kinds.r κs).Denot)
@@ -51,11 +55,3 @@ pub put-row-leaves : (κs : Lfts 2) (a : Dens κs put-row-kinds.ps) (x y : (res_
     (s t : AtExit (ended_of 2 put-row-kinds.ps put-row-kinds.r) κs) → put-row.Post κs a x s → put-row.Post κs a y t
     → s.0.now ≡ t.0.now
 put-row-leaves κs a x y s t p q = p ∙ sym q
-
--- over any test that says one thing of each row
-module _ {T : RattleType} (L : Laws T) (F : check-rows-test.Ghosts T) (c c1 c2 c3 : Dict) where
-  pub check-rows-decides : (κs : Lfts 2) (a : Dens κs (check-rows-kinds.ps T L)) (x y : (res_t (check-rows-kinds.r T L) κs).Denot)
-      (s t : AtExit (ended_of 2 (check-rows-kinds.ps T L) (check-rows-kinds.r T L)) κs)
-      (good : ℕ → Bool) → ((i : ℕ) (r : Bool) → i < a.0.count → (check-rows-test.words T F).post a.1.1.1.0 i r → r ≡ good i)
-      → check-rows.Post T L F c c1 c2 c3 κs a x s → check-rows.Post T L F c c1 c2 c3 κs a y t → x ≡ y
-  check-rows-decides κs a x y s t good one p q = result-known x y (p good one ∙ sym (q good one))

@@ -29,6 +29,7 @@ use Rattle.policy.specs.Eight.{slot_of, policy_test}
 use Rattle.policy.specs.View.{says}
 use Rattle.verdicts.specs.Evaluate.{effective_of, violates, bits, members, outcome, outcome_of, no_outcome, domains_test, evaluated}
 use Rattle.verdicts.specs.Evaluate.{Outcome, said_evaluation}
+use Rattle.told.specs.Check.{evaluation_told}
 use Rattle.policy.specs.declared.Policy.{Policy}
 use Rattle.verdicts.proofs.MemberLaws.{ones-bits}
 use Rattle.policy.proofs.read_policy.Kinds as read-policy-kinds
@@ -157,11 +158,23 @@ counted-set ns n p o e = by (domains_test ns n) (ap outcome_of e) where
   by (accepted u) q = rw q (sym (ones-bits (map violates (outcome p (take n ns)).verdicts)))
   by (refused m k) q = rw q (sym (ones-bits []))
 
--- of the verdicts that are answered, and of the zeros that are told on a refusal
+-- of the verdicts that are answered
 pub unlike-set : (κs : Lfts 1) (a : Dens κs evaluate-domains-kinds.ps) (r : (res_t evaluate-domains-kinds.r κs).Denot)
     (s : AtExit (ended_of 1 evaluate-domains-kinds.ps evaluate-domains-kinds.r) κs)
     → ((outcome_of (said_evaluation r)).count ≡ ones (outcome_of (said_evaluation r)).set → ⊥) → evaluate-domains.Post κs a r s → ⊥
 unlike-set κs a r s h p = h (counted-set a.0.now a.1.0 a.1.1.0 (said_evaluation r) p)
+
+-- and of what is told of them, the zeros of a refusal too
+told-set : (o : Said Outcome) → (outcome_of o).count ≡ ones (outcome_of o).set → (evaluation_told o).count ≡ ones (evaluation_told o).set
+unfolding no_outcome
+told-set (accepted o) e = e
+told-set (refused m k) e = e
+
+pub told-unlike-set : (κs : Lfts 1) (a : Dens κs evaluate-domains-kinds.ps) (r : (res_t evaluate-domains-kinds.r κs).Denot)
+    (s : AtExit (ended_of 1 evaluate-domains-kinds.ps evaluate-domains-kinds.r) κs)
+    → ((evaluation_told (said_evaluation r)).count ≡ ones (evaluation_told (said_evaluation r)).set → ⊥)
+    → evaluate-domains.Post κs a r s → ⊥
+told-unlike-set κs a r s h p = h (told-set (said_evaluation r) (counted-set a.0.now a.1.0 a.1.1.0 (said_evaluation r) p))
 
 -- a writer that writes nothing: the bytes it says it wrote are the policy's text, which is never empty
 wrote : (w : List ℕ) (room : ℕ) {v : List ℕ} → room_for w room ≡ accepted v → v ≡ w

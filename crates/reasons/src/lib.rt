@@ -69,18 +69,16 @@ fn need_diff_fits(cd: &[usize], i: usize, nbi: usize, nci: usize) -> bool
 fn check_export_diffs(xd: GivenTable, nbe: usize, nce: usize) -> Result<(), Refusal>
     ensures { said_by result ≡ export_diffs_tested nbe nce xd.entry.cells.now xd.entry.count }
 {
-    xd.check_rows(EXPORT_DIFF_WIDTH, MAX_EXPORT_DIFFS, |i| {
-        export_diff_fits(xd.cells, i, nbe, nce)
-    })
+    xd.check_count(EXPORT_DIFF_WIDTH, MAX_EXPORT_DIFFS)?;
+    table::refuse_row((0..xd.count).position(|i| !export_diff_fits(xd.cells, i, nbe, nce)))
 }
 
 // The same for table 9, and its domains.
 fn check_need_diffs(cd: GivenTable, nbi: usize, nci: usize) -> Result<(), Refusal>
     ensures { said_by result ≡ need_diffs_tested nbi nci cd.entry.cells.now cd.entry.count }
 {
-    cd.check_rows(NEED_DIFF_WIDTH, MAX_NEED_DIFFS, |i| {
-        need_diff_fits(cd.cells, i, nbi, nci)
-    })
+    cd.check_count(NEED_DIFF_WIDTH, MAX_NEED_DIFFS)?;
+    table::refuse_row((0..cd.count).position(|i| !need_diff_fits(cd.cells, i, nbi, nci)))
 }
 
 // 15 for table 8, then for table 9.

@@ -29,11 +29,10 @@ fn range_fits(length: usize, rows: &[usize], width: usize, i: usize, column: usi
 fn check_worlds(length: usize, worlds: GivenTable) -> Result<(), Refusal>
     ensures { said_by result ≡ worlds_tested length worlds.entry.cells.now worlds.entry.count }
 {
-    worlds.check_rows(
-        WORLD_WIDTH,
-        MAX_WORLDS,
-        |i| range_fits(length, worlds.cells, WORLD_WIDTH, i, WORLD_NAME),
-    )
+    worlds.check_count(WORLD_WIDTH, MAX_WORLDS)?;
+    table::refuse_row((0..worlds.count).position(|i| {
+        !range_fits(length, worlds.cells, WORLD_WIDTH, i, WORLD_NAME)
+    }))
 }
 
 // Row i points to one of the worlds, and its path and its signature lie in the text.
@@ -50,11 +49,10 @@ fn reference_fits(length: usize, worlds: usize, references: &[usize], i: usize) 
 fn check_references(length: usize, worlds: usize, references: GivenTable) -> Result<(), Refusal>
     ensures { said_by result ≡ references_tested length worlds references.entry.cells.now references.entry.count }
 {
-    references.check_rows(
-        REFERENCE_WIDTH,
-        MAX_REFERENCES,
-        |i| reference_fits(length, worlds, references.cells, i),
-    )
+    references.check_count(REFERENCE_WIDTH, MAX_REFERENCES)?;
+    table::refuse_row((0..references.count).position(|i| {
+        !reference_fits(length, worlds, references.cells, i)
+    }))
 }
 
 // A manifest that is handed in: its text, and tables 5 and 6.

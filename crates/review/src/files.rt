@@ -1,12 +1,13 @@
 // The files that the arguments name.
-ghost use Rattle.std.specs.Prelude.{◌≤◌, length, IfOk, IfSome};
+ghost use Rattle.std.specs.Prelude.{◌<◌, ◌≤◌, length, take, IfOk, IfSome};
+ghost use Rattle.std.specs.Io.KnownBytes.{Consumes, IsAtEnd};
 
+use super::standard_error::fail;
 use std::env::FillError;
 use std::fs::File;
 use std::io;
+use std::io::Read;
 use std::rt::{Env, Files};
-use streams::input::read_all;
-use streams::standard_error::fail;
 
 // A path that is longer cannot be opened.
 const LONGEST_PATH: usize = 4096;
@@ -81,4 +82,21 @@ fn open_file<R: Files>(rt: &R, path: &[u8]) -> io::Result<R::File> {
         Ok(text) => File::open(rt, text),
         Err(_) => Err(io::Error::from_raw_os_error(ILLEGAL_BYTES)),
     }
+}
+
+// Of a file whose bytes are known, these are the next. A read that fails is no end of the file.
+fn read_all<F: Read>(file: &mut F, buffer: &mut [u8]) -> io::Result<usize>
+    ensures in_bounds { IfOk result (λ n. n ≤ length buffer.new) }
+    ensures bytes { IfOk result (λ n. Consumes (F.remaining file.old) (F.remaining file.new) (take n buffer.new)) }
+    ensures end { IfOk result (λ n. n < length buffer.new → IsAtEnd (F.remaining file.new)) }
+{
+    let mut n = 0;
+    while n < buffer.len() {
+        let more = file.read(&mut buffer[n..])?;
+        if more == 0 {
+            return Ok(n);
+        }
+        n += more;
+    }
+    Ok(n)
 }

@@ -2,6 +2,7 @@
 #![tactic(auto)]
 
 mod files;
+mod standard_error;
 
 ghost use Rattle.std.specs.Prelude.{◌≡◌};
 ghost use Rattle.reviewed.specs.Review.{file_at, review_of, unread_of, or_no_room};
@@ -9,8 +10,8 @@ ghost use Rattle.reviewed.specs.Review.{file_at, review_of, unread_of, or_no_roo
 use files::{argument, argument_count, path_buffer, read_argument};
 use refusal::MAX_TEXT;
 use reviewed::{review_text, unread_text};
+use standard_error::fail;
 use std::rt::{Env, Files};
-use streams::standard_error::fail;
 
 // One byte more than a policy and a build may have, so that 14 is seen; and room for a report.
 const BUFFER: usize = MAX_TEXT + 1;

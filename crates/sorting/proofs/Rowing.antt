@@ -10,20 +10,12 @@ use Rattle.text.specs.Order.{cmp_nat, and_then, cmp_bytes}
 use Rattle.std.specs.declared.cmp.Ordering.{Ordering}
 use Rattle.std.specs.declared.cmp.Ordering.TheVariants.{Less, Equal, Greater}
 use Rattle.std.specs.Prelude.{not}
-use Rattle.std.specs.Ordering.{ordering_then, nat_cmp}
-use Rattle.std.specs.Cmp.Lexicographic.{slice_cmp}
-use Rattle.text.proofs.SliceLaws.{cmp_numbers, then_same, cmp_slices}
 use Rattle.table.specs.Table.{range_of}
 use Rattle.table.proofs.Cells.{cell-beside}
 use Rattle.sorting.specs.Order.{Lawful}
 use Rattle.sorting.specs.Keys.{by_name, row_name, column_at, file_of, name_of, row_order, row_marked, unmarked}
 use Rattle.sorting.specs.declared.Keys.{Keys}
 use Rattle.sorting.proofs.Orders.{lawful-nat, lawful-bytes, lawful-on, lawful_then, lawful-tie, nat-same}
-
-then_assoc : (a b c : Ordering) → and_then (and_then a b) c ≡ and_then a (and_then b c)
-then_assoc Less b c = refl
-then_assoc Equal b c = refl
-then_assoc Greater b c = refl
 
 module _ (first second rows : List ℕ) (k : Keys) where
   -- the bytes of a row, from its three cells
@@ -47,49 +39,17 @@ module _ (first second rows : List ℕ) (k : Keys) where
       turned true = refl
       turned false = refl
 
-  -- the order of two rows by what they are sorted by, part by part
-  pub key-order : (i j : ℕ) {a b c d e f : ℕ} {s t : List ℕ}
-      → a ≡ column_at first second rows k k.major i → s ≡ name_of first second rows k i
-      → c ≡ column_at first second rows k k.minor i → e ≡ pick k.every i 0
+  -- a row against what another is sorted by, part by part
+  pub key-order : (i j : ℕ) {b d f : ℕ} {t : List ℕ}
       → b ≡ column_at first second rows k k.major j → t ≡ name_of first second rows k j
       → d ≡ column_at first second rows k k.minor j → f ≡ pick k.every j 0
-      → ordering_then (ordering_then (ordering_then (nat_cmp a b) (slice_cmp nat_cmp s t)) (nat_cmp c d)) (nat_cmp e f)
+      → and_then (cmp_nat (column_at first second rows k k.major i) b)
+      (and_then (cmp_bytes (name_of first second rows k i) t)
+      (and_then (cmp_nat (column_at first second rows k k.minor i) d) (cmp_nat (pick k.every i 0) f)))
       ≡ row_order first second rows k i j
   unfolding row_order
-  key-order i j {a} {b} {c} {d} {e} {f} {s} {t} pa ps pc pe pb pt pd pf =
-      then_same (ordering_then (ordering_then (nat_cmp a b) (slice_cmp nat_cmp s t)) (nat_cmp c d)) (nat_cmp e f)
-      ∙ rw (
-        then_same (ordering_then (nat_cmp a b) (slice_cmp nat_cmp s t)) (nat_cmp c d),
-        then_same (nat_cmp a b) (slice_cmp nat_cmp s t),
-        cmp_numbers a b,
-        cmp_slices s t,
-        cmp_numbers c d,
-        cmp_numbers e f,
-        pa,
-        ps,
-        pc,
-        pe,
-        pb,
-        pt,
-        pd,
-        pf,
-        last k.every,
-      )
-      (then_assoc (and_then by_major by_bytes) by_minor by_number
-      ∙ then_assoc by_major by_bytes (and_then by_minor by_number))
+  key-order i j pb pt pd pf = rw (pb, pt, pd, pf, last k.every)
     where
-      by_major : Ordering
-      by_major = cmp_nat (column_at first second rows k k.major i) (column_at first second rows k k.major j)
-
-      by_bytes : Ordering
-      by_bytes = cmp_bytes (name_of first second rows k i) (name_of first second rows k j)
-
-      by_minor : Ordering
-      by_minor = cmp_nat (column_at first second rows k k.minor i) (column_at first second rows k k.minor j)
-
-      by_number : Ordering
-      by_number = pick k.every (cmp_nat i j) Equal
-
       last : (q : Bool) → cmp_nat (pick q i 0) (pick q j 0) ≡ pick q (cmp_nat i j) Equal
       last true = refl
       last false = nat-same 0 0 refl

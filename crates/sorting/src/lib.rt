@@ -3,10 +3,13 @@
 
 ghost use Rattle.std.specs.Prelude.{◌≡◌, Bool, ℕ, ◌≤◌, ◌<◌, length, take};
 ghost use Rattle.refusal.specs.Pick.{pick};
+ghost use Rattle.text.specs.Order.{and_then, cmp_nat, cmp_bytes};
 ghost use Rattle.sorting.specs.Sort.{put_in_order, sort, selected, up_from};
 ghost use Rattle.sorting.specs.Keys.{by_name, sorted_rows, other_rows, Sorts};
 ghost use Rattle.sorting.specs.Filling.{order_of, column_of, name_in, marked_in};
 ghost use Rattle.sorting.specs.Filling.{Placed, Ordered, inserted, Inserted};
+
+use std::cmp::Ordering;
 
 // Which rows are sorted, and by which of their cells. A cell that a row does not have is zero, so a column from `width` on leaves the
 // matter out.
@@ -128,7 +131,7 @@ impl<'a> Rows<'a> {
             x (take k sorted.now) result }
     {
         let key = self.key(x);
-        sorted[..k].binary_search_by(|y| self.key(*y).cmp(&key))
+        sorted[..k].binary_search_by(|y| self.compare(*y, key))
     }
 
     // What row i is sorted by, in this order.
@@ -138,13 +141,41 @@ impl<'a> Rows<'a> {
             × (result.2 ≡ column_of self.entry self.entry.keys.minor i)
             × (result.3 ≡ pick self.entry.keys.every i 0) }
     {
-        let number = if self.keys.every { i } else { 0 };
         (
             self.cell(i, self.keys.major),
             self.name(i),
             self.cell(i, self.keys.minor),
-            number,
+            self.among_ties(i),
         )
+    }
+
+    // How row i stands to a row with this key. A part is read where those before it tie.
+    fn compare(self, i: usize, key: (usize, &[u8], usize, usize)) -> Ordering
+        ensures { result ≡ and_then (cmp_nat (column_of self.entry self.entry.keys.major i) key.entry.0)
+            (and_then (cmp_bytes (name_in self.entry i) key.entry.1.now)
+            (and_then (cmp_nat (column_of self.entry self.entry.keys.minor i) key.entry.2)
+            (cmp_nat (pick self.entry.keys.every i 0) key.entry.3))) }
+    {
+        let major = self.cell(i, self.keys.major).cmp(&key.0);
+        if major.is_ne() {
+            return major;
+        }
+        let bytes = text::order::compare(self.name(i), key.1);
+        if bytes.is_ne() {
+            return bytes;
+        }
+        let minor = self.cell(i, self.keys.minor).cmp(&key.2);
+        if minor.is_ne() {
+            return minor;
+        }
+        self.among_ties(i).cmp(&key.3)
+    }
+
+    // By which row i is sorted among rows that tie, where every one is wanted.
+    fn among_ties(self, i: usize) -> usize
+        ensures { result ≡ pick self.entry.keys.every i 0 }
+    {
+        if self.keys.every { i } else { 0 }
     }
 
     // The bytes of row i, a part of the file that it names.

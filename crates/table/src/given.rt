@@ -1,8 +1,8 @@
 // A table that is handed in.
-ghost use Rattle.std.specs.Prelude.{◌≡◌, ◌<◌, ℕ, Bool, length};
+ghost use Rattle.std.specs.Prelude.{◌≡◌, length};
 ghost use Rattle.refusal.specs.Said.{said_by};
 ghost use Rattle.table.specs.Table.{capacity_of};
-ghost use Rattle.table.specs.Testing.{bad, tested};
+ghost use Rattle.table.specs.Testing.{counted};
 
 use refusal::Refusal;
 
@@ -14,25 +14,14 @@ pub struct GivenTable<'a> {
 }
 
 impl<'a> GivenTable<'a> {
-    // 15: the count, where so many rows have no room in the cells or are above `limit`; then the first row that does not fit.
-    pub fn check_rows<F: Fn(usize) -> bool>(
-        self,
-        width: usize,
-        limit: usize,
-        fits: F,
-    ) -> Result<(), Refusal>
-        requires { F.IsAlwaysCallable fits }
-        ensures { (good : ℕ → Bool) → ((i : ℕ) (r : Bool) → i < self.entry.count → F.post fits i r → r ≡ good i)
-            → said_by result ≡ tested (capacity_of (length self.entry.cells.now) width limit) self.entry.count (bad good) }
+    // 15 at the capacity, where so many rows have no room in the cells or are above `limit`.
+    #[tactic(auto, unfolding(crate::specs::Testing::counted))]
+    pub fn check_count(self, width: usize, limit: usize) -> Result<(), Refusal>
+        ensures { said_by result ≡ counted (capacity_of (length self.entry.cells.now) width limit) self.entry.count }
     {
         let room = crate::capacity(self.cells.len(), width, limit);
         if room < self.count {
             return Err(Refusal::BadTable(room));
-        }
-        for i in 0..self.count {
-            if !fits(i) {
-                return Err(Refusal::BadTable(i));
-            }
         }
         Ok(())
     }

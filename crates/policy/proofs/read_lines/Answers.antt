@@ -22,8 +22,8 @@ returns-in_err-heard c =
     let q = sym c.in_err-heard.ensures in
     rw e (turn-stop c.args.s.now c.loop-at.at c.loop-at.line _ _ l.0 l.1 c.loop-at.policy (omega arith) q ∙ sym c.loop-at.invariant.2)
 
-pub obeyed_by-policy-requires : goal.obeyed_by-policy-requires
-obeyed_by-policy-requires c =
+pub obey-requires : goal.obey-requires
+obey-requires c =
     let l = c.line_at-l.ensures in
     turn_small c.args.s.now c.loop-at.at c.loop-at.line _ _ l.0 l.1 (sym c.in_ok-heard.ensures)
 
@@ -36,8 +36,8 @@ loop-at-preserved c =
     let at = c.loop-at.at in
     let l = c.line_at-l.ensures in
     let b = line-bounds s at (omega arith) in
-    let turned = turn_on s at c.loop-at.line _ _ l.0 l.1 c.loop-at.policy c.obeyed_by-policy.result (omega arith)
-    (sym c.in_ok-heard.ensures) c.obeyed_by-policy.ensures in
+    let turned = turn_on s at c.loop-at.line _ _ l.0 l.1 c.loop-at.policy c.obey.new.policy (omega arith)
+    (sym c.in_ok-heard.ensures) c.obey.ensures in
     (omega (arith, l, b), omega (arith, l, b), c.loop-at.invariant.2 ∙ turned)
 
 pub returns : goal.returns

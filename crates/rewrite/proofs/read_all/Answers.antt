@@ -1,7 +1,7 @@
 -- `read_all` meets its contract: what the reader gave stands in the buffer, in its order. Assumes nothing.
 use borrow.Author.Rules.{rules}
-use Rattle.streams.proofs.Filling.{filled}
-use Rattle.streams.proofs.input.read_all.Goals as goal
+use Rattle.rewrite.proofs.Filling.{filled}
+use Rattle.rewrite.proofs.read_all.Goals as goal
 
 pub loop-n-preserved : goal.loop-n-preserved
 loop-n-preserved g c = (

@@ -3,7 +3,7 @@ use std::alloc::{AllocError, Global};
 use std::io;
 
 // A line: what failed, as the caller names it, a colon and the system's words for the error. That a line cannot be written is said nowhere.
-pub fn fail(rt: &(impl Eprint + AllocGlobal), what: &str, error: &io::Error) {
+pub(crate) fn fail(rt: &(impl Eprint + AllocGlobal), what: &str, error: &io::Error) {
     let _ = match words_of(rt.alloc(), error) {
         Ok(words) => eprintln!(rt; "{what}: {words}"),
         Err(_) => eprintln!(rt; "{what}: {error}"),
